@@ -1,0 +1,5 @@
+pub mod PlanData
+pub mod Bag
+pub mod Windows
+pub mod Aggregates
+pub mod Rows

@@ -1,0 +1,56 @@
+-- A plan as contracts see it.
+use Rattle.std.specs.Prelude.{ℕ, pos, neg_ℤ, ◌*ℤ◌, ◌^◌, ◌<◌, ◌≤◌, ◌≤ℤ◌, ◌<ℤ◌, List, length}
+use Rattle.std.specs.List.{All}
+use Rattle.logical_plan.specs.declared.spec.SourceSpec.{SourceSpec}
+use Rattle.logical_plan.specs.declared.spec.FilterSpec.{FilterSpec}
+use Rattle.logical_plan.specs.declared.spec.Aggregate.{Aggregate}
+use Rattle.logical_plan.specs.declared.spec.Aggregate.TheVariants.{Count, Sum, Least, Greatest}
+use Rattle.logical_plan.specs.declared.spec.WindowSpec.{WindowSpec}
+
+pub record PlanData : Type 0 where
+  pub columns : ℕ
+  pub max : ℕ
+  pub sources : List SourceSpec
+  pub filters : List FilterSpec
+  pub window : WindowSpec
+
+abbrev pub plan_data_of : ℕ → ℕ → List SourceSpec → List FilterSpec → WindowSpec → PlanData
+plan_data_of columns max sources filters window = record { columns = columns; max = max; sources = sources; filters = filters; window = window }
+
+-- the aggregate's column is one of the columns; a count has none
+abbrev pub has_column : ℕ → Aggregate → Type 0
+has_column columns Count = Unit {0}
+has_column columns (Sum c) = c < columns
+has_column columns (Least c) = c < columns
+has_column columns (Greatest c) = c < columns
+
+-- the window's numbers: size and slide from 1 to 2^40, an offset less than a slide from 0, and at most 256 windows of a time
+pub record IsWindow (w : WindowSpec) : Type 0 where
+  pub sized : pos 1 ≤ℤ w.size
+  pub size_small : w.size ≤ℤ pos (2 ^ 40)
+  pub slides : pos 1 ≤ℤ w.slide
+  pub slide_small : w.slide ≤ℤ pos (2 ^ 40)
+  pub offset_above : neg_ℤ w.slide <ℤ w.offset
+  pub offset_below : w.offset <ℤ w.slide
+  pub panes : w.size ≤ℤ (pos 256 *ℤ w.slide)
+
+-- what every plan that is read meets
+pub record IsPlan (p : PlanData) : Type 0 where
+  pub columned : 1 ≤ p.columns
+  pub columns_few : p.columns ≤ 16
+  pub time : p.window.time < p.columns
+  pub key : p.window.key < p.columns
+  pub filter_columns : All (λ f. f.column < p.columns) p.filters
+  pub aggregate_columns : All (has_column p.columns) p.window.aggregates
+  pub grouped : 1 ≤ p.max
+  pub max_small : p.max ≤ 32768
+  pub sourced : 1 ≤ length p.sources
+  pub sources_few : length p.sources ≤ 8
+  pub partitioned : All (λ s. 1 ≤ s.partitions) p.sources
+  pub partitions_few : All (λ s. s.partitions ≤ 64) p.sources
+  pub filters_few : length p.filters ≤ 32
+  pub window : IsWindow p.window
+  pub aggregated : 1 ≤ length p.window.aggregates
+  pub aggregates_few : length p.window.aggregates ≤ 8
+  pub having_few : length p.window.having ≤ 32
+  pub having_places : All (λ h. h.aggregate < length p.window.aggregates) p.window.having

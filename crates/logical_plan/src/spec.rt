@@ -1,0 +1,66 @@
+use lane_kernels::Cmp;
+use plain_data::{Items, Text};
+
+/// A source of the plan, with so many partitions.
+#[derive(Debug, Drop)]
+pub struct SourceSpec {
+    pub uid: Text,
+    pub partitions: u32,
+}
+
+/// A filter: the records that pass are those whose number in `column` compares so with `value`.
+#[derive(Debug, Drop)]
+pub struct FilterSpec {
+    pub uid: Text,
+    pub column: u32,
+    pub cmp: Cmp,
+    pub value: i64,
+}
+
+/// A number made of the records of a window and a key. The parameter is a column.
+#[derive(Clone, Copy, Debug, PartialEq, Eq)]
+pub enum Aggregate {
+    Count,
+    Sum(u32),
+    Least(u32),
+    Greatest(u32),
+}
+
+/// A condition on the rows that are kept: the number of `aggregate`, by its place from 0, compares so
+/// with `value`.
+#[derive(Clone, Copy, Debug, PartialEq, Eq)]
+pub struct Having {
+    pub aggregate: u32,
+    pub cmp: Cmp,
+    pub value: i64,
+}
+
+/// The window operator. `time` and `key` are columns; `size`, `slide` and `offset` are in the unit of
+/// the times.
+#[derive(Debug, Drop)]
+pub struct WindowSpec {
+    pub uid: Text,
+    pub time: u32,
+    pub key: u32,
+    pub size: i64,
+    pub slide: i64,
+    pub offset: i64,
+    pub aggregates: Items<Aggregate>,
+    pub having: Items<Having>,
+}
+
+/// Where a row stands: the start of its window, and its key. Places are ordered by start, then by key.
+#[derive(Clone, Copy, Debug, PartialEq, Eq, PartialOrd, Ord, Hash)]
+pub struct Place {
+    pub start: i64,
+    pub key: i64,
+}
+
+/// A row of the answer: the window from `start` up to `end`, the key, and a number for each aggregate.
+#[derive(Debug, Drop)]
+pub struct Row {
+    pub start: i64,
+    pub end: i64,
+    pub key: i64,
+    pub values: Items<i128>,
+}

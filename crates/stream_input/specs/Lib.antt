@@ -1,0 +1,4 @@
+pub mod InputData
+pub mod Watermarks
+pub mod PlanRows
+pub mod Text

@@ -1,0 +1,63 @@
+ghost use Rattle.std.specs.Prelude.{[], ◌≡◌, ◌<◌, length, option_copied, slice_get, slice_index_or};
+ghost use Rattle.stream_input.specs.InputData.{IsInput, partition_at};
+
+use crate::entry::Entry;
+use plain_data::Items;
+use std::marker::Model;
+
+/// The entries of one partition.
+pub type Partition = Items<Entry>;
+
+/// The partitions of one source.
+pub type Source = Items<Partition>;
+
+/// An input that meets every requirement of its format: for each source, in the order of its plan, its
+/// partitions.
+#[derive(Drop)]
+pub struct Input {
+    columns: u32,
+    time: u32,
+    sources: Items<Source>,
+}
+
+impl Model for Input {
+    ghost use Rattle.stream_input.specs.InputData.{InputData, IsInput, input_data_of};
+
+    ghost Value = { InputData };
+
+    ghost view = { λ i. input_data_of i.columns i.time i.sources };
+
+    ghost invariant = { λ i. IsInput (input_data_of i.columns i.time i.sources) };
+}
+
+impl Input {
+    /// The sources, in the order of the plan.
+    pub fn sources(&self) -> &[Source]
+        ensures says { result.now ≡ self.now.sources }
+        ensures sound { IsInput self.now }
+    {
+        self.sources.as_slice()
+    }
+
+    /// How many entries a partition has.
+    pub fn entries(&self, source: u32, partition: u32) -> u64
+        requires source_in { source < length self.now.sources }
+        requires partition_in { partition < length (slice_index_or self.now.sources source []) }
+        ensures { result ≡ length (partition_at self.now.sources source partition) }
+    {
+        let sources = self.sources.as_slice();
+        let partitions = sources[source as usize].as_slice();
+        partitions[partition as usize].len() as u64
+    }
+
+    /// Entry n of a partition, counted from 0.
+    pub fn entry(&self, source: u32, partition: u32, n: u64) -> Option<&Entry>
+        requires source_in { source < length self.now.sources }
+        requires partition_in { partition < length (slice_index_or self.now.sources source []) }
+        ensures { option_copied result ≡ slice_get (partition_at self.now.sources source partition) n }
+    {
+        let sources = self.sources.as_slice();
+        let partitions = sources[source as usize].as_slice();
+        partitions[partition as usize].as_slice().get(n as usize)
+    }
+}
