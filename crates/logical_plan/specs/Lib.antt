@@ -3,3 +3,4 @@ pub mod Bag
 pub mod Windows
 pub mod Aggregates
 pub mod Rows
+pub mod Laws
