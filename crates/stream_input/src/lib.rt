@@ -3,6 +3,7 @@
 
 mod entry;
 mod input;
+pub mod laws;
 
 pub use entry::Entry;
 pub use input::Input;

@@ -1,0 +1,4 @@
+pub mod Cuts
+pub mod Due
+pub mod Unique
+pub mod Greatest
