@@ -1,12 +1,12 @@
 -- What records come to does not depend on how they are put together.
-use Rattle.std.proofs.Common.{◌≡◌, ℤ, pos, ◌+ℤ◌, ◌+◌, List, [], ◌∷◌, ◌++◌, map, length, refl, ap, ◌∙◌, arith, length-append, Some}
+use Rattle.std.proofs.Common.{◌≡◌, ℤ, pos, ◌+ℤ◌, ◌+◌, List, [], ◌∷◌, ◌++◌, map, length, refl, sym, ap, ◌∙◌, arith, length-append, Option, Some, None}
 use Rattle.std.specs.Int.{int_min, int_max}
 use Rattle.std.proofs.lemmas.List.{map-append, append-nil}
 use Rattle.std.proofs.lemmas.Int.{ints, clamps}
 use Rattle.plain_data.specs.Record.{Record, at, column_of}
 use Rattle.logical_plan.specs.declared.spec.Aggregate.{Aggregate}
 use Rattle.logical_plan.specs.declared.spec.Aggregate.TheVariants.{Count, Sum, Least, Greatest}
-use Rattle.logical_plan.specs.Aggregates.{total, least, greatest, number_of, aggregate_of, merge_number, merge_numbers, merge}
+use Rattle.logical_plan.specs.Aggregates.{Aggregated, total, least, greatest, number_of, aggregate_of, merge_number, merge_numbers, merge}
 
 add_assoc_z : (a b c : ℤ) → a +ℤ (b +ℤ c) ≡ (a +ℤ b) +ℤ c
 add_assoc_z a b c = omega (arith, ints)
@@ -51,3 +51,27 @@ aggregate_of-append ks (x ∷ xs) [] = ap (λ l. aggregate_of ks (x ∷ l)) (app
 aggregate_of-append ks (x ∷ xs) (y ∷ ys) =
     let count : length (x ∷ (xs ++ y ∷ ys)) ≡ length (x ∷ xs) + length (y ∷ ys) = omega (arith, length-append xs (y ∷ ys)) in
     λ i. Some (record { count = count i; numbers = numbers-append ks x xs y ys i })
+
+-- ---- merging is associative
+
+merge_number_assoc : (k : Aggregate) (x y z : ℤ) → merge_number k (merge_number k x y) z ≡ merge_number k x (merge_number k y z)
+merge_number_assoc Count x y z = sym (add_assoc_z x y z)
+merge_number_assoc (Sum c) x y z = sym (add_assoc_z x y z)
+merge_number_assoc (Least c) x y z = sym (min_assoc_z x y z)
+merge_number_assoc (Greatest c) x y z = sym (max_assoc_z x y z)
+
+merge_numbers_assoc : (ks : List Aggregate) (xs ys zs : List ℤ) → merge_numbers ks (merge_numbers ks xs ys) zs ≡ merge_numbers ks xs (merge_numbers ks ys zs)
+merge_numbers_assoc [] xs ys zs = refl
+merge_numbers_assoc (k ∷ ks) [] ys zs = refl
+merge_numbers_assoc (k ∷ ks) (x ∷ xs) [] zs = refl
+merge_numbers_assoc (k ∷ ks) (x ∷ xs) (y ∷ ys) [] = refl
+merge_numbers_assoc (k ∷ ks) (x ∷ xs) (y ∷ ys) (z ∷ zs) = λ i. merge_number_assoc k x y z i ∷ merge_numbers_assoc ks xs ys zs i
+
+-- what three parts come to together, either two first
+pub merge_assoc : (ks : List Aggregate) (a b c : Option Aggregated) → merge ks (merge ks a b) c ≡ merge ks a (merge ks b c)
+merge_assoc ks None b c = refl
+merge_assoc ks (Some a) None c = refl
+merge_assoc ks (Some a) (Some b) None = refl
+merge_assoc ks (Some a) (Some b) (Some c) =
+    let count : (a.count + b.count) + c.count ≡ a.count + (b.count + c.count) = omega arith in
+    λ i. Some (record { count = count i; numbers = merge_numbers_assoc ks a.numbers b.numbers c.numbers i })

@@ -1,5 +1,5 @@
 -- How what stands at a place grows with the records.
-use Rattle.std.proofs.Common.{◌≡◌, Bool, true, false, cond, ◌&&◌, List, [], ◌∷◌, ◌++◌, refl, ap, ◌∙◌, Option, Some, None, if◌then◌else◌}
+use Rattle.std.proofs.Common.{◌≡◌, Bool, true, false, cond, ◌&&◌, List, [], ◌∷◌, ◌++◌, refl, sym, ap, ◌∙◌, Option, Some, None, if◌then◌else◌}
 use Rattle.std.specs.Ordering.{int_eq}
 use Rattle.std.proofs.lemmas.List.Elements.{filter-append}
 use Rattle.plain_data.specs.Record.{Record, at}
@@ -58,3 +58,15 @@ aggregate_at-push w xs r q =
     aggregate_at-append w xs (r ∷ []) q
     ∙ ap (merge ks (aggregate_at w xs q)) (one_place (is_start w q.start) (int_eq (at w.key r) q.key) (is_within w q.start (at w.time r)) ks r)
     ∙ merge_if ks _ (aggregate_at w xs q) (aggregate_of ks (r ∷ []))
+
+-- what one record comes to at a place
+pub aggregate_at-one : (w : WindowSpec) (r : Record) (q : Place)
+    → aggregate_at w (r ∷ []) q ≡ (if is_window_of w (at w.time r) q.start && int_eq (at w.key r) q.key then aggregate_of w.aggregates (r ∷ []) else None)
+aggregate_at-one w r q = one_place (is_start w q.start) (int_eq (at w.key r) q.key) (is_within w q.start (at w.time r)) w.aggregates r
+
+-- the same, merged into what stands there
+pub merge-one : (w : WindowSpec) (r : Record) (q : Place) (x : Option Aggregated)
+    → (if is_window_of w (at w.time r) q.start && int_eq (at w.key r) q.key then merge w.aggregates x (aggregate_of w.aggregates (r ∷ [])) else x)
+    ≡ merge w.aggregates x (aggregate_at w (r ∷ []) q)
+merge-one w r q x =
+    sym (ap (merge w.aggregates x) (aggregate_at-one w r q) ∙ merge_if w.aggregates (is_window_of w (at w.time r) q.start && int_eq (at w.key r) q.key) x (aggregate_of w.aggregates (r ∷ [])))

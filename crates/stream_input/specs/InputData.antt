@@ -1,7 +1,8 @@
 -- An input as contracts see it.
-use Rattle.std.specs.Prelude.{◌≡◌, ℕ, ℤ, pos, neg_ℤ, ◌^◌, ◌≤◌, ◌≤ℤ◌, ◌<ℤ◌, List, [], length, slice_index_or}
+use Rattle.std.specs.Prelude.{◌≡◌, ℕ, ◌^◌, ◌≤◌, List, [], length, slice_index_or}
 use Rattle.std.specs.List.{All, flat_map}
 use Rattle.plain_data.specs.Record.{Record, at}
+pub use Rattle.logical_plan.specs.Windows.{IsTime}
 use Rattle.stream_input.specs.declared.entry.Entry.{Entry}
 use Rattle.stream_input.specs.declared.entry.Entry.TheVariants.{Rows, Watermark}
 
@@ -30,11 +31,6 @@ records_in_source partitions = flat_map records_in partitions
 
 abbrev pub all_records : List (List (List Entry)) → List Record
 all_records sources = flat_map records_in_source sources
-
--- times and watermarks are from -2^62 to 2^62 - 1
-pub record IsTime (t : ℤ) : Type 0 where
-  pub above : neg_ℤ (pos (2 ^ 62)) ≤ℤ t
-  pub below : t <ℤ pos (2 ^ 62)
 
 -- rows of the input's width with times in range, or a watermark in range
 abbrev pub IsEntry : ℕ → ℕ → Entry → Type 0
