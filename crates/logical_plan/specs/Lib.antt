@@ -1,4 +1,5 @@
 pub mod PlanData
+pub mod PlanText
 pub mod Bag
 pub mod Windows
 pub mod Aggregates

@@ -2,6 +2,7 @@
 #![tactic(auto)]
 
 mod plan;
+mod plan_text;
 mod spec;
 
 pub use plan::Plan;
