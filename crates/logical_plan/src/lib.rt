@@ -2,8 +2,15 @@
 #![tactic(auto)]
 
 pub mod laws;
+mod building;
+mod check;
+mod fault;
 mod plan;
+mod places;
+mod plan_text;
+mod reading;
 mod spec;
 
+pub use fault::PlanFault;
 pub use plan::Plan;
 pub use spec::{Aggregate, FilterSpec, Having, Place, Row, SourceSpec, WindowSpec};
