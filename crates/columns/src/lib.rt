@@ -3,7 +3,7 @@
 
 ghost use Rattle.std.specs.Prelude.{◌≡◌, ℕ, ◌+◌, ◌^◌, ◌<◌, ◌≤◌, length, IfOk, OnOk, IfErr, IfNone, ◌≢◌, map, not, ◌==◌, slice_index_or, []};
 ghost use Rattle.plain_data.specs.Record.{at, column_of};
-ghost use Rattle.columns.specs.Table.{rows_in};
+ghost use Rattle.columns.specs.Table.{rows_in, rows_of};
 ghost use Rattle.std.specs.List.{All, range_with_len, position};
 
 use std::alloc::{AllocError, Global};
@@ -73,6 +73,14 @@ impl Batch {
             return Err(fault);
         }
         batch_of(alloc, rows, width).map_err(|_| BatchFault::Memory)
+    }
+
+    /// The batch of columns that have `count` numbers each.
+    pub fn from_columns(columns: Vec<Vec<i64>>, count: usize) -> Batch
+        requires { All (λ column. length column.items ≡ count) columns.items }
+        ensures { result ≡ record { width = length columns.items; rows = rows_of (map (λ column. column.items) columns.items) count } }
+    {
+        Batch { columns, count }
     }
 
     pub fn len(&self) -> usize
