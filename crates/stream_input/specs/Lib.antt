@@ -2,3 +2,10 @@ pub mod InputData
 pub mod Watermarks
 pub mod PlanRows
 pub mod Text
+pub mod InputText
+pub mod Draft
+pub mod Said
+pub mod Fault
+pub mod Requirements
+pub mod EntryTest
+pub mod Answer

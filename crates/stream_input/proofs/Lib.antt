@@ -1,0 +1,4 @@
+pub mod Drafts
+pub mod Named
+pub mod Tables
+pub mod Sound
