@@ -1,4 +1,9 @@
+pub mod Uids
 pub mod PlanData
+pub mod PlanText
+pub mod Requirements
+pub mod Places
+pub mod Answer
 pub mod Bag
 pub mod Windows
 pub mod Aggregates

@@ -1,6 +1,7 @@
 -- A plan as contracts see it.
-use Rattle.std.specs.Prelude.{ℕ, pos, neg_ℤ, ◌*ℤ◌, ◌^◌, ◌<◌, ◌≤◌, ◌≤ℤ◌, ◌<ℤ◌, List, length}
+use Rattle.std.specs.Prelude.{◌≡◌, ℕ, pos, neg_ℤ, ◌*ℤ◌, ◌^◌, ◌<◌, ◌≤◌, ◌≤ℤ◌, ◌<ℤ◌, true, List, [], ◌∷◌, ◌++◌, map, length}
 use Rattle.std.specs.List.{All}
+use Rattle.logical_plan.specs.Uids.{is_uid, are_distinct}
 use Rattle.logical_plan.specs.declared.spec.SourceSpec.{SourceSpec}
 use Rattle.logical_plan.specs.declared.spec.FilterSpec.{FilterSpec}
 use Rattle.logical_plan.specs.declared.spec.Aggregate.{Aggregate}
@@ -16,6 +17,10 @@ pub record PlanData : Type 0 where
 
 abbrev pub plan_data_of : ℕ → ℕ → List SourceSpec → List FilterSpec → WindowSpec → PlanData
 plan_data_of columns max sources filters window = record { columns = columns; max = max; sources = sources; filters = filters; window = window }
+
+-- the uids of sources, filters and window, in plan order
+abbrev pub uids : PlanData → List (List ℕ)
+uids p = map (λ s. s.uid) p.sources ++ map (λ f. f.uid) p.filters ++ p.window.uid ∷ []
 
 -- the aggregate's column is one of the columns; a count has none
 abbrev pub has_column : ℕ → Aggregate → Type 0
@@ -48,6 +53,8 @@ pub record IsPlan (p : PlanData) : Type 0 where
   pub sources_few : length p.sources ≤ 8
   pub partitioned : All (λ s. 1 ≤ s.partitions) p.sources
   pub partitions_few : All (λ s. s.partitions ≤ 64) p.sources
+  pub named : All (λ uid. is_uid uid ≡ true) (uids p)
+  pub distinct : are_distinct (uids p) ≡ true
   pub filters_few : length p.filters ≤ 32
   pub window : IsWindow p.window
   pub aggregated : 1 ≤ length p.window.aggregates

@@ -1,8 +1,15 @@
 //! What a job asks for: sources, filters and one window operator, read from a plan's JSON text.
 #![tactic(auto)]
 
+mod building;
+mod check;
+mod fault;
 mod plan;
+mod places;
+mod plan_text;
+mod reading;
 mod spec;
 
+pub use fault::PlanFault;
 pub use plan::Plan;
 pub use spec::{Aggregate, FilterSpec, Having, Place, Row, SourceSpec, WindowSpec};

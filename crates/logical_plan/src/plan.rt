@@ -1,4 +1,5 @@
 use crate::spec::{FilterSpec, SourceSpec, WindowSpec};
+use indexmap::IndexSet;
 use plain_data::Items;
 use std::marker::Model;
 
@@ -10,21 +11,48 @@ pub struct Plan {
     sources: Items<SourceSpec>,
     filters: Items<FilterSpec>,
     window: WindowSpec,
+    places: IndexSet<String>,
 }
 
 impl Model for Plan {
-    ghost use Rattle.logical_plan.specs.PlanData.{PlanData, IsPlan, plan_data_of};
+    ghost use Rattle.std.specs.Prelude.{◌≡◌};
+    ghost use Rattle.logical_plan.specs.PlanData.{PlanData, IsPlan, plan_data_of, uids};
+    ghost use Rattle.logical_plan.specs.Places.{texts};
 
     ghost Value = { PlanData };
 
     ghost view = { λ p. plan_data_of p.columns p.max p.sources p.filters p.window };
 
-    ghost invariant = { λ p. IsPlan (plan_data_of p.columns p.max p.sources p.filters p.window) };
+    ghost invariant = { λ p. IsPlan (plan_data_of p.columns p.max p.sources p.filters p.window)
+        × (texts p.places ≡ uids (plan_data_of p.columns p.max p.sources p.filters p.window)) };
 }
 
 impl Plan {
-    ghost use Rattle.std.specs.Prelude.{◌≡◌};
-    ghost use Rattle.logical_plan.specs.PlanData.{IsPlan};
+    ghost use Rattle.std.specs.Prelude.{◌≡◌, position, bytes_eq};
+    ghost use Rattle.logical_plan.specs.PlanData.{IsPlan, plan_data_of, uids};
+    ghost use Rattle.logical_plan.specs.Places.{texts};
+
+    pub(crate) fn new(
+        columns: u32,
+        max: u32,
+        sources: Items<SourceSpec>,
+        filters: Items<FilterSpec>,
+        window: WindowSpec,
+        places: IndexSet<String>,
+    ) -> Plan
+        requires sound { IsPlan (plan_data_of columns max sources filters window) }
+        requires places { texts places ≡ uids (plan_data_of columns max sources filters window) }
+        ensures { result ≡ plan_data_of columns max sources filters window }
+    {
+        Plan {
+            columns,
+            max,
+            sources,
+            filters,
+            window,
+            places,
+        }
+    }
 
     /// How many columns each record has: 1 to 16.
     pub fn columns(&self) -> u32
@@ -64,5 +92,12 @@ impl Plan {
         ensures sound { IsPlan self.now }
     {
         &self.window
+    }
+
+    /// The place of a uid in plan order: sources, filters, window, counted from 0.
+    pub fn place_of(&self, uid: &str) -> Option<usize>
+        ensures { result ≡ position (bytes_eq uid.now) (uids self.now) }
+    {
+        self.places.get_index_of(uid)
     }
 }

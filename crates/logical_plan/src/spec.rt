@@ -1,5 +1,6 @@
 use lane_kernels::Cmp;
 use plain_data::{Items, Text};
+use std::alloc::{AllocError, Global};
 
 /// A source of the plan, with so many partitions.
 #[derive(Debug, Drop)]
@@ -47,6 +48,30 @@ pub struct WindowSpec {
     pub offset: i64,
     pub aggregates: Items<Aggregate>,
     pub having: Items<Having>,
+}
+
+impl WindowSpec {
+    ghost use Rattle.std.specs.Prelude.{◌≡◌, IfOk};
+
+    /// The same window again.
+    ///
+    /// # Errors
+    ///
+    /// Only where memory runs out.
+    pub fn copy(&self, alloc: Global) -> Result<WindowSpec, AllocError>
+        ensures { IfOk result (λ window. window ≡ self.now) }
+    {
+        Ok(WindowSpec {
+            uid: self.uid.copy(alloc)?,
+            aggregates: self.aggregates.copy(alloc)?,
+            having: self.having.copy(alloc)?,
+            time: self.time,
+            key: self.key,
+            size: self.size,
+            slide: self.slide,
+            offset: self.offset,
+        })
+    }
 }
 
 /// Where a row stands: the start of its window, and its key. Places are ordered by start, then by key.

@@ -1,5 +1,6 @@
-ghost use Rattle.std.specs.Prelude.{◌≡◌, length};
+ghost use Rattle.std.specs.Prelude.{◌≡◌, length, IfOk};
 
+use std::alloc::{AllocError, Global};
 use std::marker::Model;
 
 /// A list of values, which contracts see as the list.
@@ -44,5 +45,20 @@ impl<T> Items<T> {
         ensures { result ≡ length self.now }
     {
         self.values.len()
+    }
+}
+
+impl<T: Copy> Items<T> {
+    /// The same list again.
+    ///
+    /// # Errors
+    ///
+    /// Only where memory runs out.
+    pub fn copy(&self, alloc: Global) -> Result<Items<T>, AllocError>
+        ensures { IfOk result (λ list. list ≡ self.now) }
+    {
+        let mut values = Vec::new(alloc);
+        values.extend_from_slice(&self.values)?;
+        Ok(Items { values })
     }
 }

@@ -1,5 +1,6 @@
-ghost use Rattle.std.specs.Prelude.{◌≡◌, string_bytes};
+ghost use Rattle.std.specs.Prelude.{◌≡◌, string_bytes, IfOk};
 
+use std::alloc::{AllocError, Global};
 use std::marker::Model;
 
 /// A text, which contracts see as its bytes.
@@ -29,5 +30,18 @@ impl Text {
         ensures { result.now ≡ self.now }
     {
         self.string.as_str()
+    }
+
+    /// The same text again.
+    ///
+    /// # Errors
+    ///
+    /// Only where memory runs out.
+    pub fn copy(&self, alloc: Global) -> Result<Text, AllocError>
+        ensures { IfOk result (λ text. text ≡ self.now) }
+    {
+        Ok(Text {
+            string: String::from_str(alloc, self.as_str())?,
+        })
     }
 }

@@ -1,0 +1,29 @@
+-- Lists that are mapped, and tests of them.
+use Rattle.std.proofs.Common.{◌≡◌, ℕ, ◌+◌, Bool, true, false, cond, not, ◌&&◌, List, [], ◌∷◌, ◌++◌, map, refl, ap, ◌∙◌}
+use Rattle.std.specs.List.{list_all, prefix_len, position}
+use Rattle.std.proofs.lemmas.List.{map-id, length-map}
+use Rattle.std.proofs.lemmas.List.Folds.{list_all-map, list_all-append}
+use Rattle.logical_plan.specs.declared.plan_text.SourceText.{SourceText}
+use Rattle.logical_plan.specs.declared.plan_text.FilterText.{FilterText}
+use Rattle.logical_plan.specs.declared.plan_text.PlanText.{PlanText}
+use Rattle.logical_plan.specs.Uids.{is_uid}
+use Rattle.logical_plan.specs.Requirements.{has_uids}
+
+pub map_same : {A : Type 0} (xs : List A) → map (λ (x : A). x) xs ≡ xs
+map_same xs = map-id xs
+
+and_true : (a : Bool) → (a && true) ≡ a
+and_true true = refl
+and_true false = refl
+
+-- the test of all uids, part by part
+pub all_uids : (p : PlanText) → has_uids p ≡ ((list_all (λ (s : SourceText). is_uid s.uid) p.sources && list_all (λ (f : FilterText). is_uid f.uid) p.filters) && is_uid p.window.uid)
+unfolding has_uids
+all_uids p = simp (list_all-append, list_all-map, and_true)
+
+prefix_len_map : {A B : Type 0} (test : B → Bool) (f : A → B) (xs : List A) → prefix_len test (map f xs) ≡ prefix_len (λ x. test (f x)) xs
+prefix_len_map test f [] = refl
+prefix_len_map test f (x ∷ xs) = ap (λ (n : ℕ). cond (test (f x)) (1 + n) 0) (prefix_len_map test f xs)
+
+pub position_map : {A B : Type 0} (test : B → Bool) (f : A → B) (xs : List A) → position test (map f xs) ≡ position (λ x. test (f x)) xs
+position_map test f xs = rw (prefix_len_map (λ y. not (test y)) f xs, length-map) refl

@@ -1,0 +1,196 @@
+-- A text that meets every requirement is a plan's.
+use Rattle.std.proofs.Common.{◌≡◌, ℕ, ◌^◌, ◌<◌, ◌≤◌, ℤ, pos, negsuc, neg_ℤ, ◌*ℤ◌, ◌≤ℤ◌, ◌<ℤ◌, Bool, true, false, cond, ◌&&◌, List, map, length, get_or, ◌++◌, [], ◌∷◌, Option, None, Some, refl, ap, sym, ◌∙◌, arith}
+use Rattle.std.specs.Prelude.{unsigned_abs, int_lt, int_le, nat_le}
+use Rattle.std.specs.List.{All, list_all}
+use Rattle.std.proofs.lemmas.Bool.{leb-true}
+use Rattle.std.proofs.lemmas.Bool.Decides.{nat_tests}
+use Rattle.std.proofs.lemmas.Float.{T_from_true}
+use Rattle.std.proofs.lemmas.List.{length-map}
+use Rattle.std.proofs.lemmas.List.Elements.{All-map}
+use Rattle.std.proofs.lemmas.List.Sums.{AllPass-from_list_all, list_all-from_AllPass}
+use Rattle.std.specs.Int.Signed.{le_z_yes, lt_z_yes}
+use Rattle.logical_plan.specs.Uids.{is_nat_within, is_uid, are_distinct}
+use Rattle.logical_plan.specs.declared.plan_text.SourceText.{SourceText}
+use Rattle.logical_plan.specs.declared.plan_text.FilterText.{FilterText}
+use Rattle.logical_plan.specs.declared.plan_text.AggregateText.{AggregateText}
+use Rattle.logical_plan.specs.declared.plan_text.AggregateText.TheVariants as text
+use Rattle.logical_plan.specs.declared.plan_text.PlanText.{PlanText}
+use Rattle.logical_plan.specs.declared.fault.PlanFault.{PlanFault}
+use Rattle.logical_plan.specs.PlanData.{IsPlan, IsWindow, has_column, uids}
+use Rattle.logical_plan.specs.Requirements.{is_within, is_place, is_aggregate_of, text_uids, first_unmet, requirements, has_columns, has_column_indices, has_max, has_sources, has_partitions, has_uids, has_distinct_uids, has_filters, has_size, has_slide, has_offset, has_panes, has_aggregates}
+use Rattle.logical_plan.specs.Answer.{source_data, filter_data, aggregate_data, having_data, plan_data}
+
+-- what the requirements say, one by one
+pub record Meets (t : PlanText) : Type 0 where
+  pub columns : is_within (pos 1) (pos 16) t.columns ≡ true
+  pub time : is_place t.columns t.time ≡ true
+  pub key : is_place t.columns t.key ≡ true
+  pub filter_columns : list_all (λ f. is_place t.columns f.column) t.filters ≡ true
+  pub aggregate_columns : list_all (is_aggregate_of t.columns) t.window.aggregates ≡ true
+  pub max : is_within (pos 1) (pos 32768) t.max ≡ true
+  pub sources : is_nat_within 1 8 (length t.sources) ≡ true
+  pub partitions : list_all (λ s. is_within (pos 1) (pos 64) s.partitions) t.sources ≡ true
+  pub uids : list_all is_uid (text_uids t) ≡ true
+  pub distinct : are_distinct (text_uids t) ≡ true
+  pub filters : nat_le (length t.filters) 32 ≡ true
+  pub having : nat_le (length t.window.having) 32 ≡ true
+  pub size : is_within (pos 1) (pos (2 ^ 40)) t.window.size ≡ true
+  pub slide : is_within (pos 1) (pos (2 ^ 40)) t.window.slide ≡ true
+  pub above : int_lt (neg_ℤ t.window.slide) t.window.offset ≡ true
+  pub below : int_lt t.window.offset t.window.slide ≡ true
+  pub panes : int_le t.window.size (pos 256 *ℤ t.window.slide) ≡ true
+  pub aggregates : is_nat_within 1 8 (length t.window.aggregates) ≡ true
+  pub places : list_all (λ h. is_place (pos (length t.window.aggregates)) h.aggregate) t.window.having ≡ true
+
+met_first : (b : Bool) (rest : Option PlanFault) (f : PlanFault) → cond b rest (Some f) ≡ None → (b ≡ true) × (rest ≡ None)
+met_first true rest f h = (refl, h)
+met_first false rest f h = absurd cc
+
+pub both : (a b : Bool) → (a && b) ≡ true → (a ≡ true) × (b ≡ true)
+both true b h = (refl, h)
+both false b h = absurd cc
+
+pub meets : (t : PlanText) → first_unmet requirements t ≡ None → Meets t
+unfolding requirements has_columns has_column_indices has_max has_sources has_partitions has_uids has_distinct_uids has_filters has_size has_slide has_offset has_panes has_aggregates
+meets t h =
+    let columns = met_first (has_columns t) _ _ h in
+    let indices = met_first (has_column_indices t) _ _ columns.1 in
+    let max = met_first (has_max t) _ _ indices.1 in
+    let sources = met_first (has_sources t) _ _ max.1 in
+    let partitions = met_first (has_partitions t) _ _ sources.1 in
+    let named = met_first (has_uids t) _ _ partitions.1 in
+    let distinct = met_first (has_distinct_uids t) _ _ named.1 in
+    let filters = met_first (has_filters t) _ _ distinct.1 in
+    let size = met_first (has_size t) _ _ filters.1 in
+    let slide = met_first (has_slide t) _ _ size.1 in
+    let offset = met_first (has_offset t) _ _ slide.1 in
+    let panes = met_first (has_panes t) _ _ offset.1 in
+    let aggregates = met_first (has_aggregates t) _ _ panes.1 in
+    let on_aggregates = both (is_place t.columns t.time && is_place t.columns t.key && list_all (λ (f : FilterText). is_place t.columns f.column) t.filters) _ indices.0 in
+    let on_filters = both (is_place t.columns t.time && is_place t.columns t.key) _ on_aggregates.0 in
+    let on_window = both (is_place t.columns t.time) (is_place t.columns t.key) on_filters.0 in
+    let few = both (nat_le (length t.filters) 32) _ filters.0 in
+    let around = both (int_lt (neg_ℤ t.window.slide) t.window.offset) _ offset.0 in
+    let kinds = both (is_nat_within 1 8 (length t.window.aggregates)) _ aggregates.0 in
+    record {
+      columns = columns.0;
+      time = on_window.0;
+      key = on_window.1;
+      filter_columns = on_filters.1;
+      aggregate_columns = on_aggregates.1;
+      max = max.0;
+      sources = sources.0;
+      partitions = partitions.0;
+      uids = named.0;
+      distinct = distinct.0;
+      filters = few.0;
+      having = few.1;
+      size = size.0;
+      slide = slide.0;
+      above = around.0;
+      below = around.1;
+      panes = panes.0;
+      aggregates = kinds.0;
+      places = kinds.1;
+    }
+
+nat_within : (low high n : ℕ) → is_nat_within low high n ≡ true → (low ≤ n) × (n ≤ high)
+nat_within low high n h = let parts = both (nat_le low n) (nat_le n high) h in (leb-true low n parts.0, leb-true n high parts.1)
+
+pub within : (low high : ℕ) (z : ℤ) → is_within (pos low) (pos high) z ≡ true → (low ≤ unsigned_abs z) × (unsigned_abs z ≤ high)
+within low high (pos n) h = nat_within low high n h
+within low high (negsuc n) h = absurd cc
+
+pub place_within : (bound z : ℤ) → is_place bound z ≡ true → unsigned_abs z < unsigned_abs bound
+place_within (pos m) (pos n) h = grind (arith, nat_tests)
+place_within (negsuc m) (pos n) h = let e : false ≡ true = (both (int_le (pos 0) (pos n)) false h).1 in absurd cc
+place_within bound (negsuc n) h = absurd cc
+
+le_from : (a b : ℤ) → int_le a b ≡ true → a ≤ℤ b
+le_from a b h = le_z_yes (T_from_true (int_le a b) h)
+
+lt_from : (a b : ℤ) → int_lt a b ≡ true → a <ℤ b
+lt_from a b h = lt_z_yes (T_from_true (int_lt a b) h)
+
+-- what holds of each element that passes a test holds of each element mapped
+all_map : {A B : Type 0} (test : A → Bool) (f : A → B) (P : B → Type 0) (xs : List A) → ((x : A) → test x ≡ true → P (f x)) → list_all test xs ≡ true → All P (map f xs)
+all_map test f P xs each h = All-map P f xs (λ k d lt. each _ (AllPass-from_list_all test xs h k d lt))
+
+column_within : (columns : ℤ) (a : AggregateText) → is_aggregate_of columns a ≡ true → has_column (unsigned_abs columns) (aggregate_data a)
+column_within columns text.Count h = tt
+column_within columns (text.Sum c) h = place_within columns c h
+column_within columns (text.Least c) h = place_within columns c h
+column_within columns (text.Greatest c) h = place_within columns c h
+
+source_uids : (ss : List SourceText) → map (λ s. s.uid) (map source_data ss) ≡ map (λ (s : SourceText). s.uid) ss
+source_uids [] = refl
+source_uids (s ∷ ss) = ap (λ (xs : List (List ℕ)). s.uid ∷ xs) (source_uids ss)
+
+filter_uids : (fs : List FilterText) → map (λ f. f.uid) (map filter_data fs) ≡ map (λ (f : FilterText). f.uid) fs
+filter_uids [] = refl
+filter_uids (f ∷ fs) = ap (λ (xs : List (List ℕ)). f.uid ∷ xs) (filter_uids fs)
+
+pub same_uids : (t : PlanText) → uids (plan_data t) ≡ text_uids t
+same_uids t = rw (source_uids t.sources, filter_uids t.filters) refl
+
+window_meets : (t : PlanText) → Meets t → IsWindow (plan_data t).window
+window_meets t m =
+    let size = both (int_le (pos 1) t.window.size) _ m.size in
+    let slide = both (int_le (pos 1) t.window.slide) _ m.slide in
+    record {
+      sized = le_from _ _ size.0;
+      size_small = le_from _ _ size.1;
+      slides = le_from _ _ slide.0;
+      slide_small = le_from _ _ slide.1;
+      offset_above = lt_from _ _ m.above;
+      offset_below = lt_from _ _ m.below;
+      panes = le_from _ _ m.panes;
+    }
+
+pub is_plan : (t : PlanText) → Meets t → IsPlan (plan_data t)
+is_plan t m =
+    let columns = within 1 16 t.columns m.columns in
+    let max = within 1 32768 t.max m.max in
+    let sources = nat_within 1 8 (length t.sources) m.sources in
+    let aggregates = nat_within 1 8 (length t.window.aggregates) m.aggregates in
+    record {
+      columned = columns.0;
+      columns_few = columns.1;
+      time = place_within t.columns t.time m.time;
+      key = place_within t.columns t.key m.key;
+      filter_columns = all_map (λ f. is_place t.columns f.column) filter_data (λ f. f.column < unsigned_abs t.columns) t.filters (λ f h. place_within t.columns f.column h) m.filter_columns;
+      aggregate_columns = all_map (is_aggregate_of t.columns) aggregate_data (has_column (unsigned_abs t.columns)) t.window.aggregates (column_within t.columns) m.aggregate_columns;
+      grouped = max.0;
+      max_small = max.1;
+      sourced = rw length-map sources.0;
+      sources_few = rw length-map sources.1;
+      partitioned = all_map (λ s. is_within (pos 1) (pos 64) s.partitions) source_data (λ s. 1 ≤ s.partitions) t.sources (λ s h. (within 1 64 s.partitions h).0) m.partitions;
+      partitions_few = all_map (λ s. is_within (pos 1) (pos 64) s.partitions) source_data (λ s. s.partitions ≤ 64) t.sources (λ s h. (within 1 64 s.partitions h).1) m.partitions;
+      named = rw (same_uids t) (AllPass-from_list_all is_uid (text_uids t) m.uids);
+      distinct = rw (same_uids t) m.distinct;
+      filters_few = rw length-map (leb-true _ _ m.filters);
+      window = window_meets t m;
+      aggregated = rw length-map aggregates.0;
+      aggregates_few = rw length-map aggregates.1;
+      having_few = rw length-map (leb-true _ _ m.having);
+      having_places = rw (length-map t.window.aggregates aggregate_data) (all_map (λ h. is_place (pos (length t.window.aggregates)) h.aggregate) having_data (λ h. h.aggregate < length t.window.aggregates) t.window.having (λ h e. place_within (pos (length t.window.aggregates)) h.aggregate e) m.places);
+    }
+
+-- the numbers of a plan are small
+pub is_small : (z : ℤ) (high : ℕ) → high ≤ 65535 → is_within (pos 1) (pos high) z ≡ true → is_within (pos 0) (pos 65535) z ≡ true
+is_small (pos n) high le h = grind (arith, nat_tests)
+is_small (negsuc n) high le h = absurd cc
+
+pub is_small_place : (bound z : ℤ) → is_within (pos 1) (pos 16) bound ≡ true → is_place bound z ≡ true → is_within (pos 0) (pos 65535) z ≡ true
+is_small_place (pos m) (pos n) hm h = grind (arith, nat_tests)
+is_small_place (negsuc m) z hm h = absurd cc
+is_small_place bound (negsuc n) hm h = absurd cc
+
+place_below : (bound high : ℕ) (z : ℤ) → bound ≤ high → is_place (pos bound) z ≡ true → is_place (pos high) z ≡ true
+place_below bound high (pos n) le h = grind (arith, nat_tests)
+place_below bound high (negsuc n) le h = absurd cc
+
+pub having_places : (t : PlanText) → Meets t → list_all (λ h. is_place (pos 8) h.aggregate) t.window.having ≡ true
+having_places t m =
+    let aggregates = nat_within 1 8 (length t.window.aggregates) m.aggregates in
+    list_all-from_AllPass (λ h. is_place (pos 8) h.aggregate) t.window.having (λ k d lt. place_below (length t.window.aggregates) 8 (get_or t.window.having k d).aggregate aggregates.1 (AllPass-from_list_all (λ h. is_place (pos (length t.window.aggregates)) h.aggregate) t.window.having m.places k d lt))

@@ -1,0 +1,198 @@
+//! From a text that meets every requirement to its plan.
+
+ghost use Rattle.std.specs.Prelude.{◌≡◌, ◌<◌, true, None, map, pos, unsigned_abs, IfOk};
+ghost use Rattle.std.specs.List.{list_all};
+ghost use Rattle.logical_plan.specs.Places.{texts};
+ghost use Rattle.logical_plan.specs.Requirements.{is_within, is_place, is_aggregate_of, requirements, first_unmet, text_uids};
+ghost use Rattle.logical_plan.specs.Answer.{source_data, filter_data, aggregate_data, having_data, window_data, plan_data};
+
+use crate::plan::Plan;
+use crate::plan_text::{AggregateText, FilterText, HavingText, PlanText, SourceText, WindowText};
+use crate::spec::{Aggregate, FilterSpec, Having, SourceSpec, WindowSpec};
+use indexmap::IndexSet;
+use plain_data::Items;
+use std::alloc::{AllocError, Global};
+
+/// A number that is known to fit.
+#[tactic(auto, using(crate::proofs::Meets::within))]
+fn narrow(n: i64) -> u32
+    requires { is_within (pos 0) (pos 65535) n ≡ true }
+    ensures { result ≡ unsigned_abs n }
+{
+    n as u32
+}
+
+fn source_spec(source: SourceText) -> SourceSpec
+    requires { is_within (pos 1) (pos 64) source.partitions ≡ true }
+    ensures { result ≡ source_data source }
+{
+    let SourceText { uid, partitions } = source;
+    SourceSpec {
+        uid,
+        partitions: partitions as u32,
+    }
+}
+
+fn source_specs(
+    alloc: Global,
+    sources: Items<SourceText>,
+) -> Result<Items<SourceSpec>, AllocError>
+    requires { list_all (λ s. is_within (pos 1) (pos 64) s.partitions) sources ≡ true }
+    ensures { IfOk result (λ specs. specs ≡ map source_data sources) }
+{
+    let mut specs = Vec::new(alloc);
+    for source in sources.into_vec() {
+        specs.push(source_spec(source))?;
+    }
+    Ok(Items::from_vec(specs))
+}
+
+fn filter_spec(filter: FilterText, columns: i64) -> FilterSpec
+    requires columns { is_within (pos 1) (pos 16) columns ≡ true }
+    requires column { is_place columns filter.column ≡ true }
+    ensures { result ≡ filter_data filter }
+{
+    let FilterText {
+        uid,
+        column,
+        cmp,
+        value,
+    } = filter;
+    FilterSpec {
+        uid,
+        column: column as u32,
+        cmp,
+        value,
+    }
+}
+
+fn filter_specs(
+    alloc: Global,
+    filters: Items<FilterText>,
+    columns: i64,
+) -> Result<Items<FilterSpec>, AllocError>
+    requires columns { is_within (pos 1) (pos 16) columns ≡ true }
+    requires within { list_all (λ f. is_place columns f.column) filters ≡ true }
+    ensures { IfOk result (λ specs. specs ≡ map filter_data filters) }
+{
+    let mut specs = Vec::new(alloc);
+    for filter in filters.into_vec() {
+        specs.push(filter_spec(filter, columns))?;
+    }
+    Ok(Items::from_vec(specs))
+}
+
+fn aggregate_spec(aggregate: AggregateText, columns: i64) -> Aggregate
+    requires columns { is_within (pos 1) (pos 16) columns ≡ true }
+    requires column { is_aggregate_of columns aggregate ≡ true }
+    ensures { result ≡ aggregate_data aggregate }
+{
+    match aggregate {
+        AggregateText::Count => Aggregate::Count,
+        AggregateText::Sum(column) => Aggregate::Sum(column as u32),
+        AggregateText::Least(column) => Aggregate::Least(column as u32),
+        AggregateText::Greatest(column) => Aggregate::Greatest(column as u32),
+    }
+}
+
+fn aggregate_specs(
+    alloc: Global,
+    aggregates: &[AggregateText],
+    columns: i64,
+) -> Result<Items<Aggregate>, AllocError>
+    requires columns { is_within (pos 1) (pos 16) columns ≡ true }
+    requires within { list_all (is_aggregate_of columns) aggregates.now ≡ true }
+    ensures { IfOk result (λ specs. specs ≡ map aggregate_data aggregates.now) }
+{
+    let mut specs = Vec::new(alloc);
+    for aggregate in aggregates {
+        specs.push(aggregate_spec(*aggregate, columns))?;
+    }
+    Ok(Items::from_vec(specs))
+}
+
+fn having_spec(having: HavingText) -> Having
+    requires { is_place (pos 8) having.aggregate ≡ true }
+    ensures { result ≡ having_data having }
+{
+    Having {
+        aggregate: having.aggregate as u32,
+        cmp: having.cmp,
+        value: having.value,
+    }
+}
+
+fn having_specs(alloc: Global, having: &[HavingText]) -> Result<Items<Having>, AllocError>
+    requires { list_all (λ h. is_place (pos 8) h.aggregate) having.now ≡ true }
+    ensures { IfOk result (λ specs. specs ≡ map having_data having.now) }
+{
+    let mut specs = Vec::new(alloc);
+    for condition in having {
+        specs.push(having_spec(*condition))?;
+    }
+    Ok(Items::from_vec(specs))
+}
+
+fn window_spec(
+    alloc: Global,
+    window: WindowText,
+    columns: i64,
+    time: u32,
+    key: u32,
+) -> Result<WindowSpec, AllocError>
+    requires columns { is_within (pos 1) (pos 16) columns ≡ true }
+    requires aggregates { list_all (is_aggregate_of columns) window.aggregates ≡ true }
+    requires having { list_all (λ h. is_place (pos 8) h.aggregate) window.having ≡ true }
+    ensures { IfOk result (λ spec. spec ≡ window_data time key window) }
+{
+    let WindowText {
+        uid,
+        size,
+        slide,
+        offset,
+        aggregates,
+        having,
+    } = window;
+    Ok(WindowSpec {
+        uid,
+        time,
+        key,
+        size,
+        slide,
+        offset,
+        aggregates: aggregate_specs(alloc, aggregates.as_slice(), columns)?,
+        having: having_specs(alloc, having.as_slice())?,
+    })
+}
+
+/// The plan that a text is. `places` holds its uids in plan order.
+pub fn plan_of(
+    alloc: Global,
+    text: PlanText,
+    places: IndexSet<String>,
+) -> Result<Plan, AllocError>
+    requires met { first_unmet requirements text ≡ None }
+    requires places { texts places ≡ text_uids text }
+    ensures { IfOk result (λ plan. plan ≡ plan_data text) }
+{
+    let PlanText {
+        columns,
+        max,
+        time,
+        key,
+        sources,
+        filters,
+        window,
+    } = text;
+    let window = window_spec(alloc, window, columns, narrow(time), narrow(key))?;
+    let sources = source_specs(alloc, sources)?;
+    let filters = filter_specs(alloc, filters, columns)?;
+    Ok(Plan::new(
+        narrow(columns),
+        narrow(max),
+        sources,
+        filters,
+        window,
+        places,
+    ))
+}
