@@ -1,7 +1,8 @@
 -- An input as contracts see it.
-use Rattle.std.specs.Prelude.{◌≡◌, ℕ, ◌^◌, ◌≤◌, List, [], length, slice_index_or}
+use Rattle.std.specs.Prelude.{◌≡◌, ℕ, ◌^◌, ◌≤◌, List, [], length, map, slice_index_or}
 use Rattle.std.specs.List.{All, flat_map}
 use Rattle.plain_data.specs.Record.{Record, at}
+use Rattle.logical_plan.specs.PlanData.{PlanData}
 pub use Rattle.logical_plan.specs.Windows.{IsTime}
 use Rattle.stream_input.specs.declared.entry.Entry.{Entry}
 use Rattle.stream_input.specs.declared.entry.Entry.TheVariants.{Rows, Watermark}
@@ -41,3 +42,9 @@ IsEntry columns time (Watermark t) = IsTime t
 pub record IsInput (i : InputData) : Type 0 where
   pub entries : All (λ partitions. All (λ entries. All (IsEntry i.columns i.time) entries) partitions) i.sources
   pub few : length (all_records i.sources) ≤ 2 ^ 40
+
+-- the input was read by the plan: its columns and time are the plan's, and it has the plan's sources and partitions
+pub record BelongsTo (plan : PlanData) (i : InputData) : Type 0 where
+  pub columns : i.columns ≡ plan.columns
+  pub time : i.time ≡ plan.window.time
+  pub partitions : map (λ partitions. length partitions) i.sources ≡ map (λ s. s.partitions) plan.sources

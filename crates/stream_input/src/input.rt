@@ -1,8 +1,13 @@
-ghost use Rattle.std.specs.Prelude.{[], ◌≡◌, ◌<◌, length, option_copied, slice_get, slice_index_or};
-ghost use Rattle.stream_input.specs.InputData.{IsInput, partition_at};
+ghost use Rattle.std.specs.Prelude.{IfOk, [], ◌≡◌, ◌<◌, length, option_copied, slice_get, slice_index_or};
+ghost use Rattle.stream_input.specs.InputData.{IsInput, BelongsTo, partition_at};
+ghost use Rattle.stream_input.specs.Answer.{Gives, input_of_bytes};
 
 use crate::entry::Entry;
+use crate::fault::InputFault;
+use crate::reading::{drafts_of, sources_from};
+use logical_plan::Plan;
 use plain_data::Items;
+use std::alloc::Global;
 use std::marker::Model;
 
 /// The entries of one partition.
@@ -31,6 +36,25 @@ impl Model for Input {
 }
 
 impl Input {
+    /// The input that the bytes are, a JSON text, for the sources of a plan.
+    ///
+    /// # Errors
+    ///
+    /// The first fault in the order of [`InputFault`], each over the whole document before the next.
+    #[tactic(auto, unfolding(crate::specs::Answer::input_of_bytes))]
+    pub fn read(alloc: Global, plan: &Plan, bytes: &[u8]) -> Result<Input, InputFault>
+        ensures reads { Gives (λ i. i) result (input_of_bytes plan.now bytes.now) }
+        ensures belongs { IfOk result (λ i. BelongsTo plan.now i) }
+    {
+        let drafts = drafts_of(alloc, bytes)?;
+        let sources = sources_from(alloc, plan, &drafts)?;
+        Ok(Input {
+            columns: plan.columns(),
+            time: plan.window().time,
+            sources,
+        })
+    }
+
     /// The sources, in the order of the plan.
     pub fn sources(&self) -> &[Source]
         ensures says { result.now ≡ self.now.sources }
