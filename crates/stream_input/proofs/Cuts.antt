@@ -13,7 +13,7 @@ use Rattle.logical_plan.specs.Aggregates.{merge}
 use Rattle.logical_plan.specs.Rows.{aggregate_at}
 use Rattle.logical_plan.specs.Windows.{passes}
 use Rattle.logical_plan.proofs.Bags.{IsSameBag-filter}
-use Rattle.logical_plan.proofs.Places.{aggregate_at-append, aggregate_at-same}
+use Rattle.logical_plan.proofs.PlaceTotals.{aggregate_at-append, aggregate_at-same}
 use Rattle.stream_input.specs.declared.entry.Entry.{Entry}
 use Rattle.stream_input.specs.InputData.{records_of_entry, records_in}
 use Rattle.stream_input.specs.Watermarks.{records_before, records_before_in, records_between, records_between_in, IsBefore}

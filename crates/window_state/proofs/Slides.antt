@@ -19,7 +19,7 @@ use Rattle.logical_plan.specs.Windows.{IsTime, is_start, is_at, is_window_of}
 use Rattle.logical_plan.specs.Aggregates.{Aggregated, aggregate_of, merge}
 use Rattle.logical_plan.specs.Rows.{place_cmp, records_of, aggregate_at}
 use Rattle.logical_plan.proofs.Aggs.{merge_assoc}
-use Rattle.logical_plan.proofs.Places.{aggregate_at-append, merge-one}
+use Rattle.logical_plan.proofs.PlaceTotals.{aggregate_at-append, merge-one}
 use Rattle.logical_plan.proofs.Starts.{is_reached, reached_more, reached_once, reached_none, reached_all, remainder}
 use Rattle.aggregates.specs.Kinds.{AccData}
 use Rattle.window_state.specs.Windows.{total_at, is_place, HasRoom}
