@@ -1,6 +1,6 @@
 -- From drafts to tables and entries.
-use Rattle.std.proofs.Common.{◌≡◌, ℕ, ℤ, ◌<◌, ◌==◌, Bool, true, false, cond, map, length, get_or, List, [], ◌∷◌, Option, Some, Vec, Global, refl, sym, ap, ◌∙◌, arith}
-use Rattle.std.proofs.lemmas.Bool.{and_parts, eqb-true}
+use Rattle.std.proofs.Common.{◌≡◌, ℕ, ℤ, ◌<◌, ◌≤◌, ◌==◌, ◌&&◌, nat_le, Bool, true, false, cond, map, length, get_or, List, [], ◌∷◌, Option, Some, Vec, Global, refl, sym, ap, ◌∙◌, arith}
+use Rattle.std.proofs.lemmas.Bool.{and_parts, eqb-true, leb-true}
 use Rattle.std.proofs.lemmas.List.{length-map, get_or-map}
 use Rattle.std.proofs.lemmas.List.Elements.{All-weaker, All-map}
 use Rattle.std.proofs.lemmas.List.FromFn.{get_or-map-range_with_len, length-map-range_with_len}
@@ -47,6 +47,12 @@ pub wide_all : (columns : ℕ) (rows : List (Vec Cell Global)) → list_all (λ 
 wide_all columns rows passed =
     All-weaker (λ (row : Vec Cell Global). (length row.items == columns) ≡ true) (λ row. length row.items ≡ columns) (λ row e. eqb-true (length row.items) columns e) rows
     (AllPass-from_list_all (λ row. length row.items == columns) rows (sym (wide_rows columns rows) ∙ passed))
+
+-- an entry of 1 to 4,096 rows
+pub sized_few : (rows : List (Vec Cell Global)) → (nat_le 1 (length (map row_draft_text rows)) && nat_le (length (map row_draft_text rows)) 4096) ≡ true → length rows ≤ 4096
+sized_few rows sized =
+    let parts = and_parts (nat_le 1 (length (map row_draft_text rows))) (nat_le (length (map row_draft_text rows)) 4096) sized in
+    rw (length-map rows row_draft_text) at (leb-true (length (map row_draft_text rows)) 4096 parts.1)
 
 chosen_passes : (test : EntryText → Bool) (b : Bool) (m : List ℕ × List (List EntryText)) (rest : Option (List ℕ × List (List EntryText)))
     → list_all (list_all test) m.1 ≡ true → list_all (list_all test) (option_map_or (λ o. o.1) rest []) ≡ true
