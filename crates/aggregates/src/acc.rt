@@ -103,6 +103,13 @@ impl Acc {
         self.count
     }
 
+    /// The number of each aggregate, in order.
+    pub fn numbers(&self) -> &[i128]
+        ensures { result.now ≡ self.now.total.numbers }
+    {
+        &self.numbers[..self.width]
+    }
+
     /// The number of aggregate i, counted from 0.
     pub fn values(&self, i: usize) -> i128
         requires { i < length self.now.kinds }

@@ -1,5 +1,5 @@
 -- A record brought in at several windows, one after another, and several records.
-use Rattle.std.proofs.Common.{◌≡◌, ℕ, zero, suc, ℤ, pos, ◌-ℤ◌, ◌+◌, ◌*◌, ◌^◌, ◌<◌, ◌≤◌, ◌%◌, Bool, true, false, cond, ◌&&◌, ◌||◌, List, [], ◌∷◌, ◌++◌, take, length, get_or, refl, sym, ap, subst, ◌∙◌, arith, Option, Some, None, ◌≤ℤ◌, FitsSigned, to_z, of_z, if◌then◌else◌}
+use Rattle.std.proofs.Common.{◌≡◌, ℕ, ℤ, pos, ◌-ℤ◌, ◌+◌, ◌^◌, ◌<◌, ◌≤◌, ◌%◌, Bool, true, false, cond, ◌&&◌, ◌||◌, List, [], ◌∷◌, take, length, get_or, refl, sym, ap, subst, ◌∙◌, arith, Option, Some, None, ◌≤ℤ◌, FitsSigned, to_z, of_z, if◌then◌else◌}
 use Rattle.std.specs.Int.{int_rem_euclid}
 use Rattle.std.specs.List.{filter}
 use Rattle.std.specs.Option.{option_map}
@@ -15,14 +15,14 @@ use Rattle.logical_plan.specs.declared.spec.Aggregate.{Aggregate}
 use Rattle.logical_plan.specs.declared.spec.WindowSpec.{WindowSpec}
 use Rattle.logical_plan.specs.declared.spec.Place.{Place}
 use Rattle.logical_plan.specs.PlanData.{IsWindow}
-use Rattle.logical_plan.specs.Windows.{IsTime, is_start, is_at, is_window_of}
+use Rattle.logical_plan.specs.Windows.{IsTime, is_start, is_at}
 use Rattle.logical_plan.specs.Aggregates.{Aggregated, aggregate_of, merge}
 use Rattle.logical_plan.specs.Rows.{place_cmp, records_of, aggregate_at}
 use Rattle.logical_plan.proofs.Aggs.{merge_assoc}
 use Rattle.logical_plan.proofs.PlaceTotals.{aggregate_at-append, merge-one}
 use Rattle.logical_plan.proofs.Starts.{is_reached, reached_more, reached_once, reached_none, reached_all, remainder}
 use Rattle.aggregates.specs.Kinds.{AccData}
-use Rattle.window_state.specs.Windows.{total_at, is_place, HasRoom}
+use Rattle.window_state.specs.Windows.{total_at, HasRoom}
 
 step_bool : (ks : List Aggregate) (x y : Option Aggregated) (p p' e k : Bool) → p' ≡ (p || e) → (e ≡ true → p ≡ false)
     → (if e && k then merge ks (if p && k then merge ks x y else x) y else (if p && k then merge ks x y else x)) ≡ (if p' && k then merge ks x y else x)

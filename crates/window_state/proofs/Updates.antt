@@ -1,5 +1,5 @@
 -- One place of the windows is written.
-use Rattle.std.proofs.Common.{◌≡◌, ℕ, ℤ, ◌+◌, ◌-◌, ◌^◌, ◌≤◌, ◌<◌, Bool, true, false, cond, ◌&&◌, List, [], ◌∷◌, map, refl, sym, ap, subst, ◌∙◌, arith, Option, Some, None, if◌then◌else◌}
+use Rattle.std.proofs.Common.{◌≡◌, ℤ, Bool, true, false, cond, ◌&&◌, List, [], ◌∷◌, map, refl, sym, ap, subst, ◌∙◌, arith, Some, if◌then◌else◌}
 use Rattle.std.specs.Option.{option_map}
 use Rattle.std.specs.Ordering.{int_eq, int_cmp, is_eq, ordering_then}
 use Rattle.std.specs.BTreeMap.{BTreeMap, IsOrdered, get}
@@ -8,7 +8,7 @@ use Rattle.plain_data.specs.Record.{Record}
 use Rattle.logical_plan.specs.declared.spec.Aggregate.{Aggregate}
 use Rattle.logical_plan.specs.declared.spec.WindowSpec.{WindowSpec}
 use Rattle.logical_plan.specs.declared.spec.Place.{Place}
-use Rattle.logical_plan.specs.Aggregates.{Aggregated, aggregate_of, merge}
+use Rattle.logical_plan.specs.Aggregates.{aggregate_of, merge}
 use Rattle.logical_plan.specs.Rows.{place_cmp}
 use Rattle.aggregates.specs.Kinds.{AccData, kind_of}
 use Rattle.window_state.specs.Windows.{total_at, is_place, IsStart, AreWindows}

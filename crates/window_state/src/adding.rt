@@ -38,7 +38,7 @@ pub(crate) fn add_at(
     ensures windows { AreWindows w.now windows.new }
     ensures added { OnOk result ((q : PlaceValue) → total_at windows.new q
         ≡ (if is_place place q then merge w.now.aggregates (total_at windows.old q) (aggregate_of w.now.aggregates (slice_index_or batch.now.rows row [] ∷ []))
-          else total_at windows.old q)) }
+        else total_at windows.old q)) }
 {
     match windows.get_mut(&place) {
         Some(acc) => acc.add(w, batch, row),
@@ -102,12 +102,15 @@ fn add_record(
 }
 
 /// Brings each record of a batch in at each window of its time.
-pub(crate) fn add_batch(windows: &mut Windows, w: &WindowSpec, batch: &Batch) -> Result<(), AllocError>
+pub(crate) fn add_batch(
+    windows: &mut Windows,
+    w: &WindowSpec,
+    batch: &Batch,
+) -> Result<(), AllocError>
     requires window { CanAggregate batch.now.width w.now }
     requires times { All (λ r. IsTime (at w.now.time r)) batch.now.rows }
     requires windows { AreWindows w.now windows.old }
     requires room { HasRoom (length batch.now.rows) windows.old }
-    requires rows { length batch.now.rows ≤ 2 ^ 41 }
     ensures windows { AreWindows w.now windows.new }
     ensures added { OnOk result ((q : PlaceValue) → total_at windows.new q
         ≡ merge w.now.aggregates (total_at windows.old q) (aggregate_at w.now batch.now.rows q)) }

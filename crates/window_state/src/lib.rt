@@ -2,4 +2,10 @@
 #![tactic(auto)]
 
 mod adding;
+mod fault;
+mod firing;
+mod state;
 
+pub use fault::StateFault;
+pub use logical_plan::Row;
+pub use state::WindowState;

@@ -1,4 +1,4 @@
-use Rattle.std.proofs.Common.{◌≡◌, ℕ, ◌+◌, ◌≤◌, ◌<◌, [], ◌∷◌, ◌∙◌, Option, Some, None, cond, get_or, sym, ap, subst, refl, arith, map}
+use Rattle.std.proofs.Common.{◌≡◌, [], ◌∷◌, ◌∙◌, Some, None, cond, get_or, sym, ap, subst, refl}
 use Rattle.std.specs.Option.{option_map}
 use Rattle.std.specs.BTreeMap.{BTreeMap, get}
 use Rattle.logical_plan.specs.declared.spec.Place.{Place}

@@ -1,11 +1,11 @@
-use Rattle.std.proofs.Common.{◌≡◌, ◌<◌, [], get_or, length, take, ap, sym, arith}
+use Rattle.std.proofs.Common.{◌<◌, length, arith}
 use Rattle.window_state.specs.Windows.{total_at}
-use Rattle.window_state.proofs.Slides.{rows_step, rows_start, room_rows}
+use Rattle.window_state.proofs.Slides.{rows_step, room_rows}
 use Rattle.window_state.proofs.adding.add_batch.Goals as goal
 
 pub add_record-requires-clause-room : goal.add_record-requires-clause-room
 add_record-requires-clause-room c =
-    room_rows c.args.w.now c.args.batch.now.rows c.loop-row.row c.args.windows.now c.loop-row.windows (omega arith) c.requires.rows c.requires.room c.loop-row.invariant.added
+    room_rows c.args.w.now c.args.batch.now.rows c.loop-row.row c.args.windows.now c.loop-row.windows (omega arith) (omega (arith, c.len-row-end.ensures.small)) c.requires.room c.loop-row.invariant.added
 
 pub loop-row-preserved : goal.loop-row-preserved
 loop-row-preserved c =

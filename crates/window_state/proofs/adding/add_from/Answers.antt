@@ -1,11 +1,9 @@
-use Rattle.std.proofs.Common.{◌≡◌, ℕ, ℤ, pos, ◌-ℤ◌, ◌+◌, ◌<◌, ◌≤◌, ◌^◌, [], ◌∷◌, ◌∙◌, get_or, ap, sym, subst, refl, arith, rules, FitsSigned, to_z, of_z, if◌then◌else◌, ◌&&◌}
+use Rattle.std.proofs.Common.{◌≤◌, ◌^◌, [], ◌∷◌, ◌∙◌, get_or, sym, arith, rules, FitsSigned, if◌then◌else◌, ◌&&◌}
 use Rattle.std.specs.Ordering.{int_eq}
 use Rattle.logical_plan.specs.Aggregates.{aggregate_of, merge}
 use Rattle.std.specs.Int.{w64}
-use Rattle.std.proofs.lemmas.Int.{to_z-of_z, to_z_pos, ints}
 use Rattle.std.proofs.Math.Nat.{add-mod_right, mod-eq_of_lt}
 use Rattle.plain_data.specs.Record.{Record, at}
-use Rattle.logical_plan.specs.declared.spec.Place.{Place}
 use Rattle.window_state.specs.Windows.{total_at}
 use Rattle.window_state.proofs.Slides.{Sliding, sliding, held, start_is, key_is, slid_step, slid_start, slid_end, room_fresh}
 use Rattle.window_state.proofs.adding.add_from.Goals as goal
