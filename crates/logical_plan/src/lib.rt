@@ -5,12 +5,16 @@ pub mod laws;
 mod building;
 mod check;
 mod fault;
-mod plan;
 mod places;
+mod plan;
 mod plan_text;
 mod reading;
+mod record;
 mod spec;
 
 pub use fault::PlanFault;
 pub use plan::Plan;
 pub use spec::{Aggregate, FilterSpec, Having, Place, Row, SourceSpec, WindowSpec};
+
+#[cfg(test)]
+mod tests;
