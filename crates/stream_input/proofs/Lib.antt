@@ -1,4 +1,5 @@
 pub mod Drafts
 pub mod Named
 pub mod Tables
+pub mod LateRecords
 pub mod Sound

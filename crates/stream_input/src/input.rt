@@ -1,5 +1,6 @@
 ghost use Rattle.std.specs.Prelude.{IfOk, [], ◌≡◌, ◌<◌, length, option_copied, slice_get, slice_index_or};
 ghost use Rattle.stream_input.specs.InputData.{IsInput, BelongsTo, partition_at};
+ghost use Rattle.stream_input.specs.Watermarks.{IsOrderly, partition_watermark};
 ghost use Rattle.stream_input.specs.Answer.{Gives, input_of_bytes};
 
 use crate::entry::Entry;
@@ -27,12 +28,13 @@ pub struct Input {
 
 impl Model for Input {
     ghost use Rattle.stream_input.specs.InputData.{InputData, IsInput, input_data_of};
+    ghost use Rattle.stream_input.specs.Watermarks.{IsOrderly};
 
     ghost Value = { InputData };
 
     ghost view = { λ i. input_data_of i.columns i.time i.sources };
 
-    ghost invariant = { λ i. IsInput (input_data_of i.columns i.time i.sources) };
+    ghost invariant = { λ i. IsInput (input_data_of i.columns i.time i.sources) × IsOrderly i.time i.sources };
 }
 
 impl Input {
@@ -59,6 +61,7 @@ impl Input {
     pub fn sources(&self) -> &[Source]
         ensures says { result.now ≡ self.now.sources }
         ensures sound { IsInput self.now }
+        ensures orderly { IsOrderly self.now.time self.now.sources }
     {
         self.sources.as_slice()
     }

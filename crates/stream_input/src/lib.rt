@@ -8,6 +8,7 @@ mod draft;
 mod entry;
 mod fault;
 mod input;
+mod late;
 mod reading;
 mod sources;
 
