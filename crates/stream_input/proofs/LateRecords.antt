@@ -1,8 +1,9 @@
 -- The search for the first record that comes too late, and what it means where there is none.
-use Rattle.std.proofs.Common.{◌≡◌, ℕ, zero, suc, ◌+◌, ◌-◌, ◌<◌, ◌≤◌, ℤ, ◌<ℤ◌, Bool, true, false, cond, length, get_or, take, drop, List, [], ◌∷◌, ◌++◌, inl, inr, Option, Some, None, option_map, refl, arith, zero-add}
+use Rattle.std.proofs.Common.{◌≡◌, ℕ, zero, suc, ◌+◌, ◌-◌, ◌<◌, ◌≤◌, ℤ, ◌<ℤ◌, Bool, true, false, cond, length, get_or, take, drop, List, [], ◌∷◌, inl, inr, Option, Some, None, option_map, refl, arith, zero-add}
 use Rattle.std.proofs.lemmas.Bool.{ne_eqb, or_parts, cases_eq}
 use Rattle.std.proofs.lemmas.Int.{ints}
-use Rattle.std.proofs.lemmas.List.{drop_more, drop_all, take_more}
+use Rattle.std.proofs.lemmas.List.{drop_more, drop_all}
+use Rattle.std.proofs.lemmas.List.Sums.{fold_more}
 use Rattle.std.proofs.lemmas.List.Elements.{All-cons}
 use Rattle.std.proofs.lemmas.Option.{slice_get_read, slice_get-get_or}
 use Rattle.std.specs.Prelude.{int_le}
@@ -22,15 +23,11 @@ watermark_before entries n = fold (λ w e. int_max w (watermark_of_entry e)) low
 pub watermark_at : (entries : List Entry) (n : ℕ) → n < length entries → partition_watermark entries n ≡ watermark_before entries n
 watermark_at entries n h = rw (ne_eqb n (length entries) (λ e. omega arith)) refl
 
-fold_append : {A B : Type 0} (f : B → A → B) (a : B) (xs : List A) (y : A) → fold f a (xs ++ y ∷ []) ≡ f (fold f a xs) y
-fold_append f a [] y = refl
-fold_append f a (x ∷ xs) y = fold_append f (f a x) xs y
-
 -- each entry raises the watermark to its own at least
 pub watermark_more : (entries : List Entry) (n : ℕ) (e : Entry) (w m : ℤ) → n < length entries → e ≡ get_or entries n e → w ≡ watermark_before entries n → m ≡ watermark_of_entry e
     → int_max w m ≡ watermark_before entries (n + 1)
 watermark_more entries n e w m h is before own =
-    rw (take_more entries n e h, ← is, fold_append, before, own) refl
+    rw (fold_more (λ x y. int_max x (watermark_of_entry y)) lowest entries n e h, ← is, before, own) refl
 
 -- entry n is late where it has a record with at most the watermark of the entries before it
 pub late_here : (time : ℕ) (entries : List Entry) (n : ℕ) (e : Entry) (w : ℤ) → n < length entries → e ≡ get_or entries n e → w ≡ watermark_before entries n

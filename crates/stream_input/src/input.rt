@@ -1,10 +1,11 @@
-ghost use Rattle.std.specs.Prelude.{IfOk, [], ◌≡◌, ◌<◌, length, option_copied, slice_get, slice_index_or};
+ghost use Rattle.std.specs.Prelude.{IfOk, [], ◌≡◌, ◌<◌, ◌≤◌, length, option_copied, slice_get, slice_index_or};
 ghost use Rattle.stream_input.specs.InputData.{IsInput, BelongsTo, partition_at};
 ghost use Rattle.stream_input.specs.Watermarks.{IsOrderly, partition_watermark};
 ghost use Rattle.stream_input.specs.Answer.{Gives, input_of_bytes};
 
 use crate::entry::Entry;
 use crate::fault::InputFault;
+use crate::late::greatest_watermark;
 use crate::reading::{drafts_of, sources_from};
 use logical_plan::Plan;
 use plain_data::Items;
@@ -86,5 +87,25 @@ impl Input {
         let sources = self.sources.as_slice();
         let partitions = sources[source as usize].as_slice();
         partitions[partition as usize].as_slice().get(n as usize)
+    }
+
+    /// The watermark of a partition after its first n entries: no row from there on has a time of at
+    /// most that. It is the greatest i64 at the end of the partition, and the least where no watermark
+    /// came yet.
+    pub fn watermark_at(&self, source: u32, partition: u32, n: u64) -> i64
+        requires source_in { source < length self.now.sources }
+        requires partition_in { partition < length (slice_index_or self.now.sources source []) }
+        requires place_in { n ≤ length (partition_at self.now.sources source partition) }
+        ensures { result ≡ partition_watermark (partition_at self.now.sources source partition) n }
+    {
+        let sources = self.sources.as_slice();
+        let partitions = sources[source as usize].as_slice();
+        let entries = partitions[partition as usize].as_slice();
+        let count = n as usize;
+        if count == entries.len() {
+            i64::MAX
+        } else {
+            greatest_watermark(&entries[..count])
+        }
     }
 }

@@ -1,10 +1,11 @@
 //! Records that come too late.
 
 ghost use Rattle.std.specs.Prelude.{◌≡◌, ◌<◌, ◌≤◌, length, int_le};
-ghost use Rattle.std.specs.List.{All, list_any};
+ghost use Rattle.std.specs.Int.{int_max};
+ghost use Rattle.std.specs.List.{All, fold, list_any};
 ghost use Rattle.plain_data.specs.Record.{at};
 ghost use Rattle.stream_input.specs.InputData.{records_of_entry, IsEntry};
-ghost use Rattle.stream_input.specs.Watermarks.{watermark_of_entry};
+ghost use Rattle.stream_input.specs.Watermarks.{lowest, watermark_of_entry};
 ghost use Rattle.stream_input.specs.Late.{first_late_entry as first_late_said, first_at, first_late as first_of_all};
 
 use crate::entry::Entry;
@@ -74,8 +75,19 @@ fn has_at_most(times: &[i64], watermark: i64) -> bool
     times.iter().any(|time| *time <= watermark)
 }
 
+/// The greatest watermark among the entries, or the least i64 where they have none.
+pub fn greatest_watermark(entries: &[Entry]) -> i64
+    ensures { result ≡ fold (λ w e. int_max w (watermark_of_entry e)) lowest entries.now }
+{
+    let mut watermark = i64::MIN;
+    for entry in entries {
+        watermark = watermark.max(watermark_of(entry));
+    }
+    watermark
+}
+
 /// The entry's watermark, or the least i64 where it has rows.
-pub fn watermark_of(entry: &Entry) -> i64
+fn watermark_of(entry: &Entry) -> i64
     ensures { result ≡ watermark_of_entry entry.now }
 {
     match entry {
