@@ -49,7 +49,7 @@ window_data time key w = record {
   slide = w.slide;
   offset = w.offset;
   aggregates = map aggregate_data w.aggregates;
-  having = map having_data w.having
+  having = map having_data w.having;
 }
 
 -- the plan of a text that meets every requirement, in which no count or place is negative

@@ -33,10 +33,7 @@ fn source_spec(source: SourceText) -> SourceSpec
     }
 }
 
-fn source_specs(
-    alloc: Global,
-    sources: Items<SourceText>,
-) -> Result<Items<SourceSpec>, AllocError>
+fn source_specs(alloc: Global, sources: Items<SourceText>) -> Result<Items<SourceSpec>, AllocError>
     requires { list_all (λ s. is_within (pos 1) (pos 64) s.partitions) sources ≡ true }
     ensures { IfOk result (λ specs. specs ≡ map source_data sources) }
 {
@@ -166,11 +163,7 @@ fn window_spec(
 }
 
 /// The plan that a text is. `places` holds its uids in plan order.
-pub fn plan_of(
-    alloc: Global,
-    text: PlanText,
-    places: IndexSet<String>,
-) -> Result<Plan, AllocError>
+pub fn plan_of(alloc: Global, text: PlanText, places: IndexSet<String>) -> Result<Plan, AllocError>
     requires met { first_unmet requirements text ≡ None }
     requires places { texts places ≡ text_uids text }
     ensures { IfOk result (λ plan. plan ≡ plan_data text) }

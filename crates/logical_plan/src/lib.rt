@@ -4,8 +4,8 @@
 mod building;
 mod check;
 mod fault;
-mod plan;
 mod places;
+mod plan;
 mod plan_text;
 mod reading;
 mod spec;
@@ -13,3 +13,6 @@ mod spec;
 pub use fault::PlanFault;
 pub use plan::Plan;
 pub use spec::{Aggregate, FilterSpec, Having, Place, Row, SourceSpec, WindowSpec};
+
+#[cfg(test)]
+mod tests;

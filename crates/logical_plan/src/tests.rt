@@ -1,0 +1,125 @@
+use crate::{Aggregate, Plan, PlanFault};
+use std::test::Fail;
+
+const PLAN: &str =
+    r#"{"columns":3,"maxParallelism":128,"time":0,"key":1,"sources":[{"uid":"s","partitions":2}],"window":{"uid":"w","size":10,"slide":10,"offset":0,"aggregates":[{"fn":"count"},{"fn":"sum","column":2},{"fn":"least","column":2},{"fn":"greatest","column":2}]}}"#;
+
+fn fault(rt: &impl AllocGlobal, text: &str) -> Option<PlanFault> {
+    Plan::read(rt.alloc(), text.as_bytes()).err()
+}
+
+#[test]
+fn a_plan(rt: HostRuntime) -> Result<(), Fail> {
+    let plan = Plan::read(rt.alloc(), PLAN.as_bytes())?;
+    assert_eq!(rt; plan.columns(), 3);
+    assert_eq!(rt; plan.max(), 128);
+    assert_eq!(rt; plan.filters().len(), 0);
+    for source in plan.sources() {
+        assert_eq!(rt; source.uid.as_str(), "s");
+        assert_eq!(rt; source.partitions, 2);
+    }
+    assert_eq!(rt; plan.place_of("s"), Some(0));
+    assert_eq!(rt; plan.place_of("w"), Some(1));
+    assert_eq!(rt; plan.place_of("f"), None);
+    let window = plan.window().copy(rt.alloc())?;
+    assert_eq!(rt; window.uid.as_str(), "w");
+    assert_eq!(rt; (window.size, window.slide, window.offset), (10, 10, 0));
+    let want = [
+        Aggregate::Count,
+        Aggregate::Sum(2),
+        Aggregate::Least(2),
+        Aggregate::Greatest(2),
+    ];
+    assert_eq!(rt; window.aggregates.as_slice(), want.as_slice());
+    Ok(())
+}
+
+#[test]
+fn members_that_may_be_absent(rt: HostRuntime) -> Result<(), Fail> {
+    let text = PLAN.replacen(rt.alloc(), r#","slide":10,"offset":0"#, "", 1)?;
+    let plan = Plan::read(rt.alloc(), text.as_bytes())?;
+    assert_eq!(rt; (plan.window().slide, plan.window().offset), (10, 0));
+    let filters =
+        r#""filters":[{"uid":"f","column":2,"op":"gt","value":0},{"uid":"g","column":2,"op":"lt","value":100}],"window""#;
+    let text = PLAN.replacen(rt.alloc(), r#""window""#, filters, 1)?;
+    let plan = Plan::read(rt.alloc(), text.as_bytes())?;
+    assert_eq!(rt; plan.filters().len(), 2);
+    assert_eq!(rt; plan.place_of("g"), Some(2));
+    assert_eq!(rt; plan.place_of("w"), Some(3));
+    Ok(())
+}
+
+#[test]
+fn refusals(rt: HostRuntime) -> Result<(), Fail> {
+    for (old, new, want) in [
+        (PLAN, "{", "P1 NotJson"),
+        (r#""key":1,"#, "", "P2 Member"),
+        (r#""key":1,"#, r#""key":1,"extra":1,"#, "P2 Member"),
+        (r#""columns":3"#, r#""columns":3.0"#, "P2 Member"),
+        (r#""slide":10"#, r#""slide":null"#, "P2 Member"),
+        (r#""fn":"count""#, r#""fn":"count","column":2"#, "P2 Member"),
+        (r#""columns":3"#, r#""columns":17"#, "P3 Columns"),
+        (r#""column":2"#, r#""column":3"#, "P4 ColumnIndex"),
+        ("128", "32769", "P5 MaxParallelism"),
+        (r#"{"uid":"s","partitions":2}"#, "", "P6 Sources"),
+        (r#""partitions":2"#, r#""partitions":65"#, "P7 Partitions"),
+        (r#""uid":"s""#, r#""uid":"S""#, "P8 Uid"),
+        (r#""uid":"s""#, r#""uid":"w""#, "P9 UidTwice"),
+        (r#""size":10"#, r#""size":0"#, "P11 WindowSize"),
+        (r#""slide":10"#, r#""slide":0"#, "P12 WindowSlide"),
+        (r#""offset":0"#, r#""offset":10"#, "P13 WindowOffset"),
+        (r#"10,"slide":10"#, r#"257,"slide":1"#, "P14 Panes"),
+        (
+            r#""aggregates""#,
+            r#""having":[{"aggregate":-1,"op":"ge","value":1}],"aggregates""#,
+            "P15 Aggregates",
+        ),
+    ] {
+        let text = PLAN.replacen(rt.alloc(), old, new, 1)?;
+        let text = fault(&rt, text.as_str())
+            .ok_or("accepted")?
+            .to_string(rt.alloc())?;
+        assert_eq!(rt; text.as_str(), want, "at {new}");
+    }
+    Ok(())
+}
+
+#[test]
+fn limits(rt: HostRuntime) -> Result<(), Fail> {
+    for (place, before, item, count, after, want) in [
+        (PLAN, "", "[", 200, "", "P1 NotJson"),
+        (
+            r#"{"uid":"s","#,
+            "",
+            r#"{"uid":"t","partitions":1},"#,
+            8,
+            r#"{"uid":"s","#,
+            "P6 Sources",
+        ),
+        (
+            r#""aggregates""#,
+            r#""having":[{"aggregate":4,"op":"ne","value":0}"#,
+            r#",{"aggregate":0,"op":"le","value":1}"#,
+            32,
+            r#"],"aggregates""#,
+            "P10 Filters",
+        ),
+        (
+            r#"{"fn":"count"}"#,
+            "",
+            r#"{"fn":"count"},"#,
+            5,
+            r#"{"fn":"count"}"#,
+            "P15 Aggregates",
+        ),
+    ] {
+        let items = item.repeat(rt.alloc(), count)?;
+        let list = format!(in rt.alloc(); "{before}{}{after}", items.as_str())?;
+        let text = PLAN.replacen(rt.alloc(), place, list.as_str(), 1)?;
+        let text = fault(&rt, text.as_str())
+            .ok_or("accepted")?
+            .to_string(rt.alloc())?;
+        assert_eq!(rt; text.as_str(), want);
+    }
+    Ok(())
+}
