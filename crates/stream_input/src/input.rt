@@ -73,9 +73,7 @@ impl Input {
         requires partition_in { partition < length (slice_index_or self.now.sources source []) }
         ensures { result ≡ length (partition_at self.now.sources source partition) }
     {
-        let sources = self.sources.as_slice();
-        let partitions = sources[source as usize].as_slice();
-        partitions[partition as usize].len() as u64
+        self.partition(source, partition).len() as u64
     }
 
     /// Entry n of a partition, counted from 0.
@@ -84,9 +82,7 @@ impl Input {
         requires partition_in { partition < length (slice_index_or self.now.sources source []) }
         ensures { option_copied result ≡ slice_get (partition_at self.now.sources source partition) n }
     {
-        let sources = self.sources.as_slice();
-        let partitions = sources[source as usize].as_slice();
-        partitions[partition as usize].as_slice().get(n as usize)
+        self.partition(source, partition).get(n as usize)
     }
 
     /// The watermark of a partition after its first n entries: no row from there on has a time of at
@@ -98,14 +94,22 @@ impl Input {
         requires place_in { n ≤ length (partition_at self.now.sources source partition) }
         ensures { result ≡ partition_watermark (partition_at self.now.sources source partition) n }
     {
-        let sources = self.sources.as_slice();
-        let partitions = sources[source as usize].as_slice();
-        let entries = partitions[partition as usize].as_slice();
+        let entries = self.partition(source, partition);
         let count = n as usize;
         if count == entries.len() {
             i64::MAX
         } else {
             greatest_watermark(&entries[..count])
         }
+    }
+
+    fn partition(&self, source: u32, partition: u32) -> &[Entry]
+        requires source_in { source < length self.now.sources }
+        requires partition_in { partition < length (slice_index_or self.now.sources source []) }
+        ensures { result.now ≡ partition_at self.now.sources source partition }
+    {
+        let sources = self.sources();
+        let partitions = sources[source as usize].as_slice();
+        partitions[partition as usize].as_slice()
     }
 }

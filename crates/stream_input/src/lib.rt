@@ -15,3 +15,6 @@ mod sources;
 pub use entry::Entry;
 pub use fault::InputFault;
 pub use input::{Input, Partition, Source};
+
+#[cfg(test)]
+mod tests;
