@@ -5,4 +5,5 @@ pub mod Greatest
 pub mod Drafts
 pub mod Named
 pub mod Tables
+pub mod LateRecords
 pub mod Sound

@@ -7,6 +7,7 @@ pub mod InputText
 pub mod Draft
 pub mod Said
 pub mod Fault
+pub mod Late
 pub mod Requirements
 pub mod EntryTest
 pub mod Answer

@@ -1,13 +1,14 @@
 -- What an input must meet, and the fault where it does not, in the order in which they are decided.
 use Rattle.std.specs.Prelude.{ℕ, ◌^◌, ℤ, pos, neg_ℤ, int_le, int_lt, Bool, true, ◌&&◌, ◌==◌, nat_le, List, [], ◌∷◌, length, Option, Some, None, is_some, if◌then◌else◌, bytes_eq}
 use Rattle.std.specs.List.{list_all, list_any}
-use Rattle.std.specs.Option.{option_or}
+use Rattle.std.specs.Option.{option_or, option_map}
 use Rattle.plain_data.specs.Record.{at}
 use Rattle.logical_plan.specs.PlanData.{PlanData}
 use Rattle.stream_input.specs.declared.fault.InputFault.{InputFault}
 use Rattle.stream_input.specs.declared.fault.InputFault.TheVariants.{Source, Partitions, Width, Number, Rows, TimeRange, TooMany}
 use Rattle.stream_input.specs.InputData.{all_records}
 use Rattle.stream_input.specs.InputText.{EntryText, rows, watermark, InputText}
+use Rattle.stream_input.specs.Late.{late_fault, first_late}
 use Rattle.stream_input.specs.Said.{number_of, record_of, partitions_under, sources_of}
 
 -- each member names a source of the plan, and each source of the plan has a member
@@ -58,19 +59,23 @@ has_rows plan text = every_entry is_sized text
 unfoldable pub has_times : PlanData → InputText → Bool
 has_times plan text = every_entry (is_timely plan.window.time) text
 
--- at most 2^40 records
-unfoldable pub is_few : PlanData → InputText → Bool
-is_few plan text = nat_le (length (all_records (sources_of plan text))) (2 ^ 40)
-
 -- the fault of a text that does not meet the requirement
 abbrev pub Requirement : Type 0
 Requirement = PlanData → InputText → Option InputFault
+
+-- no record comes too late; the fault is that of the first that does
+unfoldable pub late_record : Requirement
+late_record plan text = option_map late_fault (first_late plan.window.time (sources_of plan text))
+
+-- at most 2^40 records
+unfoldable pub is_few : PlanData → InputText → Bool
+is_few plan text = nat_le (length (all_records (sources_of plan text))) (2 ^ 40)
 
 abbrev pub otherwise : InputFault → (PlanData → InputText → Bool) → Requirement
 otherwise fault met plan text = if met plan text then None else Some fault
 
 unfoldable pub requirements : List Requirement
-requirements = otherwise Source has_sources ∷ otherwise Partitions has_partitions ∷ otherwise Width has_width ∷ otherwise Number has_numbers ∷ otherwise Rows has_rows ∷ otherwise TimeRange has_times ∷ otherwise TooMany is_few ∷ []
+requirements = otherwise Source has_sources ∷ otherwise Partitions has_partitions ∷ otherwise Width has_width ∷ otherwise Number has_numbers ∷ otherwise Rows has_rows ∷ otherwise TimeRange has_times ∷ late_record ∷ otherwise TooMany is_few ∷ []
 
 -- the fault of the first requirement that is not met
 abbrev pub first_unmet : List Requirement → PlanData → InputText → Option InputFault

@@ -33,6 +33,14 @@ pub enum InputFault {
     /// A row's time or a watermark is not from -2^62 to 2^62 - 1.
     #[error("I8 TimeRange")]
     TimeRange,
+    /// A row comes after a watermark of its partition that is not below its time. It is the first such
+    /// row by the places, from 0, of its source in the plan, its partition and its entry.
+    #[error("I9 LateRecord {source} {partition} {entry}")]
+    LateRecord {
+        source: u32,
+        partition: u32,
+        entry: u64,
+    },
     /// There are more than 2^40 records.
     #[error("I10 TooMany")]
     TooMany,

@@ -9,9 +9,13 @@ mod entry;
 mod fault;
 mod input;
 pub mod laws;
+mod late;
 mod reading;
 mod sources;
 
 pub use entry::Entry;
 pub use fault::InputFault;
 pub use input::{Input, Partition, Source};
+
+#[cfg(test)]
+mod tests;

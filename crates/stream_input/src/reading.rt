@@ -11,6 +11,7 @@ use crate::count::is_few;
 use crate::draft::{SourceDraft, draft_of};
 use crate::fault::InputFault;
 use crate::input::Source;
+use crate::late::first_late;
 use crate::sources::{has_partitions, has_sources};
 use json_parts::{PartError, value_of};
 use logical_plan::Plan;
@@ -30,7 +31,7 @@ pub fn drafts_of(alloc: Global, bytes: &[u8]) -> Result<Vec<SourceDraft>, InputF
 }
 
 /// The partitions of each source, in the order of the plan, where every requirement is met.
-#[tactic(auto, unfolding(crate::specs::Requirements::requirements, crate::specs::Requirements::is_few))]
+#[tactic(auto, unfolding(crate::specs::Requirements::requirements, crate::specs::Requirements::late_record, crate::specs::Requirements::is_few))]
 pub fn sources_from(
     alloc: Global,
     plan: &Plan,
@@ -57,6 +58,15 @@ pub fn sources_from(
         return Err(InputFault::TimeRange);
     }
     let sources = sources_of(alloc, plan, drafts)?;
+    let columns = plan.columns() as usize;
+    let time = plan.window().time as usize;
+    if let Some((source, (partition, entry))) = first_late(columns, time, sources.as_slice()) {
+        return Err(InputFault::LateRecord {
+            source,
+            partition,
+            entry,
+        });
+    }
     if !is_few(sources.as_slice()) {
         return Err(InputFault::TooMany);
     }
