@@ -9,3 +9,4 @@ pub mod Bag
 pub mod Windows
 pub mod Aggregates
 pub mod Rows
+pub mod Alike
