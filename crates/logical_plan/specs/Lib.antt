@@ -10,3 +10,4 @@ pub mod Windows
 pub mod Aggregates
 pub mod Rows
 pub mod Alike
+pub mod Laws

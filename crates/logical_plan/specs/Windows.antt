@@ -1,5 +1,5 @@
 -- Which records pass, and in which windows they lie.
-use Rattle.std.specs.Prelude.{ℤ, pos, ◌+ℤ◌, ◌-ℤ◌, int_lt, int_le, Bool, ◌&&◌, List}
+use Rattle.std.specs.Prelude.{◌≡◌, ◌^◌, ℤ, pos, neg_ℤ, ◌+ℤ◌, ◌-ℤ◌, ◌*ℤ◌, ◌≤ℤ◌, ◌<ℤ◌, int_lt, int_le, Bool, ◌&&◌, List}
 use Rattle.std.specs.Int.{int_rem_euclid}
 use Rattle.std.specs.List.{list_all}
 use Rattle.std.specs.Ordering.{int_eq}
@@ -28,3 +28,16 @@ is_window_of w t s = is_start w s && is_within w s t
 -- the record has the place's key, and its time lies in the interval that begins at the place's start
 abbrev pub is_at : WindowSpec → Place → Record → Bool
 is_at w q r = int_eq (at w.key r) q.key && is_within w q.start (at w.time r)
+
+-- s is the offset plus a whole number of slides
+abbrev pub IsStartOf : WindowSpec → ℤ → Type 0
+IsStartOf w s = (k : ℤ) × (s ≡ w.offset +ℤ (k *ℤ w.slide))
+
+-- s begins a window of the plan, and the time t is at least s and less than s + size
+abbrev pub IsWindowOf : WindowSpec → ℤ → ℤ → Type 0
+IsWindowOf w t s = IsStartOf w s × (s ≤ℤ t) × (t <ℤ (s +ℤ w.size))
+
+-- times in range: -2^62 to 2^62 - 1
+pub record IsTime (t : ℤ) : Type 0 where
+  pub above : neg_ℤ (pos (2 ^ 62)) ≤ℤ t
+  pub below : t <ℤ pos (2 ^ 62)

@@ -1,7 +1,9 @@
 -- An input as contracts see it.
-use Rattle.std.specs.Prelude.{◌≡◌, ℕ, ℤ, pos, neg_ℤ, ◌^◌, ◌≤◌, ◌≤ℤ◌, ◌<ℤ◌, List, [], length, slice_index_or}
+use Rattle.std.specs.Prelude.{◌≡◌, ℕ, ◌^◌, ◌≤◌, List, [], length, map, slice_index_or}
 use Rattle.std.specs.List.{All, flat_map}
 use Rattle.plain_data.specs.Record.{Record, at}
+use Rattle.logical_plan.specs.PlanData.{PlanData}
+pub use Rattle.logical_plan.specs.Windows.{IsTime}
 use Rattle.stream_input.specs.declared.entry.Entry.{Entry}
 use Rattle.stream_input.specs.declared.entry.Entry.TheVariants.{Rows, Watermark}
 
@@ -31,11 +33,6 @@ records_in_source partitions = flat_map records_in partitions
 abbrev pub all_records : List (List (List Entry)) → List Record
 all_records sources = flat_map records_in_source sources
 
--- times and watermarks are from -2^62 to 2^62 - 1
-pub record IsTime (t : ℤ) : Type 0 where
-  pub above : neg_ℤ (pos (2 ^ 62)) ≤ℤ t
-  pub below : t <ℤ pos (2 ^ 62)
-
 -- rows of the input's width with times in range, or a watermark in range
 abbrev pub IsEntry : ℕ → ℕ → Entry → Type 0
 IsEntry columns time (Rows batch) = (batch.width ≡ columns) × All (λ r. IsTime (at time r)) batch.rows
@@ -45,3 +42,9 @@ IsEntry columns time (Watermark t) = IsTime t
 pub record IsInput (i : InputData) : Type 0 where
   pub entries : All (λ partitions. All (λ entries. All (IsEntry i.columns i.time) entries) partitions) i.sources
   pub few : length (all_records i.sources) ≤ 2 ^ 40
+
+-- the input was read by the plan: its columns and time are the plan's, and it has the plan's sources and partitions
+pub record BelongsTo (plan : PlanData) (i : InputData) : Type 0 where
+  pub columns : i.columns ≡ plan.columns
+  pub time : i.time ≡ plan.window.time
+  pub partitions : map (λ partitions. length partitions) i.sources ≡ map (λ s. s.partitions) plan.sources

@@ -1,0 +1,117 @@
+//! Numbers of records, kind by kind.
+
+ghost use Rattle.std.specs.Prelude.{◌≡◌, true, ◌≤◌, ◌<◌, ◌+◌, ◌^◌, [], ◌∷◌, ◌++◌, map, take, drop, length, slice_index_or, unsigned_abs};
+ghost use Rattle.std.specs.List.{All};
+ghost use Rattle.logical_plan.specs.PlanData.{has_column};
+ghost use Rattle.logical_plan.specs.Aggregates.{number_of};
+ghost use Rattle.aggregates.specs.Kinds.{merge_by, merge_all, kind_of, is_number as number_is, are_numbers as numbers_are, is_i64 as fits_i64};
+
+use crate::kind::Kind;
+use columns::Batch;
+use logical_plan::Aggregate;
+
+/// The aggregate's number of one record.
+pub(crate) fn number_of_one(aggregate: Aggregate, batch: &Batch, row: usize) -> i64
+    requires row_in { row < length batch.now.rows }
+    requires column_in { has_column batch.now.width aggregate }
+    ensures { result ≡ number_of aggregate (slice_index_or batch.now.rows row []) [] }
+{
+    match aggregate {
+        Aggregate::Count => 1,
+        Aggregate::Sum(c) => batch.value(row, c as usize),
+        Aggregate::Least(c) => batch.value(row, c as usize),
+        Aggregate::Greatest(c) => batch.value(row, c as usize),
+    }
+}
+
+/// Two numbers of one kind brought together.
+pub(crate) fn merged(kind: Kind, a: i128, b: i128) -> i128
+    requires a_small { unsigned_abs a ≤ 2 ^ 125 }
+    requires b_small { unsigned_abs b ≤ 2 ^ 125 }
+    ensures { result ≡ merge_by kind a b }
+{
+    match kind {
+        Kind::Count => a + b,
+        Kind::Sum => a + b,
+        Kind::Least => a.min(b),
+        Kind::Greatest => a.max(b),
+    }
+}
+
+/// Writes the number of one record for each aggregate.
+pub(crate) fn write_numbers(
+    numbers: &mut [i128],
+    aggregates: &[Aggregate],
+    batch: &Batch,
+    row: usize,
+)
+    requires row_in { row < length batch.now.rows }
+    requires columns_in { All (has_column batch.now.width) aggregates.now }
+    requires room { length aggregates.now ≤ length numbers.old }
+    ensures fit { All (λ a. fits_i64 (number_of a (slice_index_or batch.now.rows row []) []) ≡ true) aggregates.now }
+    ensures written { numbers.new
+        ≡ map (λ a. number_of a (slice_index_or batch.now.rows row []) []) aggregates.now ++ drop (length aggregates.now) numbers.old }
+{
+    for (i, aggregate) in aggregates.iter().enumerate() {
+        numbers[i] = number_of_one(*aggregate, batch, row) as i128;
+    }
+}
+
+/// Writes the kind of each aggregate.
+pub(crate) fn write_kinds(kinds: &mut [Kind], aggregates: &[Aggregate])
+    requires { length aggregates.now ≤ length kinds.old }
+    ensures { kinds.new ≡ map kind_of aggregates.now ++ drop (length aggregates.now) kinds.old }
+{
+    for (i, aggregate) in aggregates.iter().enumerate() {
+        kinds[i] = Kind::of(*aggregate);
+    }
+}
+
+/// Brings the other numbers in, kind by kind.
+pub(crate) fn merge_into(numbers: &mut [i128], kinds: &[Kind], others: &[i128])
+    requires room { length kinds.now ≤ length numbers.old }
+    requires others_there { length kinds.now ≤ length others.now }
+    requires small { All (λ z. unsigned_abs z ≤ 2 ^ 125) numbers.old }
+    requires others_small { All (λ z. unsigned_abs z ≤ 2 ^ 125) others.now }
+    ensures { numbers.new
+        ≡ merge_all kinds.now (take (length kinds.now) numbers.old) (take (length kinds.now) others.now) ++ drop (length kinds.now) numbers.old }
+{
+    for (i, kind) in kinds.iter().enumerate() {
+        numbers[i] = merged(*kind, numbers[i], others[i]);
+    }
+}
+
+/// Whether so many records can come to the number.
+fn is_number(count: u64, kind: Kind, number: i128) -> bool
+    requires { count ≤ 2 ^ 40 }
+    ensures { result ≡ number_is count kind number }
+{
+    match kind {
+        Kind::Count => number == count as i128,
+        Kind::Sum => number.unsigned_abs() <= count as u128 * (1 << 63),
+        Kind::Least => is_i64(number),
+        Kind::Greatest => is_i64(number),
+    }
+}
+
+fn is_i64(number: i128) -> bool
+    ensures { result ≡ fits_i64 number }
+{
+    -(1 << 63) <= number && number <= (1 << 63) - 1
+}
+
+/// Whether there is a number for each kind that so many records can come to.
+pub(crate) fn are_numbers(count: u64, kinds: &[Kind], numbers: &[i128]) -> bool
+    requires { count ≤ 2 ^ 40 }
+    ensures { result ≡ numbers_are count kinds.now numbers.now }
+{
+    if kinds.len() != numbers.len() {
+        return false;
+    }
+    for (i, kind) in kinds.iter().enumerate() {
+        if !is_number(count, *kind, numbers[i]) {
+            return false;
+        }
+    }
+    true
+}

@@ -1,0 +1,137 @@
+-- What is read of a text that meets every requirement is an input of the plan.
+use Rattle.std.proofs.Common.{option_map, ◌≡◌, ℕ, ◌^◌, ◌≤◌, ℤ, pos, neg_ℤ, ◌≤ℤ◌, ◌<ℤ◌, Bool, true, false, ◌==◌, map, length, get_or, List, [], ◌∷◌, Option, Some, None, Ok, Err, if◌then◌else◌, subst, refl, ◌∙◌, arith}
+use Rattle.std.proofs.lemmas.Bool.{and_parts, eqb-true, leb-true}
+use Rattle.std.proofs.lemmas.Int.{ints}
+use Rattle.std.proofs.lemmas.List.{length-map}
+use Rattle.std.proofs.lemmas.List.Elements.{All-map}
+use Rattle.std.proofs.lemmas.List.Sums.{AllPass-from_list_all}
+use Rattle.std.specs.Prelude.{int_le, int_lt}
+use Rattle.std.specs.List.{All, list_all}
+use Rattle.std.specs.Option.{option_map_or, option_or}
+use Rattle.plain_data.specs.Record.{at}
+use Rattle.logical_plan.specs.declared.spec.SourceSpec.{SourceSpec}
+use Rattle.logical_plan.specs.PlanData.{PlanData, IsPlan}
+use Rattle.stream_input.specs.declared.entry.Entry.{Entry}
+use Rattle.stream_input.specs.declared.fault.InputFault.{InputFault}
+use Rattle.stream_input.specs.InputData.{InputData, IsTime, IsEntry, IsInput, BelongsTo, all_records}
+use Rattle.stream_input.specs.InputText.{EntryText, rows, watermark, InputText}
+use Rattle.stream_input.specs.Said.{record_of, number_of, entry_of, partitions_under, sources_of, input_of}
+use Rattle.stream_input.specs.Requirements.{is_time, is_timely, requirements, first_unmet, has_sources, has_partitions, has_width, has_numbers, has_rows, has_times, late_record, is_few}
+use Rattle.stream_input.specs.Watermarks.{IsOrderly}
+use Rattle.stream_input.specs.Late.{first_late, late_fault}
+use Rattle.stream_input.specs.Answer.{input_or_fault}
+use Rattle.stream_input.proofs.LateRecords.{orderly}
+use Rattle.stream_input.proofs.Tables.{passes_under}
+
+le_from : (a b : ℤ) → int_le a b ≡ true → a ≤ℤ b
+le_from a b h = grind (arith, ints)
+
+lt_from : (a b : ℤ) → int_lt a b ≡ true → a <ℤ b
+lt_from a b h = grind (arith, ints)
+
+time_from : (t : ℤ) → is_time t ≡ true → IsTime t
+time_from t h =
+    let parts = and_parts (int_le (neg_ℤ (pos (2 ^ 62))) t) (int_lt t (pos (2 ^ 62))) h in
+    record { above = le_from (neg_ℤ (pos (2 ^ 62))) t parts.0; below = lt_from t (pos (2 ^ 62)) parts.1 }
+
+entry_sound : (columns time : ℕ) (e : EntryText) → is_timely time e ≡ true → IsEntry columns time (entry_of columns e)
+entry_sound columns time (rows found) timely =
+    (refl, All-map (λ r. IsTime (at time r)) record_of found (λ k d h. time_from _ (AllPass-from_list_all (λ row. is_time (at time (record_of row))) found timely k d h)))
+entry_sound columns time (watermark t) timely = time_from (number_of t) timely
+
+entries_sound : (columns time : ℕ) (es : List EntryText) → list_all (is_timely time) es ≡ true → All (IsEntry columns time) (map (entry_of columns) es)
+entries_sound columns time es timely =
+    All-map (IsEntry columns time) (entry_of columns) es (λ k d h. entry_sound columns time (get_or es k d) (AllPass-from_list_all (is_timely time) es timely k d h))
+
+partitions_sound : (columns time : ℕ) (ps : List (List EntryText)) → list_all (list_all (is_timely time)) ps ≡ true → All (λ es. All (IsEntry columns time) es) (map (map (entry_of columns)) ps)
+partitions_sound columns time ps timely =
+    All-map (λ (es : List Entry). All (IsEntry columns time) es) (map (entry_of columns)) ps
+    (λ k d h. entries_sound columns time (get_or ps k d) (AllPass-from_list_all (list_all (is_timely time)) ps timely k d h))
+
+pub sources_sound : (plan : PlanData) (text : InputText) → has_times plan text ≡ true
+    → All (λ ps. All (λ es. All (IsEntry plan.columns plan.window.time) es) ps) (sources_of plan text)
+unfolding has_times
+sources_sound plan text timely =
+    All-map (λ (ps : List (List Entry)). All (λ es. All (IsEntry plan.columns plan.window.time) es) ps) (λ (s : SourceSpec). map (map (entry_of plan.columns)) (partitions_under s.uid text)) plan.sources
+    (λ k d h. partitions_sound plan.columns plan.window.time _ (passes_under (is_timely plan.window.time) _ text timely))
+
+few_from : (plan : PlanData) (text : InputText) → is_few plan text ≡ true → length (all_records (sources_of plan text)) ≤ 2 ^ 40
+unfolding is_few
+few_from plan text h = leb-true (length (all_records (sources_of plan text))) (2 ^ 40) h
+
+pub partitions_few : (plan : PlanData) (text : InputText) → IsPlan plan → has_partitions plan text ≡ true → All (λ ps. length ps ≤ 64) (sources_of plan text)
+unfolding has_partitions
+partitions_few plan text p met =
+    All-map (λ (ps : List (List Entry)). length ps ≤ 64) (λ (s : SourceSpec). map (map (entry_of plan.columns)) (partitions_under s.uid text)) plan.sources
+    (λ k d h.
+    let counted = eqb-true _ _ (AllPass-from_list_all (λ (s : SourceSpec). length (partitions_under s.uid text) == s.partitions) plan.sources met k d h) in
+    let few = p.partitions_few k d h in
+    let long = length-map (partitions_under (get_or plan.sources k d).uid text) (map (entry_of plan.columns)) in
+    omega arith)
+
+partitions_are : (columns : ℕ) (text : InputText) (specs : List SourceSpec) → list_all (λ s. length (partitions_under s.uid text) == s.partitions) specs ≡ true
+    → map (λ ps. length ps) (map (λ s. map (map (entry_of columns)) (partitions_under s.uid text)) specs) ≡ map (λ (s : SourceSpec). s.partitions) specs
+partitions_are columns text [] met = refl
+partitions_are columns text (s ∷ ss) met =
+    let parts = and_parts (length (partitions_under s.uid text) == s.partitions) (list_all (λ s. length (partitions_under s.uid text) == s.partitions) ss) met in
+    let first : length (map (map (entry_of columns)) (partitions_under s.uid text)) ≡ s.partitions = length-map (partitions_under s.uid text) (map (entry_of columns)) ∙ eqb-true _ _ parts.0 in
+    rw (first, partitions_are columns text ss parts.1) refl
+
+met_first : (fault : InputFault) (b : Bool) (rest : Option InputFault) → option_or (if b then None else Some fault) rest ≡ None → (b ≡ true) × (rest ≡ None)
+met_first fault true rest h = (refl, h)
+met_first fault false rest h = absurd cc
+
+none_first : {X : Type 0} (o rest : Option X) → option_or o rest ≡ None → (o ≡ None) × (rest ≡ None)
+none_first None rest h = (refl, h)
+none_first (Some x) rest h = absurd cc
+
+no_map : {X Y : Type 0} (f : X → Y) (o : Option X) → option_map f o ≡ None → o ≡ None
+no_map f None h = refl
+no_map f (Some x) h = absurd cc
+
+orderly_sources : (plan : PlanData) (text : InputText) → late_record plan text ≡ None → IsOrderly plan.window.time (sources_of plan text)
+unfolding late_record
+orderly_sources plan text h = orderly plan.window.time (sources_of plan text) (no_map late_fault (first_late plan.window.time (sources_of plan text)) h)
+
+record Met (plan : PlanData) (text : InputText) : Type 0 where
+  partitions : has_partitions plan text ≡ true
+  times : has_times plan text ≡ true
+  late : late_record plan text ≡ None
+  few : is_few plan text ≡ true
+
+met : (plan : PlanData) (text : InputText) → first_unmet requirements plan text ≡ None → Met plan text
+unfolding requirements
+met plan text h =
+    let sources = met_first _ (has_sources plan text) _ h in
+    let partitions = met_first _ (has_partitions plan text) _ sources.1 in
+    let width = met_first _ (has_width plan text) _ partitions.1 in
+    let numbers = met_first _ (has_numbers plan text) _ width.1 in
+    let sized = met_first _ (has_rows plan text) _ numbers.1 in
+    let times = met_first _ (has_times plan text) _ sized.1 in
+    let late = none_first (late_record plan text) _ times.1 in
+    let few = met_first _ (is_few plan text) _ late.1 in
+    record { partitions = partitions.0; times = times.0; late = late.0; few = few.0 }
+
+no_fault : (o : Option InputFault) (said i : InputData) → option_map_or Err o (Ok said) ≡ Ok i → (o ≡ None) × (said ≡ i)
+no_fault None said i h = (refl, cc)
+no_fault (Some fault) said i h = absurd cc
+
+is_input : (plan : PlanData) (text : InputText) → Met plan text → IsInput (input_of plan text)
+is_input plan text m = record { entries = sources_sound plan text m.times; few = few_from plan text m.few }
+
+belongs_to : (plan : PlanData) (text : InputText) → Met plan text → BelongsTo plan (input_of plan text)
+unfolding has_partitions
+belongs_to plan text m = record { columns = refl; time = refl; partitions = partitions_are plan.columns text plan.sources m.partitions }
+
+-- what is known of an input that is read
+pub record IsRead (plan : PlanData) (i : InputData) : Type 0 where
+  pub input : IsInput i
+  pub orderly : IsOrderly i.time i.sources
+  pub belongs : BelongsTo plan i
+
+pub sound : (plan : PlanData) (text : InputText) (i : InputData) → input_or_fault plan text ≡ Ok i → IsRead plan i
+sound plan text i h =
+    let none = no_fault (first_unmet requirements plan text) (input_of plan text) i h in
+    let m = met plan text none.0 in
+    let P : InputData → Type 0 = λ x. IsRead plan x in
+    subst P none.1 (record { input = is_input plan text m; orderly = orderly_sources plan text m.late; belongs = belongs_to plan text m })

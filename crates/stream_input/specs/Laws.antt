@@ -1,0 +1,42 @@
+-- The laws of watermarks, cuts and the plan's rows.
+use Rattle.std.specs.Prelude.{◌≡◌, ◌≢◌, ℕ, ℤ, ◌≤ℤ◌, ◌⊎◌, true, List, length, take, Option}
+use Rattle.std.specs.List.{All, AllByRecursion, list_any}
+use Rattle.std.specs.Ordering.{int_eq}
+use Rattle.logical_plan.specs.declared.spec.Place.{Place}
+use Rattle.logical_plan.specs.declared.spec.Row.{Row}
+use Rattle.logical_plan.specs.declared.spec.WindowSpec.{WindowSpec}
+use Rattle.logical_plan.specs.PlanData.{PlanData}
+use Rattle.logical_plan.specs.Aggregates.{merge}
+use Rattle.logical_plan.specs.Rows.{is_due}
+use Rattle.stream_input.specs.declared.entry.Entry.{Entry}
+use Rattle.stream_input.specs.Watermarks.{lowest, highest, watermark_of_entry, partition_watermark, merged_watermark, records_before, records_between, full_cut, IsOrderly, IsCut, IsBefore}
+use Rattle.stream_input.specs.PlanRows.{plan_aggregate}
+use Rattle.stream_input.specs.Text.{IsTextOf}
+
+-- short of its end, a partition's watermark is at least each watermark before it, and is one of them or the least i64
+abbrev pub WatermarkIsGreatest : Type 0
+WatermarkIsGreatest = (p : List Entry) (n : ℕ) → n ≢ length p
+    → All (λ e. watermark_of_entry e ≤ℤ partition_watermark p n) (take n p)
+    × ((partition_watermark p n ≡ lowest) ⊎ (list_any (λ e. int_eq (watermark_of_entry e) (partition_watermark p n)) (take n p) ≡ true))
+
+-- what stands in a window that is due at a cut is all that will ever stand there
+abbrev pub DueIsSettled : Type 0
+DueIsSettled = (plan : PlanData) (sources : List (List (List Entry))) (cut : List (List ℕ)) (q : Place) → IsOrderly plan.window.time sources → IsCut sources cut
+    → is_due plan.window (merged_watermark sources cut) q.start ≡ true
+    → plan_aggregate plan (records_before sources (full_cut sources)) q ≡ plan_aggregate plan (records_before sources cut) q
+
+-- what is due at a cut is due at each later one
+abbrev pub DueStays : Type 0
+DueStays = (w : WindowSpec) (sources : List (List (List Entry))) (b c : List (List ℕ)) (s : ℤ)
+    → AllByRecursion (AllByRecursion (λ p. All (λ e. watermark_of_entry e ≤ℤ highest) p)) sources → IsBefore b c → IsCut sources c
+    → is_due w (merged_watermark sources b) s ≡ true → is_due w (merged_watermark sources c) s ≡ true
+
+-- what stands at a place at a cut is what stood there at an earlier one, merged with the records between
+abbrev pub CutsMerge : Type 0
+CutsMerge = (plan : PlanData) (sources : List (List (List Entry))) (b c : List (List ℕ)) (q : Place) → IsBefore b c
+    → plan_aggregate plan (records_before sources c) q
+    ≡ merge plan.window.aggregates (plan_aggregate plan (records_before sources b) q) (plan_aggregate plan (records_between sources b c) q)
+
+-- rows have one text
+abbrev pub TextIsDetermined : Type 0
+TextIsDetermined = (f : Place → Option Row) (s t : List ℕ) → IsTextOf f s → IsTextOf f t → s ≡ t

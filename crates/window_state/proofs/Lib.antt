@@ -1,0 +1,4 @@
+pub mod Updates
+pub mod Slides
+pub mod Entries
+pub mod Rows

@@ -1,0 +1,224 @@
+-- A record brought in at several windows, one after another, and several records.
+use Rattle.std.proofs.Common.{◌≡◌, ℕ, ℤ, pos, ◌-ℤ◌, ◌+◌, ◌^◌, ◌<◌, ◌≤◌, ◌%◌, Bool, true, false, cond, ◌&&◌, ◌||◌, List, [], ◌∷◌, take, length, get_or, refl, sym, ap, subst, ◌∙◌, arith, Option, Some, None, ◌≤ℤ◌, FitsSigned, to_z, of_z, if◌then◌else◌}
+use Rattle.std.specs.Int.{int_rem_euclid}
+use Rattle.std.specs.List.{filter}
+use Rattle.std.specs.Option.{option_map}
+use Rattle.std.specs.Ordering.{int_eq}
+use Rattle.std.specs.BTreeMap.{BTreeMap, get}
+use Rattle.std.specs.Int.{w64}
+use Rattle.std.specs.Int.Signed.{pos-nat_abs, yes_non_neg}
+use Rattle.std.proofs.Math.IntN.{nat_abs}
+use Rattle.std.proofs.lemmas.Int.{ints, to_z-of_z, to_z_pos}
+use Rattle.std.proofs.lemmas.List.{take_more, length-take}
+use Rattle.plain_data.specs.Record.{Record, at}
+use Rattle.logical_plan.specs.declared.spec.Aggregate.{Aggregate}
+use Rattle.logical_plan.specs.declared.spec.WindowSpec.{WindowSpec}
+use Rattle.logical_plan.specs.declared.spec.Place.{Place}
+use Rattle.logical_plan.specs.PlanData.{IsWindow}
+use Rattle.logical_plan.specs.Windows.{IsTime, is_start, is_at}
+use Rattle.logical_plan.specs.Aggregates.{Aggregated, aggregate_of, merge}
+use Rattle.logical_plan.specs.Rows.{place_cmp, records_of, aggregate_at}
+use Rattle.logical_plan.proofs.Aggs.{merge_assoc}
+use Rattle.logical_plan.proofs.PlaceTotals.{aggregate_at-append, merge-one}
+use Rattle.logical_plan.proofs.Starts.{is_reached, reached_more, reached_once, reached_none, reached_all, remainder}
+use Rattle.aggregates.specs.Kinds.{AccData}
+use Rattle.window_state.specs.Windows.{total_at, HasRoom}
+
+step_bool : (ks : List Aggregate) (x y : Option Aggregated) (p p' e k : Bool) → p' ≡ (p || e) → (e ≡ true → p ≡ false)
+    → (if e && k then merge ks (if p && k then merge ks x y else x) y else (if p && k then merge ks x y else x)) ≡ (if p' && k then merge ks x y else x)
+step_bool ks x y p p' false k is once = elim p as (λ b. p' ≡ (b || false) → (if b && k then merge ks x y else x) ≡ (if p' && k then merge ks x y else x)) [
+  | true ↦ λ e. rw e refl
+  | false ↦ λ e. rw e refl
+] is
+step_bool ks x y p p' true false is once = elim p as (λ b. (if b && false then merge ks x y else x) ≡ (if p' && false then merge ks x y else x)) [
+  | true ↦ no_key p'
+  | false ↦ no_key p'
+] where
+  no_key : (b : Bool) → x ≡ (if b && false then merge ks x y else x)
+  no_key true = refl
+  no_key false = refl
+step_bool ks x y p p' true true is once =
+    let was : p ≡ false = once refl in
+    let now : p' ≡ true = is ∙ ap (λ b. b || true) was in
+    rw (was, now) refl
+
+-- what stands at a place, once the record is in the windows that begin less than b before its time
+abbrev pub slid : WindowSpec → Record → Option Aggregated → Place → ℕ → Option Aggregated
+slid w r x q b = if is_reached w (at w.time r) b q.start && int_eq (at w.key r) q.key then merge w.aggregates x (aggregate_of w.aggregates (r ∷ [])) else x
+
+-- one window more
+pub slid_step : (w : WindowSpec) (r : Record) (x now : Option Aggregated) (q : Place) (b n m rest : ℕ) → 0 < n → w.slide ≡ pos n → w.size ≡ pos m
+    → int_rem_euclid (at w.time r -ℤ w.offset) (pos n) ≡ pos rest → b % n ≡ rest → b < m → now ≡ slid w r x q b
+    → (if int_eq (at w.time r -ℤ pos b) q.start && int_eq (at w.key r) q.key then merge w.aggregates now (aggregate_of w.aggregates (r ∷ [])) else now) ≡ slid w r x q (b + n)
+slid_step w r x now q b n m rest h slide size is e low had =
+    let t : ℤ = at w.time r in
+    let y : Option Aggregated = aggregate_of w.aggregates (r ∷ []) in
+    ap (λ o. if int_eq (t -ℤ pos b) q.start && int_eq (at w.key r) q.key then merge w.aggregates o y else o) had
+    ∙ step_bool w.aggregates x y (is_reached w t b q.start) (is_reached w t (b + n) q.start) (int_eq (t -ℤ pos b) q.start) (int_eq (at w.key r) q.key)
+    (reached_more w t q.start b n m rest h slide size is e low) (reached_once w t q.start b)
+
+pub slid_start : (w : WindowSpec) (r : Record) (x : Option Aggregated) (q : Place) (n m rest : ℕ) → 0 < n → w.slide ≡ pos n → w.size ≡ pos m
+    → int_rem_euclid (at w.time r -ℤ w.offset) (pos n) ≡ pos rest → rest < n → x ≡ slid w r x q rest
+slid_start w r x q n m rest h slide size is low =
+    sym (ap (λ b. if b && int_eq (at w.key r) q.key then merge w.aggregates x (aggregate_of w.aggregates (r ∷ [])) else x) (reached_none w (at w.time r) q.start n m rest h slide size is low))
+
+pub slid_end : (w : WindowSpec) (r : Record) (x : Option Aggregated) (q : Place) (b n m rest : ℕ) → 0 < n → w.slide ≡ pos n → w.size ≡ pos m
+    → int_rem_euclid (at w.time r -ℤ w.offset) (pos n) ≡ pos rest → m ≤ b → slid w r x q b ≡ merge w.aggregates x (aggregate_at w (r ∷ []) q)
+slid_end w r x q b n m rest h slide size is high =
+    ap (λ p. if p && int_eq (at w.key r) q.key then merge w.aggregates x (aggregate_of w.aggregates (r ∷ [])) else x) (reached_all w (at w.time r) q.start b n m rest h slide size is high)
+    ∙ merge-one w r q x
+
+-- at a window that begins b before the time, the record is not in yet
+pub slid_fresh : (w : WindowSpec) (r : Record) (x : Option Aggregated) (q : Place) (b : ℕ) → int_eq (at w.time r -ℤ pos b) q.start ≡ true → slid w r x q b ≡ x
+slid_fresh w r x q b h =
+    ap (λ p. if p && int_eq (at w.key r) q.key then merge w.aggregates x (aggregate_of w.aggregates (r ∷ [])) else x) (reached_once w (at w.time r) q.start b h)
+
+is_itself : (a : ℤ) → int_eq a a ≡ true
+is_itself a = grind (arith, ints)
+
+some_total : (o : Option AccData) (x : Option Aggregated) (a : AccData) → option_map (λ b. b.total) o ≡ x → o ≡ Some a → x ≡ Some a.total
+some_total o x a e is = sym e ∙ ap (option_map (λ b. b.total)) is
+
+total_of : (m : BTreeMap Place AccData) (q : Place) (t : Aggregated) → total_at m q ≡ Some t → (b : AccData) × (get place_cmp m q ≡ Some b) × (b.total ≡ t)
+total_of m q t h = by_case (get place_cmp m q) refl
+  where
+    by_case : (o : Option AccData) → get place_cmp m q ≡ o → (b : AccData) × (get place_cmp m q ≡ Some b) × (b.total ≡ t)
+    by_case None e = absurd (let none : None ≡ Some t = sym (ap (option_map (λ (b : AccData). b.total)) e) ∙ h in cc)
+    by_case (Some b) e = (b, e, (let same : Some b.total ≡ Some t = sym (ap (option_map (λ (c : AccData). c.total)) e) ∙ h in cc))
+
+-- so the window there can take it
+pub room_fresh : (w : WindowSpec) (r : Record) (old now : BTreeMap Place AccData) (q : Place) (b : ℕ) → at w.time r -ℤ pos b ≡ q.start → HasRoom 1 old
+    → total_at now q ≡ slid w r (total_at old q) q b → (a : AccData) → get place_cmp now q ≡ Some a → a.total.count < 2 ^ 41
+room_fresh w r old now q b begins room is a has =
+    let fresh : slid w r (total_at old q) q b ≡ total_at old q = slid_fresh w r (total_at old q) q b (ap (λ s. int_eq s q.start) begins ∙ is_itself q.start) in
+    let same : total_at old q ≡ Some a.total = some_total (get place_cmp now q) (total_at old q) a (is ∙ fresh) has in
+    let found = total_of old q a.total same in
+    let most = room q found.0 found.1 in
+    let count = ap (λ (t : Aggregated). t.count) found.2 in
+    omega (arith, most, count)
+
+-- ---- several records
+
+-- one record more
+pub rows_step : (w : WindowSpec) (rs : List Record) (i : ℕ) (old now after : Option Aggregated) (q : Place) → i < length rs
+    → now ≡ merge w.aggregates old (aggregate_at w (take i rs) q) → after ≡ merge w.aggregates now (aggregate_at w (get_or rs i [] ∷ []) q)
+    → after ≡ merge w.aggregates old (aggregate_at w (take (i + 1) rs) q)
+rows_step w rs i old now after q h is more =
+    more
+    ∙ ap (λ o. merge w.aggregates o (aggregate_at w (get_or rs i [] ∷ []) q)) is
+    ∙ merge_assoc w.aggregates old (aggregate_at w (take i rs) q) (aggregate_at w (get_or rs i [] ∷ []) q)
+    ∙ sym (ap (merge w.aggregates old) (ap (λ l. aggregate_at w l q) (take_more rs i [] h) ∙ aggregate_at-append w (take i rs) (get_or rs i [] ∷ []) q))
+
+length-filter : {X : Type 0} (p : X → Bool) (xs : List X) → length (filter p xs) ≤ length xs
+length-filter p [] = omega arith
+length-filter p (x ∷ xs) = elim (p x) as (λ b. length (cond b (x ∷ filter p xs) (filter p xs)) ≤ length (x ∷ xs)) [
+  | true ↦ let h = length-filter p xs in omega (arith, h)
+  | false ↦ let h = length-filter p xs in omega (arith, h)
+]
+
+abbrev pub count_or : Option Aggregated → ℕ
+count_or None = 0
+count_or (Some a) = a.count
+
+count_of : (ks : List Aggregate) (rs : List Record) → count_or (aggregate_of ks rs) ≡ length rs
+count_of ks [] = refl
+count_of ks (r ∷ rs) = refl
+
+count_at : (w : WindowSpec) (rs : List Record) (q : Place) → count_or (aggregate_at w rs q) ≤ length rs
+count_at w rs q = elim (is_start w q.start) as (λ b. count_or (if b then aggregate_of w.aggregates (records_of w q rs) else None) ≤ length rs) [
+  | true ↦ omega (arith, count_of w.aggregates (records_of w q rs), length-filter (is_at w q) rs)
+  | false ↦ omega arith
+]
+
+count_merge : (ks : List Aggregate) (a b : Option Aggregated) → count_or (merge ks a b) ≡ count_or a + count_or b
+count_merge ks None b = omega arith
+count_merge ks (Some a) None = omega arith
+count_merge ks (Some a) (Some b) = refl
+
+count_old : (n : ℕ) (m : BTreeMap Place AccData) (q : Place) → HasRoom n m → n ≤ 2 ^ 41 → count_or (total_at m q) + n ≤ 2 ^ 41
+count_old n m q room few = by_case (get place_cmp m q) refl
+  where
+    by_case : (o : Option AccData) → get place_cmp m q ≡ o → count_or (option_map (λ b. b.total) (get place_cmp m q)) + n ≤ 2 ^ 41
+    by_case None e = rw e (omega (arith, few))
+    by_case (Some b) e = rw e (room q b e)
+
+-- after i records of n there is room for one more
+pub room_rows : (w : WindowSpec) (rs : List Record) (i : ℕ) (old now : BTreeMap Place AccData) → i < length rs → length rs ≤ 2 ^ 41 → HasRoom (length rs) old
+    → ((q : Place) → total_at now q ≡ merge w.aggregates (total_at old q) (aggregate_at w (take i rs) q)) → HasRoom 1 now
+room_rows w rs i old now h few room is q a has =
+    let t : Some a.total ≡ merge w.aggregates (total_at old q) (aggregate_at w (take i rs) q) = sym (some_total (get place_cmp now q) (total_at now q) a refl has) ∙ is q in
+    let count = ap count_or t in
+    omega (arith, count, count_merge w.aggregates (total_at old q) (aggregate_at w (take i rs) q), count_at w (take i rs) q, length-take i rs, count_old (length rs) old q room few)
+
+pub rows_none : (w : WindowSpec) (q : Place) → aggregate_at w [] q ≡ None
+rows_none w q = same_either (is_start w q.start)
+  where
+    same_either : (b : Bool) → (let none : Option Aggregated = None in cond b none none ≡ none)
+    same_either true = refl
+    same_either false = refl
+
+merge_None : (ks : List Aggregate) (x : Option Aggregated) → merge ks x None ≡ x
+merge_None ks None = refl
+merge_None ks (Some x) = refl
+
+pub rows_start : (w : WindowSpec) (q : Place) (x : Option Aggregated) → x ≡ merge w.aggregates x (aggregate_at w [] q)
+rows_start w q x = sym (ap (merge w.aggregates x) (rows_none w q) ∙ merge_None w.aggregates x)
+
+-- ---- the numbers of a window as the code holds them
+
+pub record Sliding (w : WindowSpec) (r : Record) (n m rest : ℕ) : Type 0 where
+  pub slide : w.slide ≡ pos n
+  pub size : w.size ≡ pos m
+  pub some : 0 < n
+  pub slide_small : n ≤ 2 ^ 40
+  pub size_small : m ≤ 2 ^ 40
+  pub rem : int_rem_euclid (at w.time r -ℤ w.offset) (pos n) ≡ pos rest
+  pub low : rest < n
+
+abbrev pub held : ℤ → ℕ
+held z = nat_abs (to_z w64 (of_z w64 z))
+
+positive_is : (z : ℤ) → FitsSigned w64 z → pos 1 ≤ℤ z → z ≡ pos (held z)
+positive_is z fits h =
+    let above : pos 0 ≤ℤ z = omega (arith, ints) in
+    sym (ap (λ y. pos (nat_abs y)) (to_z-of_z w64 z fits) ∙ pos-nat_abs z (yes_non_neg above))
+
+pos_same : (a b : ℕ) → pos a ≡ pos b → a ≡ b
+pos_same a b e = cc
+
+at_least_one : (z : ℤ) (n : ℕ) → z ≡ pos n → pos 1 ≤ℤ z → 0 < n
+at_least_one z n e h = omega (arith, ints)
+
+at_most : (z : ℤ) (n m : ℕ) → z ≡ pos n → z ≤ℤ pos m → n ≤ m
+at_most z n m e h = omega (arith, ints)
+
+fits_window : (z : ℤ) → pos 1 ≤ℤ z → z ≤ℤ pos (2 ^ 40) → FitsSigned w64 z
+fits_window z h k = grind (arith, ints)
+
+pub sliding : (w : WindowSpec) (r : Record) (rest : ℕ) → IsWindow w → int_rem_euclid (at w.time r -ℤ w.offset) w.slide ≡ pos rest → Sliding w r (held w.slide) (held w.size) rest
+sliding w r rest h is =
+    let slide : w.slide ≡ pos (held w.slide) = positive_is w.slide (fits_window w.slide h.slides h.slide_small) h.slides in
+    let some : 0 < held w.slide = at_least_one w.slide (held w.slide) slide h.slides in
+    let rem : int_rem_euclid (at w.time r -ℤ w.offset) (pos (held w.slide)) ≡ pos rest = ap (int_rem_euclid (at w.time r -ℤ w.offset)) (sym slide) ∙ is in
+    let found : (k : ℕ) × (k < held w.slide) × (int_rem_euclid (at w.time r -ℤ w.offset) (pos (held w.slide)) ≡ pos k) = remainder (at w.time r -ℤ w.offset) (held w.slide) some in
+    record {
+      slide = slide;
+      size = positive_is w.size (fits_window w.size h.sized h.size_small) h.sized;
+      some = some;
+      slide_small = at_most w.slide (held w.slide) (2 ^ 40) slide h.slide_small;
+      size_small = at_most w.size (held w.size) (2 ^ 40) (positive_is w.size (fits_window w.size h.sized h.size_small) h.sized) h.size_small;
+      rem = rem;
+      low = subst (λ k. k < held w.slide) (pos_same found.0 rest (sym found.2 ∙ rem)) found.1;
+    }
+
+fits_start : (t : ℤ) (b : ℕ) → IsTime t → b ≤ 2 ^ 40 → FitsSigned w64 (t -ℤ pos b)
+fits_start t b h k = let above = h.above in let below = h.below in grind (arith, ints)
+
+-- the start of a window as the code computes it
+pub start_is : (t x : ℤ) (b : ℕ) → FitsSigned w64 x → x ≡ t → IsTime t → b ≤ 2 ^ 40 → to_z w64 (of_z w64 (to_z w64 (of_z w64 x) -ℤ to_z w64 b)) ≡ t -ℤ pos b
+start_is t x b fits is time small =
+    let back : to_z w64 b ≡ pos b = to_z_pos w64 b (omega arith) in
+    (λ i. to_z w64 (of_z w64 ((to_z-of_z w64 x fits ∙ is) i -ℤ back i))) ∙ to_z-of_z w64 (t -ℤ pos b) (fits_start t b time small)
+
+pub key_is : (k x : ℤ) → FitsSigned w64 x → x ≡ k → to_z w64 (of_z w64 x) ≡ k
+key_is k x fits is = to_z-of_z w64 x fits ∙ is

@@ -1,0 +1,5 @@
+pub mod Windows
+pub mod State
+pub mod StateView
+pub mod Codes
+pub mod Firing

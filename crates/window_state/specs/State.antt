@@ -1,0 +1,27 @@
+-- A window state as contracts see it.
+use Rattle.std.specs.Prelude.{◌≡◌, ℕ, ℤ, ◌+◌, ◌^◌, ◌≤◌, map, Bool, List, Option, Some, None, option_map, if◌then◌else◌}
+use Rattle.std.specs.FinMap.{FinMap, get}
+use Rattle.logical_plan.specs.declared.spec.WindowSpec.{WindowSpec}
+use Rattle.logical_plan.specs.declared.spec.Place.{Place}
+use Rattle.logical_plan.specs.declared.spec.Row.{Row}
+use Rattle.logical_plan.specs.Aggregates.{Aggregated}
+use Rattle.logical_plan.specs.Rows.{place_cmp, is_due, row_at}
+use Rattle.aggregates.specs.Kinds.{AccData}
+
+-- the window operator, what stands in its open windows, and whether an `add` found no memory
+pub record StateData : Type 0 where
+  pub window : WindowSpec
+  pub windows : FinMap place_cmp Aggregated
+  pub has_failed : Bool
+
+-- what stands at the places of entries
+abbrev pub totals : List (Place × AccData) → List (Place × Aggregated)
+totals entries = map (λ e. (e.0, e.1.total)) entries
+
+-- each window can take so many records more
+abbrev pub HasRoomFor : ℕ → FinMap place_cmp Aggregated → Type 0
+HasRoomFor n m = (q : Place) (a : Aggregated) → get m q ≡ Some a → a.count + n ≤ 2 ^ 41
+
+-- the row of each place whose window fires by a watermark
+abbrev pub fired : WindowSpec → ℤ → (Place → Option Aggregated) → Place → Option Row
+fired w watermark f q = if is_due w watermark q.start then option_map (row_at w q) (f q) else None

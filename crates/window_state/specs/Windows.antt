@@ -1,0 +1,47 @@
+-- The windows of a state as a function of a place, and what every state's windows meet.
+use Rattle.std.specs.Prelude.{◌≡◌, ℕ, ℤ, pos, neg_ℤ, ◌+◌, ◌^◌, ◌≤◌, ◌<◌, ◌<ℤ◌, length, map, Option, Some, option_map, Bool, ◌&&◌}
+use Rattle.std.specs.BTreeMap.{BTreeMap, IsOrdered, get}
+use Rattle.std.specs.Ordering.{int_eq}
+use Rattle.std.specs.List.{All}
+use Rattle.logical_plan.specs.declared.spec.WindowSpec.{WindowSpec}
+use Rattle.logical_plan.specs.declared.spec.Place.{Place}
+use Rattle.logical_plan.specs.PlanData.{IsWindow, has_column}
+use Rattle.logical_plan.specs.Aggregates.{Aggregated}
+use Rattle.logical_plan.specs.Rows.{place_cmp}
+use Rattle.aggregates.specs.Kinds.{AccData, kind_of}
+
+-- what stands at a place
+abbrev pub total_at : BTreeMap Place AccData → Place → Option Aggregated
+total_at m q = option_map (λ a. a.total) (get place_cmp m q)
+
+-- p is the place q
+abbrev pub is_place : Place → Place → Bool
+is_place p q = int_eq p.start q.start && int_eq p.key q.key
+
+-- the starts of windows of times in range
+pub record IsStart (s : ℤ) : Type 0 where
+  pub above : neg_ℤ (pos (2 ^ 62 + 2 ^ 40)) <ℤ s
+  pub below : s <ℤ pos (2 ^ 62)
+
+-- the windows are in order, each has the plan's aggregates, and a start in range
+pub record AreWindows (w : WindowSpec) (m : BTreeMap Place AccData) : Type 0 where
+  pub ordered : IsOrdered place_cmp m
+  pub kinds : (q : Place) (a : AccData) → get place_cmp m q ≡ Some a → a.kinds ≡ map kind_of w.aggregates
+  pub starts : (q : Place) (a : AccData) → get place_cmp m q ≡ Some a → IsStart q.start
+
+-- each window can take so many records more
+abbrev pub HasRoom : ℕ → BTreeMap Place AccData → Type 0
+HasRoom n m = (q : Place) (a : AccData) → get place_cmp m q ≡ Some a → a.total.count + n ≤ 2 ^ 41
+
+-- a window operator as every plan has it
+pub record IsOperator (w : WindowSpec) : Type 0 where
+  pub range : IsWindow w
+  pub some : 1 ≤ length w.aggregates
+  pub few : length w.aggregates ≤ 8
+
+-- it finds its columns in records of the width
+pub record CanAggregate (width : ℕ) (w : WindowSpec) : Type 0 where
+  pub operator : IsOperator w
+  pub time : w.time < width
+  pub key : w.key < width
+  pub columns : All (has_column width) w.aggregates

@@ -1,0 +1,11 @@
+//! The state of the window operator: what stands in each window and key that has not fired.
+#![tactic(auto)]
+
+mod adding;
+mod fault;
+mod firing;
+mod state;
+
+pub use fault::StateFault;
+pub use logical_plan::Row;
+pub use state::WindowState;

@@ -1,0 +1,105 @@
+ghost use Rattle.std.specs.Prelude.{◌≡◌, true, false, not, ◌≤◌, ◌↔◌, length, Option, IfOk, OnOk, OnErr, IsErrOf};
+ghost use Rattle.std.specs.List.{All};
+ghost use Rattle.std.specs.List.Sorted.{IsSortedByKey};
+ghost use Rattle.std.specs.FinMap as map;
+ghost use Rattle.plain_data.specs.Record.{at};
+ghost use Rattle.logical_plan.specs.declared.spec.Place.{Place as PlaceValue};
+ghost use Rattle.logical_plan.specs.Windows.{IsTime};
+ghost use Rattle.logical_plan.specs.Aggregates.{merge};
+ghost use Rattle.logical_plan.specs.Rows.{aggregate_at, is_due, place_of, place_cmp, AreRowsOf};
+ghost use Rattle.window_state.specs.Windows.{IsOperator, CanAggregate};
+ghost use Rattle.window_state.specs.State.{HasRoomFor, fired};
+
+use crate::adding::{Windows, add_batch};
+use crate::fault::StateFault;
+use crate::firing::{remove_due, rows_of};
+use columns::Batch;
+use logical_plan::{Row, WindowSpec};
+use std::alloc::Global;
+use std::collections::BTreeMap;
+use std::marker::Model;
+
+/// What stands in the windows that have not fired: for each place, a window's start and a key, what its
+/// records come to.
+#[derive(Drop)]
+pub struct WindowState {
+    alloc: Global,
+    window: WindowSpec,
+    windows: Windows,
+    has_failed: bool,
+}
+
+impl Model for WindowState {
+    ghost use Rattle.window_state.specs.State.{StateData};
+
+    ghost Value = { StateData };
+
+    ghost use Rattle.std.specs.Coded.{codes};
+    ghost use Rattle.window_state.specs.Codes.{windows_code};
+
+    ghost coded = { Prim.hlevel (codes, windows_code) };
+
+    ghost use Rattle.window_state.specs.StateView.{state_view, IsStateInside};
+
+    ghost view = { state_view };
+
+    ghost invariant = { IsStateInside };
+}
+
+impl WindowState {
+    /// The state of a window operator that no record has reached.
+    pub fn new(alloc: Global, window: &WindowSpec) -> Result<WindowState, StateFault>
+        requires { IsOperator window.now }
+        ensures made { IfOk result (λ state. state ≡ record { window = window.now; windows = map.empty; has_failed = false }) }
+    {
+        Ok(WindowState {
+            alloc,
+            window: window.copy(alloc)?,
+            windows: BTreeMap::new(alloc),
+            has_failed: false,
+        })
+    }
+
+    /// Brings each row of a batch in at each window of its time. Where no memory is to be had, some rows
+    /// may be in and others not, and every later call answers `Failed`.
+    pub fn add(&mut self, batch: &Batch) -> Result<(), StateFault>
+        requires window { CanAggregate batch.now.width self.old.window }
+        requires times { All (λ r. IsTime (at self.old.window.time r)) batch.now.rows }
+        requires room { HasRoomFor (length batch.now.rows) self.old.windows }
+        ensures added { OnOk result ((q : PlaceValue) → map.get self.new.windows q
+            ≡ merge self.old.window.aggregates (map.get self.old.windows q) (aggregate_at self.old.window batch.now.rows q)) }
+        ensures window_stays { self.new.window ≡ self.old.window }
+        ensures ok { OnOk result (self.new.has_failed ≡ false) }
+        ensures err { OnErr result (self.new.has_failed ≡ true) }
+        ensures failed { IsErrOf result StateFault.Failed ↔ (self.old.has_failed ≡ true) }
+    {
+        if self.has_failed {
+            return Err(StateFault::Failed);
+        }
+        match add_batch(&mut self.windows, &self.window, batch) {
+            Ok(()) => Ok(()),
+            Err(_) => {
+                self.has_failed = true;
+                Err(StateFault::Memory)
+            }
+        }
+    }
+
+    /// Takes out the windows that fire by the watermark, those whose end less 1 is at most that, and gives
+    /// their rows in the order of start and key. Where no memory is to be had, nothing is taken out.
+    pub fn fire(&mut self, watermark: i64) -> Result<Vec<Row>, StateFault>
+        ensures rows { IfOk result (λ rows. AreRowsOf (fired self.old.window watermark (map.get self.old.windows)) rows.items) }
+        ensures ordered { IfOk result (λ rows. IsSortedByKey place_of place_cmp rows.items) }
+        ensures left { OnOk result (self.new
+            ≡ record self.old { windows = map.retain_keys self.old.windows (λ q. not (is_due self.old.window watermark q.start)) }) }
+        ensures err { OnErr result (self.new ≡ self.old) }
+        ensures failed { IsErrOf result StateFault.Failed ↔ (self.old.has_failed ≡ true) }
+    {
+        if self.has_failed {
+            return Err(StateFault::Failed);
+        }
+        let rows = rows_of(self.alloc, &self.window, &self.windows, watermark)?;
+        remove_due(&mut self.windows, &self.window, watermark);
+        Ok(rows)
+    }
+}
