@@ -1,13 +1,12 @@
 -- Bytes that tell what they spell: equal bytes, equal items, whatever follows.
-use Rattle.std.proofs.Common.{◌≡◌, ℕ, ◌<◌, ◌^◌, ℤ, pos, negsuc, Bool, true, false, ◌&&◌, List, [], ◌∷◌, ◌++◌, length, refl, sym, ap, ◌∙◌, append_assoc, to_z, arith}
+use Rattle.std.proofs.Common.{◌≡◌, ℕ, ◌^◌, ℤ, pos, negsuc, Bool, true, false, ◌&&◌, List, [], ◌∷◌, ◌++◌, length, refl, sym, ap, ◌∙◌, append_assoc, to_z, arith}
 use Rattle.std.specs.Prelude.{FitsSigned, nat_lt}
-use Rattle.std.specs.Int.{w16, w64, byte_len, to_be_bytes, from_be_bytes, cast_unsigned}
+use Rattle.std.specs.Int.{w16, w64, to_be_bytes, from_be_bytes, cast_unsigned}
 use Rattle.std.specs.List.{flat_map, list_all}
 use Rattle.std.proofs.Math.Facts.{Fits-of_z}
 use Rattle.std.proofs.lemmas.Int.{to_z-of_z}
 use Rattle.std.proofs.lemmas.Bool.{ltb-true}
 use Rattle.std.proofs.lemmas.Nat.{from_be_bytes-to_be_bytes_2, from_be_bytes-to_be_bytes_8}
-use Rattle.logical_plan.specs.declared.spec.Aggregate.{Aggregate}
 use Rattle.logical_plan.specs.declared.spec.Aggregate.TheVariants.{Count, Sum, Least, Greatest}
 use Rattle.logical_plan.specs.declared.record.Condition.{Condition}
 use Rattle.logical_plan.specs.PlanRecord.{short_bytes, number_bytes, listed, uid_bytes, condition_bytes, aggregate_bytes}
@@ -27,7 +26,7 @@ abbrev pub is_u16 : ℕ → Bool
 is_u16 n = nat_lt n (2 ^ 16)
 
 -- the first of two lists, and the rest
-cons_split : (a b : ℕ) (xs ys : List ℕ) → ◌≡◌ {A = List ℕ} (a ∷ xs) (b ∷ ys) → (a ≡ b) × (xs ≡ ys)
+pub cons_split : (a b : ℕ) (xs ys : List ℕ) → ◌≡◌ {A = List ℕ} (a ∷ xs) (b ∷ ys) → (a ≡ b) × (xs ≡ ys)
 cons_split a b xs ys e = (cc, cc)
 
 split : (xs ys more other : List ℕ) → length xs ≡ length ys → xs ++ more ≡ ys ++ other → (xs ≡ ys) × (more ≡ other)
