@@ -4,6 +4,7 @@ pub mod PlanText
 pub mod Requirements
 pub mod Places
 pub mod Answer
+pub mod PlanRecord
 pub mod Bag
 pub mod Windows
 pub mod Aggregates

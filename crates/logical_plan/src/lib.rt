@@ -8,6 +8,7 @@ mod places;
 mod plan;
 mod plan_text;
 mod reading;
+mod record;
 mod spec;
 
 pub use fault::PlanFault;
