@@ -40,7 +40,7 @@ items-is_column_of columns n c x h even is =
     let long : length (get_or lists c []) ≡ n = ap (length {A = ℤ}) there ∙ ap (λ (column : Vec ℤ Global). length column.items) is ∙ even c x h in
     sym (column_of-rows_of lists n c in_lists long ∙ there)
 
-map-map : {X Y Z : Type 0} (g : Y → Z) (f : X → Y) (xs : List X) → map g (map f xs) ≡ map (λ x. g (f x)) xs
+pub map-map : {X Y Z : Type 0} (g : Y → Z) (f : X → Y) (xs : List X) → map g (map f xs) ≡ map (λ x. g (f x)) xs
 map-map g f [] = refl
 map-map g f (x ∷ xs) = ap (λ ys. g (f x) ∷ ys) (map-map g f xs)
 

@@ -2,8 +2,8 @@
 use Rattle.std.specs.Prelude.{ℕ, ◌==◌, nat_lt, not, List, length, Option, Some, None, if◌then◌else◌}
 use Rattle.std.specs.List.{position}
 use Rattle.std.specs.Option.{option_or, option_map}
-use Rattle.columns.specs.declared.BatchFault.{BatchFault}
-use Rattle.columns.specs.declared.BatchFault.TheVariants.{Width, Rows}
+use Rattle.columns.specs.declared.fault.BatchFault.{BatchFault}
+use Rattle.columns.specs.declared.fault.BatchFault.TheVariants.{Width, Rows}
 use Rattle.plain_data.specs.Record.{Record}
 
 -- the first cause that stands: a row of another length, then too many rows

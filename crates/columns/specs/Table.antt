@@ -1,7 +1,7 @@
 -- A batch as contracts see it: a width, and a list of records, each with that many numbers.
-use Rattle.std.specs.Prelude.{ℕ, ℤ, pos, List, map, slice_index_or, Vec}
+use Rattle.std.specs.Prelude.{◌≡◌, ◌≤◌, ℕ, ℤ, pos, List, length, map, slice_index_or, Vec}
 use Rattle.std.specs.declared.alloc.Global.{Global}
-use Rattle.std.specs.List.{range_with_len}
+use Rattle.std.specs.List.{All, range_with_len}
 use Rattle.plain_data.specs.Record.{Record}
 
 -- how many columns there are, which no list of rows tells where it is empty, and the rows in order
@@ -20,3 +20,8 @@ rows_of columns n = map (row_at columns) (range_with_len 0 n)
 -- the rows that vectors hold
 abbrev pub rows_in : List (Vec ℤ Global) → List Record
 rows_in rows = map (λ row. row.items) rows
+
+-- columns of one length, which is the number of rows, at most 4,096
+pub record AreColumns (columns : List (Vec ℤ Global)) (count : ℕ) : Type 0 where
+  pub even : All (λ column. length column.items ≡ count) columns
+  pub few : count ≤ 4096

@@ -7,6 +7,7 @@ use Rattle.std.specs.Simd.Lanes.{zip2}
 use Rattle.lane_kernels.specs.declared.Cmp.{Cmp}
 use Rattle.lane_kernels.specs.declared.Cmp.TheVariants.{Eq, Ne, Lt, Le, Gt, Ge}
 
+-- a compares so with c
 abbrev pub holds : Cmp → ℤ → ℤ → Bool
 holds Eq x c = int_eq x c
 holds Ne x c = not (int_eq x c)

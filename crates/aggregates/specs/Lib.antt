@@ -1,0 +1,3 @@
+pub mod AccData
+pub mod Merge
+pub mod Padded

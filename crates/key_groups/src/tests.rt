@@ -1,0 +1,68 @@
+use super::*;
+use std::test::Fail;
+
+const KEYS: [i64; 5] = [0, -1, 1, 4_294_967_295, 2_271_560_481];
+
+#[test]
+fn limits_are_checked(rt: HostRuntime) -> Result<(), Fail> {
+    assert_eq!(rt; MaxParallelism::new(0), None);
+    assert_eq!(rt; MaxParallelism::new(32769), None);
+    let most = MaxParallelism::new(32768).ok_or("32768")?;
+    assert_eq!(rt; most.get(), 32768);
+    assert_eq!(rt; Parallelism::new(0, most), None);
+    assert_eq!(rt; Parallelism::new(65, most), None);
+    assert_eq!(rt; Parallelism::new(64, most).ok_or("64")?.get(), 64);
+    let two = MaxParallelism::new(2).ok_or("2")?;
+    assert_eq!(rt; Parallelism::new(3, two), None);
+    assert_eq!(rt; Parallelism::new(2, two).ok_or("2 of 2")?.get(), 2);
+    Ok(())
+}
+
+#[test]
+fn keys_have_the_known_groups(rt: HostRuntime) -> Result<(), Fail> {
+    let max = MaxParallelism::new(128).ok_or("128")?;
+    let mut groups = [0u32; 5];
+    groups_into(&KEYS, max, &mut groups);
+    assert_eq!(rt; groups, [94, 94, 86, 80, 21]);
+    assert_eq!(rt; group_of(0, max), 94);
+    assert_eq!(rt; group_of(1, MaxParallelism::new(100).ok_or("100")?), 78);
+    assert_eq!(rt;
+        group_of(0, MaxParallelism::new(32768).ok_or("32768")?),
+        31198
+    );
+    Ok(())
+}
+
+#[test]
+fn columns_of_keys_are_grouped_one_by_one(rt: HostRuntime) -> Result<(), Fail> {
+    let max = MaxParallelism::new(1000).ok_or("1000")?;
+    let mut keys = Vec::new(rt.alloc());
+    for key in -300..300i64 {
+        keys.push(key.wrapping_mul(0x1234_5678_9abc))?;
+    }
+    for length in [0, 1, 255, 256, 257, 512, 600] {
+        assert!(rt; length <= keys.len());
+        let mut groups = vec![in rt.alloc(); 0u32; length]?;
+        groups_into(&keys[..length], max, &mut groups);
+        for i in 0..length {
+            assert_eq!(rt; groups[i], group_of(keys[i], max), "at {i} of {length}");
+        }
+    }
+    Ok(())
+}
+
+#[test]
+fn ranges_and_owners_are_the_known_ones(rt: HostRuntime) -> Result<(), Fail> {
+    let max = MaxParallelism::new(128).ok_or("128")?;
+    let three = Parallelism::new(3, max).ok_or("3")?;
+    assert!(rt; three.get() == 3 && max.get() == 128);
+    for (i, first, last) in [(0, 0, 42), (1, 43, 85), (2, 86, 127)] {
+        assert!(rt; i < 3);
+        assert_eq!(rt; range_of(max, three, i), GroupRange { first, last });
+    }
+    let two = Parallelism::new(2, max).ok_or("2")?;
+    assert!(rt; two.get() == 2);
+    assert_eq!(rt; owner_of(max, two, 94), 1);
+    laws::owners_and_ranges();
+    Ok(())
+}
