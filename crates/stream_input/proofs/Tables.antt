@@ -1,11 +1,11 @@
 -- From drafts to tables and entries.
-use Rattle.std.proofs.Common.{◌≡◌, ℕ, ℤ, ◌<◌, ◌==◌, Bool, true, false, cond, map, length, get_or, List, [], ◌∷◌, Option, Some, Vec, Global, refl, sym, ap, ◌∙◌, arith}
-use Rattle.std.proofs.lemmas.Bool.{and_parts, eqb-true}
+use Rattle.std.proofs.Common.{◌≡◌, ℕ, ℤ, ◌<◌, ◌≤◌, ◌==◌, Bool, true, false, cond, map, length, get_or, List, [], ◌∷◌, Option, Some, Vec, Global, refl, sym, ap, ◌∙◌, arith}
+use Rattle.std.proofs.lemmas.Bool.{and_parts, and_from, eqb-true, leb-true}
 use Rattle.std.proofs.lemmas.List.{length-map, get_or-map}
 use Rattle.std.proofs.lemmas.List.Elements.{All-weaker, All-map}
 use Rattle.std.proofs.lemmas.List.FromFn.{get_or-map-range_with_len, length-map-range_with_len}
 use Rattle.std.proofs.lemmas.List.Sums.{AllPass-from_list_all}
-use Rattle.std.specs.Prelude.{bytes_eq}
+use Rattle.std.specs.Prelude.{bytes_eq, nat_le}
 use Rattle.std.specs.List.{All, AllPass, list_all, find, range_with_len}
 use Rattle.std.specs.Option.{option_map_or}
 use Rattle.plain_data.specs.Record.{Record, at, column_of}
@@ -15,8 +15,9 @@ use Rattle.json_parts.specs.declared.list.Cell.{Cell}
 use Rattle.stream_input.specs.declared.draft.EntryDraft.{EntryDraft}
 use Rattle.stream_input.specs.Draft.{SourceDraft, row_draft_text, entry_draft_text, partition_draft_text, draft_text}
 use Rattle.stream_input.specs.InputText.{EntryText, InputText}
+use Rattle.stream_input.specs.InputText as text
 use Rattle.stream_input.specs.Said.{number_of, record_of, partitions_under}
-use Rattle.stream_input.specs.Requirements.{every_entry}
+use Rattle.stream_input.specs.Requirements.{every_entry, is_wide, is_sized, is_table}
 use Rattle.stream_input.proofs.Drafts.{list_all_map, wide_rows}
 
 -- each column of records is as long as there are records
@@ -62,7 +63,7 @@ passes_under test uid (m ∷ ms) passed =
     chosen_passes test (bytes_eq m.0 uid) m (find (λ o. bytes_eq o.0 uid) ms) parts.0 (passes_under test uid ms parts.1)
 
 -- the same of the drafts
-pub passes_drafts : (test : EntryText → Bool) (uid : List ℕ) (sources : List SourceDraft) (partitions : List (Vec EntryDraft Global))
+passes_drafts : (test : EntryText → Bool) (uid : List ℕ) (sources : List SourceDraft) (partitions : List (Vec EntryDraft Global))
     → every_entry test (draft_text sources) ≡ true → map partition_draft_text partitions ≡ partitions_under uid (draft_text sources)
     → All (λ p. All (λ e. test (entry_draft_text e) ≡ true) p.items) partitions
 passes_drafts test uid sources partitions passed are =
@@ -93,3 +94,25 @@ pub batch_is : (columns : List (Vec ℤ Global)) (rows : List (Vec Cell Global))
     → map (λ c. c.items) columns ≡ map (λ c. column_of c (map record_of (map row_draft_text rows))) (range_with_len 0 width) → All (λ row. length row.items ≡ width) rows
     → ◌≡◌ {A = Table} (record { width = length columns; rows = rows_of (map (λ c. c.items) columns) (length rows) }) (record { width = width; rows = map record_of (map row_draft_text rows) })
 batch_is columns rows width are even = table_is columns (records rows) (length rows) width (length_records rows) are (even_records rows width even)
+
+-- what makes rows a table
+pub is_table_wide : (columns : ℕ) (e : EntryText) → is_table columns e ≡ true → is_wide columns e ≡ true
+unfolding is_table
+is_table_wide columns e h = (and_parts (is_wide columns e) (is_sized e) h).0
+
+pub is_table_sized : (columns : ℕ) (e : EntryText) → is_table columns e ≡ true → is_sized e ≡ true
+unfolding is_table
+is_table_sized columns e h = (and_parts (is_wide columns e) (is_sized e) h).1
+
+pub few_rows : (rows : List (Vec Cell Global)) → is_sized (text.rows (map row_draft_text rows)) ≡ true → length rows ≤ 4096
+few_rows rows h =
+    let count : length (map row_draft_text rows) ≡ length rows = length-map rows row_draft_text in
+    let few = leb-true _ _ (and_parts (nat_le 1 (length (map row_draft_text rows))) (nat_le (length (map row_draft_text rows)) 4096) h).1 in
+    omega arith
+
+pub tables_drafts : (columns : ℕ) (uid : List ℕ) (sources : List SourceDraft) (partitions : List (Vec EntryDraft Global))
+    → every_entry (is_wide columns) (draft_text sources) ≡ true → every_entry is_sized (draft_text sources) ≡ true → map partition_draft_text partitions ≡ partitions_under uid (draft_text sources)
+    → All (λ p. All (λ e. is_table columns (entry_draft_text e) ≡ true) p.items) partitions
+unfolding is_table
+tables_drafts columns uid sources partitions wide sized are = λ k d h j e i.
+    and_from _ _ (passes_drafts (is_wide columns) uid sources partitions wide are k d h j e i) (passes_drafts is_sized uid sources partitions sized are k d h j e i)

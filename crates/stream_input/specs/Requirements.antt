@@ -38,6 +38,10 @@ abbrev pub is_sized : EntryText → Bool
 is_sized (rows found) = nat_le 1 (length found) && nat_le (length found) 4096
 is_sized (watermark t) = true
 
+-- what makes rows a table of so many columns
+unfoldable pub is_table : ℕ → EntryText → Bool
+is_table columns e = is_wide columns e && is_sized e
+
 -- -2^62 to 2^62 - 1
 abbrev pub is_time : ℤ → Bool
 is_time t = int_le (neg_ℤ (pos (2 ^ 62))) t && int_lt t (pos (2 ^ 62))

@@ -1,11 +1,11 @@
 //! From what a text says to the entries of an input.
 
-ghost use Rattle.std.specs.Prelude.{◌≡◌, true, length, map, IfOk};
+ghost use Rattle.std.specs.Prelude.{◌≡◌, ◌≤◌, true, length, map, IfOk};
 ghost use Rattle.std.specs.List.{All, range_with_len};
 ghost use Rattle.plain_data.specs.Record.{column_of as column_in};
 ghost use Rattle.stream_input.specs.Draft.{row_draft_text, entry_draft_text, partition_draft_text, draft_text};
 ghost use Rattle.stream_input.specs.Said.{record_of, entry_of as entry_said, sources_of as sources_said};
-ghost use Rattle.stream_input.specs.Requirements.{is_wide, has_width};
+ghost use Rattle.stream_input.specs.Requirements.{is_table, has_width, has_rows};
 
 use crate::check::{number_at, number_of};
 use crate::draft::{EntryDraft, SourceDraft};
@@ -44,7 +44,8 @@ fn columns_of(
 }
 
 fn batch_of(alloc: Global, columns: usize, rows: &[Vec<Cell>]) -> Result<Batch, AllocError>
-    requires { All (λ row. length row.items ≡ columns) rows.now }
+    requires wide { All (λ row. length row.items ≡ columns) rows.now }
+    requires few { length rows.now ≤ 4096 }
     ensures { IfOk result (λ batch. batch ≡ record { width = columns; rows = map record_of (map row_draft_text rows.now) }) }
 {
     let found = columns_of(alloc, rows, columns)?;
@@ -52,7 +53,7 @@ fn batch_of(alloc: Global, columns: usize, rows: &[Vec<Cell>]) -> Result<Batch, 
 }
 
 fn entry_of(alloc: Global, columns: usize, draft: &EntryDraft) -> Result<Entry, AllocError>
-    requires { is_wide columns (entry_draft_text draft.now) ≡ true }
+    requires { is_table columns (entry_draft_text draft.now) ≡ true }
     ensures { IfOk result (λ entry. entry ≡ entry_said columns (entry_draft_text draft.now)) }
 {
     match draft {
@@ -66,7 +67,7 @@ fn partition_of(
     columns: usize,
     drafts: &[EntryDraft],
 ) -> Result<Partition, AllocError>
-    requires { All (λ e. is_wide columns (entry_draft_text e) ≡ true) drafts.now }
+    requires { All (λ e. is_table columns (entry_draft_text e) ≡ true) drafts.now }
     ensures { IfOk result (λ found. found ≡ map (entry_said columns) (map entry_draft_text drafts.now)) }
 {
     let mut entries = Vec::new(alloc);
@@ -81,7 +82,7 @@ fn source_of(
     columns: usize,
     drafts: &[Vec<EntryDraft>],
 ) -> Result<Source, AllocError>
-    requires { All (λ p. All (λ e. is_wide columns (entry_draft_text e) ≡ true) p.items) drafts.now }
+    requires { All (λ p. All (λ e. is_table columns (entry_draft_text e) ≡ true) p.items) drafts.now }
     ensures { IfOk result (λ found. found ≡ map (map (entry_said columns)) (map partition_draft_text drafts.now)) }
 {
     let mut partitions = Vec::new(alloc);
@@ -97,7 +98,8 @@ pub fn sources_of(
     plan: &Plan,
     drafts: &[SourceDraft],
 ) -> Result<Items<Source>, AllocError>
-    requires { has_width plan.now (draft_text drafts.now) ≡ true }
+    requires wide { has_width plan.now (draft_text drafts.now) ≡ true }
+    requires sized { has_rows plan.now (draft_text drafts.now) ≡ true }
     ensures { IfOk result (λ found. found ≡ sources_said plan.now (draft_text drafts.now)) }
 {
     let columns = plan.columns() as usize;

@@ -3,7 +3,7 @@ use Rattle.stream_input.proofs.Tables.{columns_long, batch_is}
 use Rattle.stream_input.proofs.building.batch_of.Goals as goal
 
 pub from_columns-requires : goal.from_columns-requires
-from_columns-requires c = columns_long c.in_ok-found.found.items c.args.rows.now c.args.columns c.in_ok-found.ensures
+from_columns-requires c = record { even = columns_long c.in_ok-found.found.items c.args.rows.now c.args.columns c.in_ok-found.ensures; few = c.requires.few }
 
 pub returns : goal.returns
-returns c = c.from_columns.ensures ∙ batch_is c.in_ok-found.found.items c.args.rows.now c.args.columns c.in_ok-found.ensures c.requires
+returns c = c.from_columns.ensures ∙ batch_is c.in_ok-found.found.items c.args.rows.now c.args.columns c.in_ok-found.ensures c.requires.wide
