@@ -6,6 +6,7 @@ use clap::error::ErrorKind;
 use clap::{ArgMatches, Error};
 use job::{JobFault, fault_line, status_of};
 use std::rt::{Env, Files};
+use std::{env, io};
 
 /// Runs the command that the words name; clap lets no others through.
 fn chosen<R: Files + Print + AllocGlobal>(
@@ -42,13 +43,26 @@ fn failed<R: Eprint + AllocGlobal>(rt: &R, fault: &JobFault) -> u8 {
     status_of(fault)
 }
 
+/// The words that the program was started with, its own name first.
+fn words_of<R: Env + AllocGlobal>(rt: &R) -> io::Result<Vec<String>> {
+    let words = env::args(rt)?.collect::<Vec<String>>(rt.alloc())?;
+    Ok(words)
+}
+
+/// Says why there are no words to read.
+fn unread<R: Eprint + AllocGlobal>(rt: &R, error: &io::Error) -> u8 {
+    if error.kind() == io::ErrorKind::OutOfMemory {
+        return failed(rt, &JobFault::Memory);
+    }
+    let _ = rt.eprintln("error: a word is not UTF-8");
+    2
+}
+
 /// Runs the program, and answers the status to end with.
 pub fn status<R: Files + Print + Eprint + Env + AllocGlobal>(rt: &R) -> u8 {
-    let Ok(args) = std::env::args(rt) else {
-        return 2;
-    };
-    let Ok(words) = args.collect::<Vec<String>>(rt.alloc()) else {
-        return failed(rt, &JobFault::Memory);
+    let words = match words_of(rt) {
+        Ok(words) => words,
+        Err(error) => return unread(rt, &error),
     };
     let Ok(command) = command(rt.alloc()) else {
         return failed(rt, &JobFault::Memory);
