@@ -1,6 +1,6 @@
 -- Keys that are put in order one after the other.
-use Rattle.std.proofs.Common.{◌≡◌, ℕ, ◌+◌, ◌<◌, ◌≤◌, Bool, true, false, cond, List, [], ◌∷◌, ◌++◌, map, length, take, get_or, refl, ap, sym, ◌∙◌, arith}
-use Rattle.std.specs.List.{fold}
+use Rattle.std.proofs.Common.{◌≡◌, ℕ, ◌+◌, ◌<◌, ◌≤◌, Bool, true, false, cond, ◌&&◌, List, [], ◌∷◌, ◌++◌, map, length, take, get_or, refl, ap, sym, ◌∙◌, arith}
+use Rattle.std.specs.List.{fold, list_all}
 use Rattle.std.specs.declared.cmp.Ordering.{Ordering}
 use Rattle.std.specs.declared.cmp.Ordering.TheVariants.{Less, Equal, Greater}
 use Rattle.std.specs.Ordering.{match_ordering}
@@ -34,3 +34,21 @@ map_insert_key {B = B} cmp f (x ∷ keys) key =
 pub one_more : (added : Bool) (m n i : ℕ) → m ≡ n + cond added 1 0 → n ≤ i → m ≤ i + 1
 one_more true m n i e le = omega arith
 one_more false m n i e le = omega arith
+
+both_true : (a b : Bool) → a ≡ true → b ≡ true → (a && b) ≡ true
+both_true a b p q = rw (p, q) refl
+
+first_true : (a b : Bool) → (a && b) ≡ true → (a ≡ true) × (b ≡ true)
+first_true true b h = (refl, h)
+first_true false b h = absurd cc
+
+-- a key that passes a test, among keys that do
+pub all_insert_key : {K : Type 0} (cmp : K → K → Ordering) (test : K → Bool) (keys : List K) (key : K) → list_all test keys ≡ true → test key ≡ true → list_all test (insert_key cmp keys key) ≡ true
+all_insert_key cmp test [] key all one = rw one refl
+all_insert_key cmp test (x ∷ keys) key all one =
+    let parts = first_true (test x) (list_all test keys) all in
+    elim (cmp key x) as (λ o. list_all test (match_ordering o (key ∷ x ∷ keys) (x ∷ keys) (x ∷ insert_key cmp keys key)) ≡ true) [
+      | Less ↦ both_true (test key) _ one all
+      | Equal ↦ all
+      | Greater ↦ both_true (test x) _ parts.0 (all_insert_key cmp test keys key parts.1 one)
+    ]

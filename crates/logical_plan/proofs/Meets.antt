@@ -7,6 +7,7 @@ use Rattle.std.proofs.lemmas.Bool.Decides.{nat_tests}
 use Rattle.std.proofs.lemmas.Float.{T_from_true}
 use Rattle.std.proofs.lemmas.List.{length-map}
 use Rattle.std.proofs.lemmas.List.Elements.{All-map}
+use Rattle.std.proofs.lemmas.List.Folds.{list_all-append, list_all-map}
 use Rattle.std.proofs.lemmas.List.Sums.{AllPass-from_list_all, list_all-from_AllPass}
 use Rattle.std.specs.Int.Signed.{le_z_yes, lt_z_yes}
 use Rattle.logical_plan.specs.Uids.{is_nat_within, is_uid, are_distinct}
@@ -16,7 +17,7 @@ use Rattle.logical_plan.specs.declared.plan_text.AggregateText.{AggregateText}
 use Rattle.logical_plan.specs.declared.plan_text.AggregateText.TheVariants as text
 use Rattle.logical_plan.specs.declared.plan_text.PlanText.{PlanText}
 use Rattle.logical_plan.specs.declared.fault.PlanFault.{PlanFault}
-use Rattle.logical_plan.specs.PlanData.{IsPlan, IsWindow, has_column, uids}
+use Rattle.logical_plan.specs.PlanData.{PlanData, IsPlan, IsWindow, has_column, uids}
 use Rattle.logical_plan.specs.Requirements.{is_within, is_place, is_aggregate_of, text_uids, first_unmet, requirements, has_columns, has_column_indices, has_max, has_sources, has_partitions, has_uids, has_distinct_uids, has_filters, has_size, has_slide, has_offset, has_panes, has_aggregates}
 use Rattle.logical_plan.specs.Answer.{source_data, filter_data, aggregate_data, having_data, plan_data}
 
@@ -194,3 +195,10 @@ pub having_places : (t : PlanText) → Meets t → list_all (λ h. is_place (pos
 having_places t m =
     let aggregates = nat_within 1 8 (length t.window.aggregates) m.aggregates in
     list_all-from_AllPass (λ h. is_place (pos 8) h.aggregate) t.window.having (λ k d lt. place_below (length t.window.aggregates) 8 (get_or t.window.having k d).aggregate aggregates.1 (AllPass-from_list_all (λ h. is_place (pos (length t.window.aggregates)) h.aggregate) t.window.having m.places k d lt))
+
+pub sources_named : (p : PlanData) → IsPlan p → All (λ s. is_uid s.uid ≡ true) p.sources
+sources_named p sound =
+    let all = list_all-from_AllPass is_uid (uids p) sound.named in
+    let front = (both _ _ (sym (list_all-append is_uid (map (λ s. s.uid) p.sources ++ map (λ f. f.uid) p.filters) (p.window.uid ∷ [])) ∙ all)).0 in
+    let first = (both _ _ (sym (list_all-append is_uid (map (λ s. s.uid) p.sources) (map (λ f. f.uid) p.filters)) ∙ front)).0 in
+    AllPass-from_list_all (λ s. is_uid s.uid) p.sources (sym (list_all-map is_uid (λ s. s.uid) p.sources) ∙ first)

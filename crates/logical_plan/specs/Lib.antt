@@ -9,4 +9,5 @@ pub mod Bag
 pub mod Windows
 pub mod Aggregates
 pub mod Rows
+pub mod Alike
 pub mod Laws

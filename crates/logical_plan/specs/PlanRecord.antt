@@ -13,6 +13,7 @@ use Rattle.logical_plan.specs.declared.spec.FilterSpec.{FilterSpec}
 use Rattle.logical_plan.specs.declared.spec.Aggregate.{Aggregate}
 use Rattle.logical_plan.specs.declared.spec.Aggregate.TheVariants.{Count, Sum, Least, Greatest}
 use Rattle.logical_plan.specs.declared.spec.Having.{Having}
+use Rattle.logical_plan.specs.declared.spec.WindowSpec.{WindowSpec}
 use Rattle.logical_plan.specs.declared.record.Condition.{Condition}
 use Rattle.logical_plan.specs.PlanData.{PlanData}
 
@@ -66,12 +67,12 @@ aggregate_bytes (Greatest column) = 3 ∷ column ∷ []
 abbrev pub head_bytes : PlanData → List ℕ
 head_bytes p = p.columns ∷ (short_bytes p.max ++ p.window.time ∷ p.window.key ∷ [])
 
-abbrev pub span_bytes : PlanData → List ℕ
-span_bytes p = number_bytes p.window.size ++ number_bytes p.window.slide ++ number_bytes (int_rem_euclid p.window.offset p.window.slide)
+abbrev pub span_bytes : WindowSpec → List ℕ
+span_bytes w = number_bytes w.size ++ number_bytes w.slide ++ number_bytes (int_rem_euclid w.offset w.slide)
 
 unfoldable pub plan_record : PlanData → List ℕ
 plan_record p =
-    head_bytes p ++ span_bytes p
+    head_bytes p ++ span_bytes p.window
     ++ listed uid_bytes (ascending (slice_cmp nat_cmp) (map (λ s. s.uid) p.sources))
     ++ listed condition_bytes (ascending condition_cmp (map filter_condition p.filters))
     ++ listed aggregate_bytes p.window.aggregates

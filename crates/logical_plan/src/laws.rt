@@ -1,6 +1,7 @@
 //! Laws of the definitions, each the contract of a function that does nothing.
 
 ghost use Rattle.logical_plan.specs.Laws.{WindowsAreThose, AggregatesIgnoreOrder, AggregatesMerge};
+ghost use Rattle.logical_plan.specs.Alike.{EqualRecords};
 
 /// The windows of a time are those whose start is the offset plus a whole number of slides and whose
 /// interval `[start, start + size)` has the time, as Flink's sliding and tumbling assigners say.
@@ -16,4 +17,10 @@ pub fn aggregates_ignore_order()
 /// What two lists of records come to, merged, is what both together come to.
 pub fn aggregates_merge()
     ensures { AggregatesMerge }
+{}
+
+/// Plans with equal records have the same columns, key groups, time and key, the same source uids, the
+/// same aggregates and windows, and pass and keep the same.
+pub fn equal_records()
+    ensures { EqualRecords }
 {}

@@ -1,10 +1,10 @@
 //! What a job asks for: sources, filters and one window operator, read from a plan's JSON text.
 #![tactic(auto)]
 
-pub mod laws;
 mod building;
 mod check;
 mod fault;
+pub mod laws;
 mod places;
 mod plan;
 mod plan_text;

@@ -1,13 +1,15 @@
 //! The canonical record of a plan.
 
-ghost use Rattle.std.specs.Prelude.{◌≡◌, ◌<◌, ◌≤◌, ◌^◌, ◌++◌, ◌∷◌, [], length, map, OnOk, IfOk};
+ghost use Rattle.std.specs.Prelude.{◌≡◌, ◌<◌, ◌≤◌, true, ◌++◌, ◌∷◌, [], length, map, OnOk, IfOk};
 ghost use Rattle.std.specs.Ordering.{nat_cmp};
-ghost use Rattle.std.specs.List.{All};
+ghost use Rattle.std.specs.List.{All, list_all};
 ghost use Rattle.std.specs.Cmp.Lexicographic.{slice_cmp};
-ghost use Rattle.logical_plan.specs.PlanData.{IsPlan, has_column};
-ghost use Rattle.logical_plan.specs.PlanRecord.{number_bytes, short_bytes, cmp_code, filter_condition, having_condition, condition_bytes, condition_cmp, ascending, listed, uid_bytes, aggregate_bytes};
+ghost use Rattle.logical_plan.specs.Uids.{is_uid};
+ghost use Rattle.logical_plan.specs.PlanData.{IsWindow, has_column};
+ghost use Rattle.logical_plan.specs.PlanRecord.{number_bytes, short_bytes, cmp_code, filter_condition, having_condition, condition_bytes, condition_cmp, ascending, listed, uid_bytes, aggregate_bytes, head_bytes, span_bytes};
 
-use crate::spec::{Aggregate, FilterSpec, Having, SourceSpec};
+use crate::plan::Plan;
+use crate::spec::{Aggregate, FilterSpec, Having, SourceSpec, WindowSpec};
 use lane_kernels::Cmp;
 use std::alloc::{AllocError, Global};
 use std::collections::BTreeSet;
@@ -85,10 +87,7 @@ fn filter_conditions(
     Ok(conditions)
 }
 
-fn having_conditions(
-    alloc: Global,
-    having: &[Having],
-) -> Result<BTreeSet<Condition>, AllocError>
+fn having_conditions(alloc: Global, having: &[Having]) -> Result<BTreeSet<Condition>, AllocError>
     requires { All (λ h. h.aggregate < 256) having.now }
     ensures says { IfOk result (λ set. set.keys ≡ ascending condition_cmp (map having_condition having.now)) }
     ensures few { IfOk result (λ set. length set.keys ≤ length having.now) }
@@ -107,10 +106,7 @@ fn put_condition(out: &mut Vec<u8>, condition: &Condition) -> Result<(), AllocEr
     put_number(out, condition.value)
 }
 
-fn put_conditions(
-    out: &mut Vec<u8>,
-    conditions: &BTreeSet<Condition>,
-) -> Result<(), AllocError>
+fn put_conditions(out: &mut Vec<u8>, conditions: &BTreeSet<Condition>) -> Result<(), AllocError>
     requires { length conditions.now.keys < 256 }
     ensures { OnOk result (out.new.items ≡ out.old.items ++ listed condition_bytes conditions.now.keys) }
 {
@@ -122,8 +118,10 @@ fn put_conditions(
 }
 
 fn source_uids(alloc: Global, sources: &[SourceSpec]) -> Result<BTreeSet<&str>, AllocError>
+    requires { All (λ s. is_uid s.uid ≡ true) sources.now }
     ensures says { IfOk result (λ set. map (λ uid. uid.now) set.keys ≡ ascending (slice_cmp nat_cmp) (map (λ s. s.uid) sources.now)) }
     ensures few { IfOk result (λ set. length set.keys ≤ length sources.now) }
+    ensures named { IfOk result (λ set. list_all (λ uid. is_uid uid.now) set.keys ≡ true) }
 {
     let mut uids = BTreeSet::new(alloc);
     for source in sources {
@@ -133,11 +131,23 @@ fn source_uids(alloc: Global, sources: &[SourceSpec]) -> Result<BTreeSet<&str>, 
 }
 
 fn put_uid(out: &mut Vec<u8>, uid: &str) -> Result<(), AllocError>
-    requires { length uid.now < 256 }
+    requires { is_uid uid.now ≡ true }
     ensures { OnOk result (out.new.items ≡ out.old.items ++ uid_bytes uid.now) }
 {
     out.push(uid.len() as u8)?;
     out.extend_from_slice(uid.as_bytes())
+}
+
+fn put_uids(out: &mut Vec<u8>, uids: &BTreeSet<&str>) -> Result<(), AllocError>
+    requires few { length uids.now.keys < 256 }
+    requires named { list_all (λ uid. is_uid uid.now) uids.now.keys ≡ true }
+    ensures { OnOk result (out.new.items ≡ out.old.items ++ listed uid_bytes (map (λ uid. uid.now) uids.now.keys)) }
+{
+    out.push(uids.len() as u8)?;
+    for uid in uids {
+        put_uid(out, *uid)?;
+    }
+    Ok(())
 }
 
 fn put_aggregate(out: &mut Vec<u8>, aggregate: &Aggregate) -> Result<(), AllocError>
@@ -163,4 +173,61 @@ fn put_aggregates(out: &mut Vec<u8>, aggregates: &[Aggregate]) -> Result<(), All
         put_aggregate(out, aggregate)?;
     }
     Ok(())
+}
+
+fn put_head(out: &mut Vec<u8>, plan: &Plan) -> Result<(), AllocError>
+    ensures { OnOk result (out.new.items ≡ out.old.items ++ head_bytes plan.now) }
+{
+    let window = plan.window();
+    out.push(plan.columns() as u8)?;
+    put_short(out, plan.max() as u16)?;
+    out.extend_from_slice(&[window.time as u8, window.key as u8])
+}
+
+fn put_span(out: &mut Vec<u8>, window: &WindowSpec) -> Result<(), AllocError>
+    requires { IsWindow window.now }
+    ensures { OnOk result (out.new.items ≡ out.old.items ++ span_bytes window.now) }
+{
+    put_number(out, window.size)?;
+    put_number(out, window.slide)?;
+    put_number(out, window.offset.rem_euclid(window.slide))
+}
+
+impl Plan {
+    ghost use Rattle.std.specs.Prelude.{◌≡◌, IfOk};
+    ghost use Rattle.logical_plan.specs.PlanRecord.{plan_record};
+
+    /// The canonical record of the plan, by which a savepoint knows it again. All numbers have their
+    /// highest byte first.
+    ///
+    /// 1. The columns in one byte, the key groups in two, the columns of time and key in one each.
+    /// 2. Size, slide, and the offset modulo the slide, each an i64.
+    /// 3. How many sources, and each uid, ascending by bytes: its length in one byte, and its bytes.
+    /// 4. How many distinct filter conditions, and each, ascending: column, comparison, value.
+    /// 5. How many aggregates, and each in plan order: kind and column, which is 0 for a count.
+    /// 6. How many distinct having conditions, and each, ascending: aggregate, comparison, value.
+    ///
+    /// Comparisons are 0 to 5 for `eq`, `ne`, `lt`, `le`, `gt`, `ge`, and kinds 0 to 3 for `count`, `sum`,
+    /// `least`, `greatest`.
+    ///
+    /// # Errors
+    ///
+    /// Only where memory runs out.
+    #[tactic(auto, unfolding(crate::specs::PlanRecord::plan_record))]
+    pub fn record(&self, alloc: Global) -> Result<Vec<u8>, AllocError>
+        ensures { IfOk result (λ record_. record_.items ≡ plan_record self.now) }
+    {
+        let window = self.window();
+        let mut out = Vec::new(alloc);
+        put_head(&mut out, self)?;
+        put_span(&mut out, window)?;
+        put_uids(&mut out, &source_uids(alloc, self.sources())?)?;
+        put_conditions(&mut out, &filter_conditions(alloc, self.filters())?)?;
+        put_aggregates(&mut out, window.aggregates.as_slice())?;
+        put_conditions(
+            &mut out,
+            &having_conditions(alloc, window.having.as_slice())?,
+        )?;
+        Ok(out)
+    }
 }

@@ -50,6 +50,27 @@ fn members_that_may_be_absent(rt: HostRuntime) -> Result<(), Fail> {
 }
 
 #[test]
+fn records(rt: HostRuntime) -> Result<(), Fail> {
+    let plan = Plan::read(rt.alloc(), PLAN.as_bytes())?;
+    let want = [
+        3, 0, 128, 0, 1, 0, 0, 0, 0, 0, 0, 0, 10, 0, 0, 0, 0, 0, 0, 0, 10, 0, 0, 0, 0, 0, 0, 0, 0,
+        1, 1, 115, 0, 4, 0, 0, 1, 2, 2, 2, 3, 2, 0,
+    ];
+    assert_eq!(rt; plan.record(rt.alloc())?.as_slice(), want.as_slice());
+    let filters =
+        r#""filters":[{"uid":"f","column":2,"op":"ge","value":1},{"uid":"g","column":2,"op":"lt","value":-1},{"uid":"h","column":2,"op":"ge","value":1}],"window""#;
+    let text = PLAN.replacen(rt.alloc(), r#""window""#, filters, 1)?;
+    let plan = Plan::read(rt.alloc(), text.as_bytes())?;
+    let want = [
+        3, 0, 128, 0, 1, 0, 0, 0, 0, 0, 0, 0, 10, 0, 0, 0, 0, 0, 0, 0, 10, 0, 0, 0, 0, 0, 0, 0, 0,
+        1, 1, 115, 2, 2, 2, 255, 255, 255, 255, 255, 255, 255, 255, 2, 5, 0, 0, 0, 0, 0, 0, 0, 1,
+        4, 0, 0, 1, 2, 2, 2, 3, 2, 0,
+    ];
+    assert_eq!(rt; plan.record(rt.alloc())?.as_slice(), want.as_slice());
+    Ok(())
+}
+
+#[test]
 fn refusals(rt: HostRuntime) -> Result<(), Fail> {
     for (old, new, want) in [
         (PLAN, "{", "P1 NotJson"),

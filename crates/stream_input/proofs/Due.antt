@@ -117,7 +117,7 @@ filter_step p q x xs h true false e f = rw f h
 filter_step p q x xs h false true e f = rw e h
 filter_step p q x xs h false false e f = h
 
-filter_turned : {X : Type 0} (p q : X → Bool) (xs : List X) → filter p (filter q xs) ≡ filter q (filter p xs)
+pub filter_turned : {X : Type 0} (p q : X → Bool) (xs : List X) → filter p (filter q xs) ≡ filter q (filter p xs)
 filter_turned p q [] = refl
 filter_turned p q (x ∷ xs) = filter_step p q x xs (filter_turned p q xs) (p x) (q x) refl refl
 

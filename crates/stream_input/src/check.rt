@@ -1,11 +1,11 @@
 //! What an input must meet beside its form.
 
-ghost use Rattle.std.specs.Prelude.{FitsSigned, ◌≡◌, ◌==◌, ◌<◌, length, is_some, map, bytes_eq, string_bytes};
-ghost use Rattle.std.specs.List.{list_all, list_any, All};
+ghost use Rattle.std.specs.Prelude.{◌≡◌, ◌==◌, FitsSigned, length, is_some, map};
+ghost use Rattle.std.specs.List.{list_all};
 ghost use Rattle.std.specs.Int.{w64};
 ghost use Rattle.plain_data.specs.Record.{at};
-ghost use Rattle.stream_input.specs.Draft.{row_draft_text, entry_draft_text, source_draft_text, draft_text};
-ghost use Rattle.stream_input.specs.Said.{number_of as number_of_text, partitions_under, record_of};
+ghost use Rattle.stream_input.specs.Draft.{row_draft_text, entry_draft_text, draft_text};
+ghost use Rattle.stream_input.specs.Said.{number_of as number_of_text, record_of};
 ghost use Rattle.stream_input.specs.InputText.{rows as rows_text, watermark as watermark_text};
 ghost use Rattle.stream_input.specs.EntryTest.{passes};
 ghost use Rattle.stream_input.specs.Requirements.{is_time as is_time_number, has_width as width_is_met, has_numbers as numbers_are_met, has_rows as rows_are_met, has_times as times_are_met, every_entry as every_text};

@@ -1,6 +1,5 @@
 //! What an input's text says, before it is compared with a plan.
 
-ghost use Rattle.std.specs.Prelude.{map};
 ghost use Rattle.serde_json.specs.View.{view};
 ghost use Rattle.json_parts.specs.Parts.{Gives};
 ghost use Rattle.stream_input.specs.InputText.{entry_text, rows_text, watermark_text, input_text};

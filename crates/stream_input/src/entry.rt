@@ -1,8 +1,10 @@
 use columns::Batch;
 
-/// A step of a partition: rows, or a watermark, after which no row has a time of at most that.
+/// A step of a partition.
 #[derive(Drop)]
 pub enum Entry {
+    /// Rows of the plan's columns.
     Rows(Batch),
+    /// A watermark: no row that follows in the partition has a time of at most this.
     Watermark(i64),
 }

@@ -1,4 +1,9 @@
 //! A job's bounded input: for each source its partitions, each a list of entries.
+//!
+//! An input is read from a JSON text: one object from the uid of each source to a list of partitions,
+//! where a partition is a list of entries and an entry is `{"rows":[[..],..]}` or `{"watermark":n}`.
+//! What a text says is defined in `specs/InputText` and `specs/Said`, what it must meet in
+//! `specs/Requirements`.
 #![tactic(auto)]
 
 mod building;

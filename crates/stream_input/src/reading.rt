@@ -1,6 +1,5 @@
 //! From bytes to the sources of an input.
 
-ghost use Rattle.std.specs.Prelude.{◌≡◌};
 ghost use Rattle.stream_input.specs.InputData.{input_data_of};
 ghost use Rattle.stream_input.specs.Draft.{draft_text};
 ghost use Rattle.stream_input.specs.Answer.{Gives, text_of_bytes, input_or_fault};

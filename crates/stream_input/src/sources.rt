@@ -1,6 +1,6 @@
 //! The members of a document and the sources of the plan.
 
-ghost use Rattle.std.specs.Prelude.{◌≡◌, ◌==◌, ◌&&◌, length, map, option_copied, bytes_eq, string_bytes};
+ghost use Rattle.std.specs.Prelude.{◌≡◌, ◌==◌, length, map, option_copied, bytes_eq, string_bytes};
 ghost use Rattle.std.specs.List.{list_all, list_any, find};
 ghost use Rattle.stream_input.specs.Draft.{partition_draft_text, draft_text};
 ghost use Rattle.stream_input.specs.Said.{partitions_under};

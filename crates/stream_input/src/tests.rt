@@ -35,53 +35,74 @@ fn an_input(rt: HostRuntime) -> Result<(), Fail> {
     Ok(())
 }
 
+fn fault(rt: &impl AllocGlobal, plan: &Plan, text: &str) -> Option<InputFault> {
+    Input::read(rt.alloc(), plan, text.as_bytes()).err()
+}
+
 #[test]
-fn refusals(rt: HostRuntime) -> Result<(), Fail> {
+fn refusals_of_the_form(rt: HostRuntime) -> Result<(), Fail> {
     let plan = Plan::read(rt.alloc(), PLAN.as_bytes())?;
     for (text, want) in [
-        (r#"{"s":[[],[]]}x"#, "I1 NotJson"),
-        ("[]", "I2 Member"),
-        (r#"{"s":[[{}],[]]}"#, "I2 Member"),
-        (r#"{"s":[[{"row":[]}],[]]}"#, "I2 Member"),
+        (r#"{"s":[[],[]]}x"#, InputFault::NotJson),
+        ("[]", InputFault::Member),
+        (r#"{"s":[[{}],[]]}"#, InputFault::Member),
+        (r#"{"s":[[{"row":[]}],[]]}"#, InputFault::Member),
         (
             r#"{"s":[[{"rows":[[1,1,1]],"watermark":1}],[]]}"#,
-            "I2 Member",
+            InputFault::Member,
         ),
-        (r#"{"s":[[{"rows":[1]}],[]]}"#, "I2 Member"),
-        (r#"{"s":[[],[]],"t":1}"#, "I2 Member"),
-        ("{}", "I3 Source"),
-        (r#"{"s":[[],[]],"t":[]}"#, "I3 Source"),
-        (r#"{"s":[[],[],[]]}"#, "I4 Partitions"),
-        (r#"{"s":[[{"rows":[[1,1]]}],[]]}"#, "I5 Width"),
-        (r#"{"s":[[{"rows":[[1,1,1,1]]}],[]]}"#, "I5 Width"),
-        (r#"{"s":[[{"rows":[[1,1,1.5]]}],[]]}"#, "I6 Number"),
-        (r#"{"s":[[{"rows":[[1,1,"1"]]}],[]]}"#, "I6 Number"),
-        (r#"{"s":[[{"watermark":1.5}],[]]}"#, "I6 Number"),
-        (r#"{"s":[[{"rows":[]}],[]]}"#, "I7 Rows"),
+        (r#"{"s":[[{"rows":[1]}],[]]}"#, InputFault::Member),
+        (r#"{"s":[[],[]],"t":1}"#, InputFault::Member),
+        ("{}", InputFault::Source),
+        (r#"{"s":[[],[]],"t":[]}"#, InputFault::Source),
+        (r#"{"s":[[],[],[]]}"#, InputFault::Partitions),
+    ] {
+        assert_eq!(rt; fault(&rt, &plan, text), Some(want), "at {text}");
+    }
+    Ok(())
+}
+
+#[test]
+fn refusals_of_entries(rt: HostRuntime) -> Result<(), Fail> {
+    let plan = Plan::read(rt.alloc(), PLAN.as_bytes())?;
+    for (entries, want) in [
+        (r#"{"rows":[[1,1]]}"#, InputFault::Width),
+        (r#"{"rows":[[1,1,1,1]]}"#, InputFault::Width),
+        (r#"{"rows":[[1,1,1.5]]}"#, InputFault::Number),
+        (r#"{"rows":[[1,1,"1"]]}"#, InputFault::Number),
+        (r#"{"watermark":1.5}"#, InputFault::Number),
+        (r#"{"rows":[]}"#, InputFault::Rows),
         (
-            r#"{"s":[[{"rows":[[-4611686018427387905,1,1]]}],[]]}"#,
-            "I8 TimeRange",
+            r#"{"rows":[[-4611686018427387905,1,1]]}"#,
+            InputFault::TimeRange,
         ),
         (
-            r#"{"s":[[{"watermark":4611686018427387904}],[]]}"#,
-            "I8 TimeRange",
+            r#"{"watermark":4611686018427387904}"#,
+            InputFault::TimeRange,
         ),
+    ] {
+        let text = format!(in rt.alloc(); "{{\"s\":[[{entries}],[]]}}")?;
+        assert_eq!(rt; fault(&rt, &plan, text.as_str()), Some(want), "at {text}");
+    }
+    Ok(())
+}
+
+#[test]
+fn late_records(rt: HostRuntime) -> Result<(), Fail> {
+    let plan = Plan::read(rt.alloc(), PLAN.as_bytes())?;
+    for (text, want) in [
         (
             r#"{"s":[[{"watermark":9},{"rows":[[9,1,1]]}],[]]}"#,
             "I9 LateRecord 0 0 1",
         ),
         (
-            r#"{"s":[[{"watermark":9},{"watermark":3},{"rows":[[8,1,1]]}],[]]}"#,
-            "I9 LateRecord 0 0 2",
+            r#"{"s":[[],[{"watermark":9},{"watermark":3},{"rows":[[8,1,1]]}]]}"#,
+            "I9 LateRecord 0 1 2",
         ),
     ] {
-        match Input::read(rt.alloc(), &plan, text.as_bytes()) {
-            Ok(_) => return Err("accepted".into()),
-            Err(fault) => {
-                let line = format!(in rt.alloc(); "{fault}")?;
-                assert_eq!(rt; line.as_str(), want, "at {text}");
-            }
-        }
+        let late = fault(&rt, &plan, text).ok_or("accepted")?;
+        let line = format!(in rt.alloc(); "{late}")?;
+        assert_eq!(rt; line.as_str(), want);
     }
     Ok(())
 }
@@ -108,7 +129,7 @@ fn entries_of_many_rows(rt: HostRuntime) -> Result<(), Fail> {
     for (count, want) in [(4095, None), (4096, Some(InputFault::Rows))] {
         let rows = ",[1,1,1]".repeat(rt.alloc(), count)?;
         let text = format!(in rt.alloc(); "{{\"s\":[[{{\"rows\":[[1,1,1]{rows}]}}],[]]}}")?;
-        assert_eq!(rt; Input::read(rt.alloc(), &plan, text.as_bytes()).err(), want);
+        assert_eq!(rt; fault(&rt, &plan, text.as_str()), want);
     }
     Ok(())
 }

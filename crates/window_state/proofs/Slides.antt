@@ -109,7 +109,7 @@ rows_step w rs i old now after q h is more =
     ∙ merge_assoc w.aggregates old (aggregate_at w (take i rs) q) (aggregate_at w (get_or rs i [] ∷ []) q)
     ∙ sym (ap (merge w.aggregates old) (ap (λ l. aggregate_at w l q) (take_more rs i [] h) ∙ aggregate_at-append w (take i rs) (get_or rs i [] ∷ []) q))
 
-length-filter : {X : Type 0} (p : X → Bool) (xs : List X) → length (filter p xs) ≤ length xs
+pub length-filter : {X : Type 0} (p : X → Bool) (xs : List X) → length (filter p xs) ≤ length xs
 length-filter p [] = omega arith
 length-filter p (x ∷ xs) = elim (p x) as (λ b. length (cond b (x ∷ filter p xs) (filter p xs)) ≤ length (x ∷ xs)) [
   | true ↦ let h = length-filter p xs in omega (arith, h)
@@ -124,13 +124,13 @@ count_of : (ks : List Aggregate) (rs : List Record) → count_or (aggregate_of k
 count_of ks [] = refl
 count_of ks (r ∷ rs) = refl
 
-count_at : (w : WindowSpec) (rs : List Record) (q : Place) → count_or (aggregate_at w rs q) ≤ length rs
+pub count_at : (w : WindowSpec) (rs : List Record) (q : Place) → count_or (aggregate_at w rs q) ≤ length rs
 count_at w rs q = elim (is_start w q.start) as (λ b. count_or (if b then aggregate_of w.aggregates (records_of w q rs) else None) ≤ length rs) [
   | true ↦ omega (arith, count_of w.aggregates (records_of w q rs), length-filter (is_at w q) rs)
   | false ↦ omega arith
 ]
 
-count_merge : (ks : List Aggregate) (a b : Option Aggregated) → count_or (merge ks a b) ≡ count_or a + count_or b
+pub count_merge : (ks : List Aggregate) (a b : Option Aggregated) → count_or (merge ks a b) ≡ count_or a + count_or b
 count_merge ks None b = omega arith
 count_merge ks (Some a) None = omega arith
 count_merge ks (Some a) (Some b) = refl

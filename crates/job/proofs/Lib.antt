@@ -1,0 +1,4 @@
+pub mod Masks
+pub mod Folds
+pub mod PlanText
+pub mod Refusals

@@ -1,0 +1,15 @@
+-- The fault of a job that a fault of one of its texts is.
+use Rattle.logical_plan.specs.declared.fault.PlanFault.{PlanFault}
+use Rattle.logical_plan.specs.declared.fault.PlanFault.TheVariants as plan
+use Rattle.stream_input.specs.declared.fault.InputFault.{InputFault}
+use Rattle.stream_input.specs.declared.fault.InputFault.TheVariants as input
+use Rattle.job.specs.declared.fault.JobFault.{JobFault}
+use Rattle.job.specs.declared.fault.JobFault.TheVariants.{Plan, Input, Memory}
+
+abbrev pub plan_fault : PlanFault → JobFault
+plan_fault plan.Memory = Memory
+plan_fault fault = Plan fault
+
+abbrev pub input_fault : InputFault → JobFault
+input_fault input.Memory = Memory
+input_fault fault = Input fault

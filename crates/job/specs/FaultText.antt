@@ -1,0 +1,66 @@
+-- The code and name of each fault, and the status that the program ends with.
+use Rattle.std.specs.Prelude.{ℕ, List, ◌++◌, codes}
+use Rattle.std.specs.Fmt.{decimal}
+use Rattle.logical_plan.specs.declared.fault.PlanFault.{PlanFault}
+use Rattle.logical_plan.specs.declared.fault.PlanFault.TheVariants as plan
+use Rattle.stream_input.specs.declared.fault.InputFault.{InputFault}
+use Rattle.stream_input.specs.declared.fault.InputFault.TheVariants as input
+use Rattle.job.specs.declared.fault.JobFault.{JobFault}
+use Rattle.job.specs.declared.fault.JobFault.TheVariants as job
+
+abbrev pub plan_text : PlanFault → List ℕ
+plan_text plan.NotJson = codes "P1 NotJson"
+plan_text plan.Member = codes "P2 Member"
+plan_text plan.Columns = codes "P3 Columns"
+plan_text plan.ColumnIndex = codes "P4 ColumnIndex"
+plan_text plan.MaxParallelism = codes "P5 MaxParallelism"
+plan_text plan.Sources = codes "P6 Sources"
+plan_text plan.Partitions = codes "P7 Partitions"
+plan_text plan.Uid = codes "P8 Uid"
+plan_text plan.UidTwice = codes "P9 UidTwice"
+plan_text plan.Filters = codes "P10 Filters"
+plan_text plan.WindowSize = codes "P11 WindowSize"
+plan_text plan.WindowSlide = codes "P12 WindowSlide"
+plan_text plan.WindowOffset = codes "P13 WindowOffset"
+plan_text plan.Panes = codes "P14 Panes"
+plan_text plan.Aggregates = codes "P15 Aggregates"
+plan_text plan.Memory = codes "memory"
+
+abbrev pub input_text : InputFault → List ℕ
+input_text input.NotJson = codes "I1 NotJson"
+input_text input.Member = codes "I2 Member"
+input_text input.Source = codes "I3 Source"
+input_text input.Partitions = codes "I4 Partitions"
+input_text input.Width = codes "I5 Width"
+input_text input.Number = codes "I6 Number"
+input_text input.Rows = codes "I7 Rows"
+input_text input.TimeRange = codes "I8 TimeRange"
+input_text (input.LateRecord s p n) = codes "I9 LateRecord " ++ decimal s ++ codes " " ++ decimal p ++ codes " " ++ decimal n
+input_text input.TooMany = codes "I10 TooMany"
+input_text input.Memory = codes "memory"
+
+abbrev pub fault_text : JobFault → List ℕ
+fault_text (job.Plan fault) = plan_text fault
+fault_text (job.Input fault) = input_text fault
+fault_text job.Cut = codes "C1 Cut"
+fault_text job.Number = codes "C2 Number"
+fault_text job.Read = codes "F1 Read"
+fault_text job.Write = codes "F2 Write"
+fault_text job.Memory = codes "memory"
+
+abbrev pub plan_status : PlanFault → ℕ
+plan_status plan.Memory = 4
+plan_status fault = 3
+
+abbrev pub input_status : InputFault → ℕ
+input_status input.Memory = 4
+input_status fault = 3
+
+-- 4 for want of memory, 2 for a word of the command line that is no cut or no number, and else 3
+abbrev pub status : JobFault → ℕ
+status (job.Plan fault) = plan_status fault
+status (job.Input fault) = input_status fault
+status job.Cut = 2
+status job.Number = 2
+status job.Memory = 4
+status fault = 3

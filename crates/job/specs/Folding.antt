@@ -1,0 +1,27 @@
+-- What a window state holds once records are brought in.
+use Rattle.std.specs.Prelude.{◌≡◌, ℕ, ◌^◌, ◌≤◌, false, List}
+use Rattle.std.specs.FinMap.{get}
+use Rattle.plain_data.specs.Record.{Record}
+use Rattle.logical_plan.specs.declared.spec.Place.{Place}
+use Rattle.logical_plan.specs.PlanData.{PlanData}
+use Rattle.logical_plan.specs.Aggregates.{merge}
+use Rattle.stream_input.specs.PlanRows.{plan_aggregate}
+use Rattle.window_state.specs.State.{StateData, HasRoomFor}
+
+-- the state is the plan's, and can take so many records
+pub record CanTake (plan : PlanData) (count : ℕ) (state : StateData) : Type 0 where
+  pub window : state.window ≡ plan.window
+  pub room : HasRoomFor count state.windows
+  pub few : count ≤ 2 ^ 40
+
+-- the state has taken in the records that pass the plan's filters
+pub record TakesIn (plan : PlanData) (records : List Record) (old new : StateData) : Type 0 where
+  pub window : new.window ≡ old.window
+  pub added : (q : Place) → get new.windows q ≡ merge plan.window.aggregates (get old.windows q) (plan_aggregate plan records q)
+  pub whole : old.has_failed ≡ false → new.has_failed ≡ false
+
+-- the state has what the records that pass the plan's filters come to at each place
+pub record HasAll (plan : PlanData) (records : List Record) (state : StateData) : Type 0 where
+  pub window : state.window ≡ plan.window
+  pub all : (q : Place) → get state.windows q ≡ plan_aggregate plan records q
+  pub whole : state.has_failed ≡ false

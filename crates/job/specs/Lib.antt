@@ -1,0 +1,4 @@
+pub mod Fault
+pub mod FaultText
+pub mod Folding
+pub mod Run

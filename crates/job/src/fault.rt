@@ -1,0 +1,92 @@
+ghost use Rattle.std.specs.Prelude.{◌≡◌};
+ghost use Rattle.job.specs.declared.fault.JobFault.TheVariants.{Memory};
+ghost use Rattle.job.specs.Fault.{plan_fault, input_fault};
+
+use columns::BatchFault;
+use logical_plan::PlanFault;
+use std::alloc::{AllocError, AllocFailed};
+use stream_input::InputFault;
+use thiserror::Error;
+use window_state::StateFault;
+
+/// Why a call of the job has no answer.
+#[derive(Clone, Copy, Debug, PartialEq, Eq, Error)]
+pub enum JobFault {
+    /// The plan's text is refused.
+    #[error(transparent)]
+    Plan(PlanFault),
+    /// The input's text is refused.
+    #[error(transparent)]
+    Input(InputFault),
+    /// A word of the command line is no cut.
+    #[error("C1 Cut")]
+    Cut,
+    /// A word of the command line is no number in its range.
+    #[error("C2 Number")]
+    Number,
+    /// A file could not be read.
+    #[error("F1 Read")]
+    Read,
+    /// What was to be written could not be, and nothing is known of how much was.
+    #[error("F2 Write")]
+    Write,
+    /// No memory was to be had.
+    #[error("memory")]
+    Memory,
+}
+
+impl From<PlanFault> for JobFault {
+    ghost from_gives = { λ fault e. e ≡ plan_fault fault };
+
+    fn from(fault: PlanFault) -> JobFault {
+        match fault {
+            PlanFault::Memory => JobFault::Memory,
+            other => JobFault::Plan(other),
+        }
+    }
+}
+
+impl From<InputFault> for JobFault {
+    ghost from_gives = { λ fault e. e ≡ input_fault fault };
+
+    fn from(fault: InputFault) -> JobFault {
+        match fault {
+            InputFault::Memory => JobFault::Memory,
+            other => JobFault::Input(other),
+        }
+    }
+}
+
+impl From<BatchFault> for JobFault {
+    ghost from_gives = { λ _ e. e ≡ Memory };
+
+    // A batch is only copied in parts here, which fails for want of memory alone.
+    fn from(_fault: BatchFault) -> JobFault {
+        JobFault::Memory
+    }
+}
+
+impl From<StateFault> for JobFault {
+    ghost from_gives = { λ _ e. e ≡ Memory };
+
+    // A state that has failed has found no memory before.
+    fn from(_fault: StateFault) -> JobFault {
+        JobFault::Memory
+    }
+}
+
+impl From<AllocError> for JobFault {
+    ghost from_gives = { λ _ e. e ≡ Memory };
+
+    fn from(_e: AllocError) -> JobFault {
+        JobFault::Memory
+    }
+}
+
+impl<T: Drop> From<AllocFailed<T>> for JobFault {
+    ghost from_gives = { λ _ e. e ≡ Memory };
+
+    fn from(_e: AllocFailed<T>) -> JobFault {
+        JobFault::Memory
+    }
+}

@@ -1,0 +1,13 @@
+//! Jobs from bytes to bytes: a plan's text and an input's text to the text of the rows.
+#![tactic(auto)]
+
+mod fault;
+mod filtering;
+mod folding;
+mod line;
+mod run;
+mod text;
+
+pub use fault::JobFault;
+pub use line::{FaultLine, fault_line, status_of};
+pub use run::job_run;

@@ -1,0 +1,56 @@
+//! A job from bytes to bytes.
+
+ghost use Rattle.std.specs.Prelude.{◌≡◌, MatchResult, string_bytes};
+ghost use Rattle.stream_input.specs.InputData.{BelongsTo};
+ghost use Rattle.stream_input.specs.PlanRows.{plan_rows};
+ghost use Rattle.stream_input.specs.Text.{IsTextOf};
+ghost use Rattle.std.specs.Io.KnownBytes.{Appends};
+ghost use Rattle.job.specs.Run.{Answers, run_said};
+
+use crate::fault::JobFault;
+use crate::folding::state_of;
+use crate::text::text_of;
+use logical_plan::Plan;
+use std::alloc::Global;
+use std::io::Write;
+use stream_input::Input;
+
+/// The text of the plan's rows on an input.
+fn rows_text(alloc: Global, plan: &Plan, input: &Input) -> Result<String, JobFault>
+    requires { BelongsTo plan.now input.now }
+    ensures { MatchResult result (λ text. IsTextOf (plan_rows plan.now input.now.sources) (string_bytes text)) (λ fault. fault ≡ JobFault.Memory) }
+{
+    let mut state = state_of(alloc, plan, input)?;
+    let rows = state.fire(i64::MAX)?;
+    Ok(text_of(alloc, plan.window().having.as_slice(), &rows)?)
+}
+
+/// Runs a plan on a bounded input, and writes the text of the plan's rows: one line for each key and
+/// nonempty window that the having conditions keep, in the order of start and key.
+///
+/// # Errors
+///
+/// The plan's fault, else the input's; `Write` where the writer refuses the text; `Memory`.
+pub fn job_run<W: Write>(
+    alloc: Global,
+    plan: &[u8],
+    input: &[u8],
+    out: &mut W,
+) -> Result<(), JobFault>
+    ensures { Answers (run_said plan.now input.now) result (W.contents out.old) (W.contents out.new) }
+{
+    let plan = Plan::read(alloc, plan)?;
+    let input = Input::read(alloc, &plan, input)?;
+    let text = rows_text(alloc, &plan, &input)?;
+    write_text(out, text.as_str())
+}
+
+/// Writes a text whole.
+fn write_text<W: Write>(out: &mut W, text: &str) -> Result<(), JobFault>
+    ensures { MatchResult result (λ _. Appends (W.contents out.old) (W.contents out.new) text.now) (λ fault. fault ≡ JobFault.Write) }
+{
+    if out.write_all(text.as_bytes()).is_err() || out.flush().is_err() {
+        return Err(JobFault::Write);
+    }
+    Ok(())
+}

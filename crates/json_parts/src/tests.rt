@@ -1,0 +1,46 @@
+use crate::{
+    Cell, PartError, has_only, list_of, list_or_empty, text, text_of, value_of, whole, whole_or,
+};
+use std::test::Fail;
+
+const TEXT: &str = r#"{"a":-7,"b":"x","c":[1,2.5],"d":[[3],[]],"e":null}"#;
+
+#[test]
+fn parts(rt: HostRuntime) -> Result<(), Fail> {
+    let alloc = rt.alloc();
+    let value = value_of(alloc, TEXT.as_bytes())?;
+    assert_eq!(rt; whole(&value, "a")?, -7);
+    assert_eq!(rt; whole_or(&value, "z", 5)?, 5);
+    assert_eq!(rt; text_of(&value, "b")?, "x");
+    assert_eq!(rt; text(alloc, &value, "b")?.as_str(), "x");
+    assert!(rt; has_only(&value, &["e", "d", "c", "b", "a"]));
+    assert!(rt; !has_only(&value, &["a", "b", "c", "d"]));
+    let cells = list_of::<Cell>(alloc, &value, "c")?;
+    assert_eq!(rt; cells.as_slice(), [Cell(Some(1)), Cell(None)].as_slice());
+    assert_eq!(rt; list_or_empty::<Cell>(alloc, &value, "z")?.len(), 0);
+    assert_eq!(rt; list_of::<Vec<Cell>>(alloc, &value, "d")?.len(), 2);
+    Ok(())
+}
+
+#[test]
+fn refusals(rt: HostRuntime) -> Result<(), Fail> {
+    let alloc = rt.alloc();
+    let value = value_of(alloc, TEXT.as_bytes())?;
+    let form = Some(PartError::Form);
+    for bytes in [b"{".as_slice(), b"\xff".as_slice(), b"1 2".as_slice()] {
+        assert_eq!(rt; value_of(alloc, bytes).err(), form);
+    }
+    for name in ["b", "e", "z"] {
+        assert_eq!(rt; whole(&value, name).err(), form, "at {name}");
+        assert_eq!(rt;
+            list_of::<Cell>(alloc, &value, name).err(),
+            form,
+            "at {name}"
+        );
+    }
+    assert_eq!(rt; whole_or(&value, "e", 5).err(), form);
+    assert_eq!(rt; text_of(&value, "a").err(), form);
+    assert_eq!(rt; list_or_empty::<Cell>(alloc, &value, "e").err(), form);
+    assert_eq!(rt; list_of::<Vec<Cell>>(alloc, &value, "c").err(), form);
+    Ok(())
+}

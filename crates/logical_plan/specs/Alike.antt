@@ -1,0 +1,29 @@
+-- Plans that count, keep and group alike.
+use Rattle.std.specs.Prelude.{◌≡◌, ℕ, ℤ, FitsSigned, List, map, bytes_eq}
+use Rattle.std.specs.Int.{w64}
+use Rattle.std.specs.List.{All, list_any}
+use Rattle.plain_data.specs.Record.{Record}
+use Rattle.logical_plan.specs.PlanData.{PlanData, IsPlan}
+use Rattle.logical_plan.specs.PlanRecord.{plan_record}
+use Rattle.logical_plan.specs.Windows.{passes, is_window_of}
+use Rattle.logical_plan.specs.Rows.{keeps}
+
+-- each condition's value is an i64
+pub record HasValues (p : PlanData) : Type 0 where
+  pub filters : All (λ f. FitsSigned w64 f.value) p.filters
+  pub having : All (λ h. FitsSigned w64 h.value) p.window.having
+
+pub record IsAlike (p q : PlanData) : Type 0 where
+  pub columns : p.columns ≡ q.columns
+  pub max : p.max ≡ q.max
+  pub time : p.window.time ≡ q.window.time
+  pub key : p.window.key ≡ q.window.key
+  pub sources : (uid : List ℕ) → list_any (bytes_eq uid) (map (λ s. s.uid) p.sources) ≡ list_any (bytes_eq uid) (map (λ s. s.uid) q.sources)
+  pub passing : (r : Record) → passes p.filters r ≡ passes q.filters r
+  pub windows : (t s : ℤ) → is_window_of p.window t s ≡ is_window_of q.window t s
+  pub aggregates : p.window.aggregates ≡ q.window.aggregates
+  pub having : (numbers : List ℤ) → keeps p.window.having numbers ≡ keeps q.window.having numbers
+
+-- plans with equal records are alike
+abbrev pub EqualRecords : Type 0
+EqualRecords = (p q : PlanData) → IsPlan p → IsPlan q → HasValues p → HasValues q → plan_record p ≡ plan_record q → IsAlike p q
