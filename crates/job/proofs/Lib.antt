@@ -2,3 +2,4 @@ pub mod Masks
 pub mod Folds
 pub mod PlanText
 pub mod Refusals
+pub mod Numerals

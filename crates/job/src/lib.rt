@@ -4,10 +4,12 @@
 mod fault;
 mod filtering;
 mod folding;
+mod group;
 mod line;
 mod run;
 mod text;
 
 pub use fault::JobFault;
+pub use group::job_group;
 pub use line::{FaultLine, fault_line, status_of};
 pub use run::job_run;

@@ -46,7 +46,7 @@ pub fn job_run<W: Write>(
 }
 
 /// Writes a text whole.
-fn write_text<W: Write>(out: &mut W, text: &str) -> Result<(), JobFault>
+pub(crate) fn write_text<W: Write>(out: &mut W, text: &str) -> Result<(), JobFault>
     ensures { MatchResult result (λ _. Appends (W.contents out.old) (W.contents out.new) text.now) (λ fault. fault ≡ JobFault.Write) }
 {
     if out.write_all(text.as_bytes()).is_err() || out.flush().is_err() {

@@ -1,0 +1,26 @@
+//! What each command does.
+
+use crate::files::file;
+use clap::ArgMatches;
+use job::{JobFault, job_group, job_run};
+use std::io::writer;
+use std::rt::Files;
+
+fn named<'a>(words: &ArgMatches<'a>, name: &str) -> &'a str {
+    words.get_str(name).unwrap_or("")
+}
+
+/// Prints the rows of a plan on an input.
+pub fn run<R: Files + Print + AllocGlobal>(rt: &R, words: &ArgMatches<'_>) -> Result<(), JobFault> {
+    let plan = file(rt, named(words, "PLAN"))?;
+    let input = file(rt, named(words, "INPUT"))?;
+    job_run(rt.alloc(), &plan, &input, &mut writer(rt))
+}
+
+/// Prints the group of a key and its owner.
+pub fn group<R: Print + AllocGlobal>(rt: &R, words: &ArgMatches<'_>) -> Result<(), JobFault> {
+    let key = named(words, "KEY");
+    let max = named(words, "MAX");
+    let par = named(words, "PAR");
+    job_group(rt.alloc(), key, max, par, &mut writer(rt))
+}

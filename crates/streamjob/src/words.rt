@@ -1,0 +1,55 @@
+//! The words of the command line.
+
+use clap::{Arg, Command};
+use std::alloc::{AllocError, Global};
+
+fn required<'a>(alloc: Global, name: &'a str, help: &'a str) -> Arg<'a> {
+    Arg::new(alloc, name).required(true).help(help)
+}
+
+const ROWS: &str = "\
+Each row is a line `START END KEY NUMBER ..`: a window of time from START up to END, a key,
+and what the plan's aggregates give for the key's records in the window. Rows come in the
+order of START and KEY.";
+
+const STATUSES: &str = "\
+Exit status: 0 done; 2 words that are not understood; 3 a file that cannot be read or written,
+or a plan or input that is refused; 4 no memory. Standard error says what is refused.";
+
+fn run_words<'a>(alloc: Global) -> Result<Command<'a>, AllocError> {
+    Command::new(alloc, "run")
+        .about("Run a plan on an input and print its rows")
+        .after_help(ROWS)
+        .arg(required(
+            alloc,
+            "PLAN",
+            "JSON file of the job: sources, filters, and one window with its aggregates",
+        ))?
+        .arg(required(
+            alloc,
+            "INPUT",
+            "JSON file of the records: for each source its partitions, with rows and watermarks",
+        ))
+}
+
+fn group_words<'a>(alloc: Global) -> Result<Command<'a>, AllocError> {
+    Command::new(alloc, "group")
+        .about("Print the key group of a key and the subtask that owns the group")
+        .arg(required(
+            alloc,
+            "KEY",
+            "Key, a whole number of 64 bits (a negative one after --)",
+        ))?
+        .arg(required(alloc, "MAX", "Number of key groups, 1 to 32768"))?
+        .arg(required(alloc, "PAR", "Number of subtasks, 1 to 64 and at most MAX"))
+}
+
+/// The command and its subcommands.
+pub fn command<'a>(alloc: Global) -> Result<Command<'a>, AllocError> {
+    Command::new(alloc, "streamjob")
+        .about("Count and sum records by key, in windows of event time")
+        .after_help(STATUSES)
+        .subcommand_required(true)
+        .subcommand(run_words(alloc)?)?
+        .subcommand(group_words(alloc)?)
+}
