@@ -13,8 +13,8 @@ mod draft;
 mod entry;
 mod fault;
 mod input;
-pub mod laws;
 mod late;
+pub mod laws;
 mod reading;
 mod sources;
 

@@ -1,5 +1,8 @@
 //! From the words to the status.
 
+ghost use Rattle.std.specs.Prelude.{◌≡◌, ◌⊎◌};
+ghost use Rattle.job.specs.FaultText.{status as status_said};
+
 use crate::commands;
 use crate::words::command;
 use clap::error::ErrorKind;
@@ -20,26 +23,33 @@ fn chosen<R: Files + Print + AllocGlobal>(
     }
 }
 
+/// Says that no memory was to be had, which needs none.
+fn out_of_memory<R: Eprint>(rt: &R) -> u8
+    ensures { result ≡ 4 }
+{
+    let _ = rt.eprintln("memory");
+    4
+}
+
 /// Says what is wrong with the words. Help counts as that, so that standard output has rows alone.
-fn refused<R: Eprint>(rt: &R, error: &Error) -> u8 {
+fn refused<R: Eprint>(rt: &R, error: &Error) -> u8
+    ensures { (result ≡ 2) ⊎ (result ≡ 4) }
+{
     if error.kind() == ErrorKind::OutOfMemory {
-        let _ = rt.eprintln("memory");
-        return 4;
+        return out_of_memory(rt);
     }
     let _ = rt.eprint(error);
     2
 }
 
-/// Says the fault.
-fn failed<R: Eprint + AllocGlobal>(rt: &R, fault: &JobFault) -> u8 {
-    match fault_line(rt.alloc(), fault) {
-        Ok(line) => {
-            let _ = rt.eprintln(line.as_str());
-        }
-        Err(_) => {
-            let _ = rt.eprintln("memory");
-        }
-    }
+/// Says the fault, or that no memory was to be had for its line.
+fn failed<R: Eprint + AllocGlobal>(rt: &R, fault: &JobFault) -> u8
+    ensures { (result ≡ status_said fault.now) ⊎ (result ≡ 4) }
+{
+    let Ok(line) = fault_line(rt.alloc(), fault) else {
+        return out_of_memory(rt);
+    };
+    let _ = rt.eprintln(line.as_str());
     status_of(fault)
 }
 
