@@ -5,6 +5,8 @@ mod adding;
 mod fault;
 mod firing;
 mod state;
+#[cfg(test)]
+mod tests;
 
 pub use fault::StateFault;
 pub use logical_plan::Row;
