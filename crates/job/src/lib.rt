@@ -6,6 +6,8 @@ mod filtering;
 mod folding;
 mod line;
 mod run;
+#[cfg(test)]
+mod tests;
 mod text;
 
 pub use fault::JobFault;
