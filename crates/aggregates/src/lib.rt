@@ -4,6 +4,8 @@
 mod acc;
 mod kind;
 mod numbers;
+#[cfg(test)]
+mod tests;
 
 pub use acc::Acc;
 pub use kind::Kind;

@@ -7,6 +7,8 @@ mod folding;
 mod group;
 mod line;
 mod run;
+#[cfg(test)]
+mod tests;
 mod text;
 
 pub use fault::JobFault;
