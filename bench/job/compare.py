@@ -4,7 +4,7 @@
 
 A command is one word, split at spaces. The first program's answer and numbers are what the others
 are compared with. The least time of RUNS runs counts, and the greatest peak of memory.
-A peak is never below that of this script when it starts a program, about 10 MB.
+A peak is never below that of this script when it starts a program, about 15 MB.
 """
 
 import filecmp
