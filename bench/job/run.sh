@@ -1,0 +1,52 @@
+#!/bin/sh
+# Runs the same job with streamjob, with a plain Rust program and with SQLite, compares their answers
+# byte for byte, and prints what each took.
+#
+# Words are numbers of records (1000000 where there are none), and name=number for the generator, as
+# keys=10. RUNS is how often each program runs (3), and STREAMJOB another program to run.
+set -e
+here=$(cd "$(dirname "$0")" && pwd)
+top=$here/../..
+program=${STREAMJOB:-$top/crates/streamjob/out/streamjob}
+if [ -z "$STREAMJOB" ] && [ ! -x "$program" ]; then
+  "$top/scripts/streamjob" group 1 128 4 >/dev/null
+fi
+
+folder=$(mktemp -d)
+trap 'rm -r "$folder"' EXIT
+for name in generate plain; do
+  rustc --edition 2024 -O "$here/$name.rs" -o "$folder/$name"
+done
+
+sizes=
+shape=
+window_size=10000
+window_slide=10000
+for word in "$@"; do
+  case $word in
+    size=*) window_size=${word#*=}; shape="$shape $word" ;;
+    slide=*) window_slide=${word#*=}; shape="$shape $word" ;;
+    *=*) shape="$shape $word" ;;
+    *) sizes="$sizes $word" ;;
+  esac
+done
+
+words="$folder/input.json $window_size $window_slide"
+sqlite=
+if python3 -c 'import sqlite3' 2>/dev/null; then
+  sqlite="python3 $here/database.py $words"
+else
+  echo "absent: sqlite3"
+fi
+command -v mlr >/dev/null && echo "not timed: Miller" || echo "absent: Miller"
+python3 -c 'import pandas' 2>/dev/null && echo "not timed: pandas" || echo "absent: pandas"
+
+for records in ${sizes:-1000000}; do
+  "$folder/generate" "$folder/plan.json" "$folder/input.json" "records=$records" $shape
+  echo
+  echo "$records records$shape, $(wc -c <"$folder/input.json") bytes"
+  python3 "$here/compare.py" "${RUNS:-3}" \
+    plain "$folder/plain $words" \
+    streamjob "$program run $folder/plan.json $folder/input.json" \
+    ${sqlite:+sqlite "$sqlite"}
+done
