@@ -2,3 +2,4 @@ pub mod Updates
 pub mod Slides
 pub mod Entries
 pub mod Rows
+pub mod PartMaps

@@ -26,7 +26,7 @@ use Rattle.window_state.proofs.Entries.{sorted_totals, found_total}
 apart : (a b c d : ℤ) → ordering_then (int_cmp a c) (int_cmp b d) ≡ Less → (int_eq c a && int_eq d b) ≡ false
 apart a b c d h = grind (arith, ints)
 
-tied : (a b c d : ℤ) → is_eq (ordering_then (int_cmp a b) (int_cmp c d)) ≡ (int_eq b a && int_eq d c)
+pub tied : (a b c d : ℤ) → is_eq (ordering_then (int_cmp a b) (int_cmp c d)) ≡ (int_eq b a && int_eq d c)
 tied a b c d = grind (arith, ints)
 
 -- a row that is or is not taken, at a place where it does not stand

@@ -3,3 +3,4 @@ pub mod State
 pub mod StateView
 pub mod Codes
 pub mod Firing
+pub mod Parts

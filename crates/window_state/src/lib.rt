@@ -4,10 +4,12 @@
 mod adding;
 mod fault;
 mod firing;
+mod parts;
 mod state;
 #[cfg(test)]
 mod tests;
 
 pub use fault::StateFault;
 pub use logical_plan::Row;
+pub use parts::Part;
 pub use state::WindowState;

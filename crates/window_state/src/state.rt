@@ -1,4 +1,4 @@
-ghost use Rattle.std.specs.Prelude.{◌≡◌, true, false, not, ◌≤◌, ◌↔◌, length, Option, IfOk, OnOk, OnErr, IsErrOf};
+ghost use Rattle.std.specs.Prelude.{◌≡◌, true, false, not, ◌≤◌, ◌↔◌, length, Option, IfOk, IfErr, OnOk, OnErr, IsErrOf};
 ghost use Rattle.std.specs.List.{All};
 ghost use Rattle.std.specs.List.Sorted.{IsSortedByKey};
 ghost use Rattle.std.specs.FinMap as map;
@@ -9,10 +9,12 @@ ghost use Rattle.logical_plan.specs.Aggregates.{merge};
 ghost use Rattle.logical_plan.specs.Rows.{aggregate_at, is_due, place_of, place_cmp, AreRowsOf};
 ghost use Rattle.window_state.specs.Windows.{IsOperator, CanAggregate};
 ghost use Rattle.window_state.specs.State.{HasRoomFor, fired};
+ghost use Rattle.window_state.specs.Parts.{entries_of, IsPartOf};
 
 use crate::adding::{Windows, add_batch};
 use crate::fault::StateFault;
 use crate::firing::{remove_due, rows_of};
+use crate::parts::{Part, parts_of};
 use columns::Batch;
 use logical_plan::{Row, WindowSpec};
 use std::alloc::Global;
@@ -101,5 +103,53 @@ impl WindowState {
         let rows = rows_of(self.alloc, &self.window, &self.windows, watermark)?;
         remove_due(&mut self.windows, &self.window, watermark);
         Ok(rows)
+    }
+
+    /// What stands at each place, in the order of start and key.
+    pub fn parts(&self, alloc: Global) -> Result<Vec<Part>, StateFault>
+        ensures says { IfOk result (λ parts. entries_of parts.items ≡ map.entries self.now.windows) }
+        ensures sound { IfOk result (λ parts. All (IsPartOf self.now.window) parts.items) }
+        ensures failed { IsErrOf result StateFault.Failed ↔ (self.now.has_failed ≡ true) }
+    {
+        if self.has_failed {
+            return Err(StateFault::Failed);
+        }
+        Ok(parts_of(alloc, &self.windows)?)
+    }
+
+    /// The state that holds the parts. Where a place stands twice, the first counts.
+    ///
+    /// # Errors
+    ///
+    /// Only `Memory`.
+    pub fn from_parts(
+        alloc: Global,
+        window: &WindowSpec,
+        parts: &[Part],
+    ) -> Result<WindowState, StateFault>
+        requires operator { IsOperator window.now }
+        requires parts { All (IsPartOf window.now) parts.now }
+        ensures made { IfOk result (λ state. state ≡ record {
+          window = window.now;
+          windows = map.from_entries (entries_of parts.now);
+          has_failed = false;
+        }) }
+        ensures fault { IfErr result (λ fault. fault ≡ StateFault.Memory) }
+    {
+        let mut windows = BTreeMap::new(alloc);
+        let mut left = parts.len();
+        while left > 0 {
+            left -= 1;
+            let part = &parts[left];
+            windows.insert(part.place, part.acc)?;
+        }
+        let window = window.copy(alloc)?;
+        let has_failed = false;
+        Ok(WindowState {
+            alloc,
+            window,
+            windows,
+            has_failed,
+        })
     }
 }

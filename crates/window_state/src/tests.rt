@@ -44,11 +44,12 @@ fn batch(alloc: Global, records: &[(i32, i64)]) -> Result<Batch, Fail>
 }
 
 // The state of such windows that the records have reached.
-fn state(alloc: Global, size: u8, slide: u8, records: &[(i32, i64)]) -> Result<WindowState, Fail>
-    requires sized { 1 ≤ size }
-    requires slides { 1 ≤ slide }
+fn state(alloc: Global, window: &WindowSpec, records: &[(i32, i64)]) -> Result<WindowState, Fail>
+    requires time { window.now.time ≡ 0 }
+    requires aggregates { CanAggregate 2 window.now }
+    ensures window { IfOk result (λ s. s.window ≡ window.now) }
 {
-    let mut state = WindowState::new(alloc, &window(alloc, size, slide)?)?;
+    let mut state = WindowState::new(alloc, window)?;
     state.add(&batch(alloc, records)?)?;
     Ok(state)
 }
@@ -72,7 +73,8 @@ fn fired(
 #[test]
 fn windows_fire_once_at_their_end(rt: HostRuntime) -> Result<(), Fail> {
     let alloc = rt.alloc();
-    let mut state = state(alloc, 10, 10, &[(12, 7), (0, 7), (9, 7), (9, -4)])?;
+    let window = window(alloc, 10, 10)?;
+    let mut state = state(alloc, &window, &[(12, 7), (0, 7), (9, 7), (9, -4)])?;
     assert!(rt; fired(alloc, &mut state, 8)?.is_empty());
     assert_eq!(rt;
         fired(alloc, &mut state, 9)?.as_slice(),
@@ -90,7 +92,8 @@ fn windows_fire_once_at_their_end(rt: HostRuntime) -> Result<(), Fail> {
 #[test]
 fn windows_of_negative_times(rt: HostRuntime) -> Result<(), Fail> {
     let alloc = rt.alloc();
-    let mut state = state(alloc, 10, 10, &[(-1, 1), (-10, 1), (-11, 1)])?;
+    let window = window(alloc, 10, 10)?;
+    let mut state = state(alloc, &window, &[(-1, 1), (-10, 1), (-11, 1)])?;
     assert_eq!(rt;
         fired(alloc, &mut state, -11)?.as_slice(),
         [(-20, -10, 1, 1, 1)].as_slice()
@@ -105,7 +108,8 @@ fn windows_of_negative_times(rt: HostRuntime) -> Result<(), Fail> {
 #[test]
 fn a_time_lies_in_each_sliding_window(rt: HostRuntime) -> Result<(), Fail> {
     let alloc = rt.alloc();
-    let mut state = state(alloc, 10, 4, &[(-1, 3)])?;
+    let window = window(alloc, 10, 4)?;
+    let mut state = state(alloc, &window, &[(-1, 3)])?;
     assert_eq!(rt;
         fired(alloc, &mut state, 1)?.as_slice(),
         [(-8, 2, 3, 1, 3)].as_slice()
@@ -127,6 +131,21 @@ fn faults_have_their_codes(rt: HostRuntime) -> Result<(), Fail> {
     assert_eq!(rt;
         format!(in alloc; "{}", StateFault::Failed)?.as_str(),
         "K2 Failed"
+    );
+    Ok(())
+}
+
+#[test]
+fn parts_make_the_state_again(rt: HostRuntime) -> Result<(), Fail> {
+    let alloc = rt.alloc();
+    let window = window(alloc, 10, 10)?;
+    let state = state(alloc, &window, &[(12, 7), (0, 7), (9, 7), (9, -4)])?;
+    let parts = state.parts(alloc)?;
+    assert_eq!(rt; parts.len(), 3);
+    let mut again = WindowState::from_parts(alloc, &window, &parts)?;
+    assert_eq!(rt;
+        fired(alloc, &mut again, i64::MAX)?.as_slice(),
+        [(0, 10, -4, 1, -4), (0, 10, 7, 2, 14), (10, 20, 7, 1, 7)].as_slice()
     );
     Ok(())
 }

@@ -1,0 +1,24 @@
+-- The places of a state one by one.
+use Rattle.std.specs.Prelude.{◌≡◌, map, List}
+use Rattle.logical_plan.specs.declared.spec.WindowSpec.{WindowSpec}
+use Rattle.logical_plan.specs.declared.spec.Place.{Place}
+use Rattle.logical_plan.specs.Aggregates.{Aggregated}
+use Rattle.aggregates.specs.Kinds.{AccData, kind_of}
+use Rattle.window_state.specs.declared.parts.Part.{Part}
+use Rattle.window_state.specs.Windows.{IsStart}
+
+abbrev pub part_of : Place × AccData → Part
+part_of e = record { place = e.0; acc = e.1 }
+
+-- a part for each entry
+abbrev pub parts_in : List (Place × AccData) → List Part
+parts_in entries = map part_of entries
+
+-- the entries of a state's map that parts stand for
+abbrev pub entries_of : List Part → List (Place × Aggregated)
+entries_of parts = map (λ p. (p.place, p.acc.total)) parts
+
+-- a part of a state of the window operator: it has the operator's aggregates, and a start in range
+pub record IsPartOf (w : WindowSpec) (p : Part) : Type 0 where
+  pub kinds : p.acc.kinds ≡ map kind_of w.aggregates
+  pub start : IsStart p.place.start
