@@ -10,12 +10,13 @@ use crate::fits::know_fits;
 use std::simd::prelude::*;
 
 // One where the lane holds, and else zero.
-fn compare_lanes(lanes: &[i64; 8], cmp: Cmp, c: i64) -> [i64; 8]
+#[inline(always)]
+fn compare_lanes(lanes: &[i64; 16], cmp: Cmp, c: i64) -> [i64; 16]
     requires { Each1 (FitsSigned w64) lanes.now }
     ensures { result ≡ map (λ x. if holds cmp x c then pos 1 else pos 0) lanes.now }
 {
-    let v = i64x8::from_array(*lanes);
-    let w = i64x8::splat(c);
+    let v = i64x16::from_array(*lanes);
+    let w = i64x16::splat(c);
     let hits = match cmp {
         Cmp::Eq => v.simd_eq(w),
         Cmp::Ne => v.simd_ne(w),
@@ -24,17 +25,18 @@ fn compare_lanes(lanes: &[i64; 8], cmp: Cmp, c: i64) -> [i64; 8]
         Cmp::Gt => v.simd_gt(w),
         Cmp::Ge => v.simd_ge(w),
     };
-    hits.select(i64x8::splat(1), i64x8::splat(0)).to_array()
+    hits.select(i64x16::splat(1), i64x16::splat(0)).to_array()
 }
 
-// Narrows eight places of the mask, where the lane is zero.
-fn and_lanes(mask: &mut [bool], at: usize, hits: &[i64; 8])
-    requires { at + 8 ≤ length mask.old }
+// Narrows sixteen places of the mask, where the lane is zero.
+#[inline(always)]
+fn and_lanes(mask: &mut [bool], at: usize, hits: &[i64; 16])
+    requires { at + 16 ≤ length mask.old }
     ensures before { (k : ℕ) → k < at → slice_index_or mask.new k false ≡ slice_index_or mask.old k false }
-    ensures here { (k : ℕ) → k < 8 → slice_index_or mask.new (at + k) false ≡ (slice_index_or mask.old (at + k) false && not (int_eq (slice_index_or hits.now k (pos 0)) (pos 0))) }
-    ensures after { (k : ℕ) → at + 8 ≤ k → slice_index_or mask.new k false ≡ slice_index_or mask.old k false }
+    ensures here { (k : ℕ) → k < 16 → slice_index_or mask.new (at + k) false ≡ (slice_index_or mask.old (at + k) false && not (int_eq (slice_index_or hits.now k (pos 0)) (pos 0))) }
+    ensures after { (k : ℕ) → at + 16 ≤ k → slice_index_or mask.new k false ≡ slice_index_or mask.old k false }
 {
-    for j in 0..8usize {
+    for j in 0..16usize {
         mask[at + j] = mask[at + j] & (hits[j] != 0);
     }
 }
@@ -47,12 +49,12 @@ pub fn and_compare(col: &[i64], cmp: Cmp, c: i64, mask: &mut [bool])
     ensures { mask.new ≡ narrowed cmp c col.now mask.old }
 {
     know_fits(col);
-    let (whole, _) = col.as_chunks::<8>();
+    let (whole, _) = col.as_chunks::<16>();
     let mut at = 0usize;
     for lanes in whole {
         let hits = compare_lanes(lanes, cmp, c);
         and_lanes(mask, at, &hits);
-        at += 8;
+        at += 16;
     }
     for i in at..col.len() {
         mask[i] = mask[i] & cmp.holds(col[i] as i128, c as i128);

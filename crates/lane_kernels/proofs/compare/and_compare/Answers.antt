@@ -15,11 +15,11 @@ pub compare_lanes-hits-requires : goal.compare_lanes-hits-requires
 compare_lanes-hits-requires c =
     let xs = c.args.col.now in
     let i = c.loop-lanes.lanes-index in
-    let n = length xs / 8 in
+    let n = length xs / 16 in
     let inside : i < n = omega (arith, c.as_chunks.ensures.front_len) in
-    let room : 8 * i + 8 ≤ length xs = omega arith in
+    let room : 16 * i + 16 ≤ length xs = omega arith in
     subst (λ (ys : List (List ℤ)). Each1 (SFits w64) (get_or ys i [])) (sym c.as_chunks.ensures.front)
-    (subst (Each1 (SFits w64)) (sym (chunk_at 8 n i xs inside)) (Each1-of_chunk (SFits w64) xs (pos 0) (8 * i) 8 room c.know_fits.ensures))
+    (subst (Each1 (SFits w64)) (sym (chunk_at 16 n i xs inside)) (Each1-of_chunk (SFits w64) xs (pos 0) (16 * i) 16 room c.know_fits.ensures))
 
 pub returns : goal.returns
 returns c =
@@ -39,16 +39,16 @@ loop-lanes-preserved c =
     let i = c.loop-lanes.lanes-index in
     let at = c.loop-lanes.at in
     let inv = c.loop-lanes.invariant in
-    let n = length xs / 8 in
+    let n = length xs / 16 in
     let inside : i < n = omega (arith, c.as_chunks.ensures.front_len) in
-    let room : 8 * i + 8 ≤ length xs = omega arith in
+    let room : 16 * i + 16 ≤ length xs = omega arith in
     let lanes = get_or c.as_chunks.result.0.now i [] in
-    let whole : lanes ≡ chunk (8 * i) 8 xs = ap (λ (ys : List (List ℤ)). get_or ys i []) c.as_chunks.ensures.front ∙ chunk_at 8 n i xs inside in
-    let long : length lanes ≡ 8 = ap length whole ∙ length-chunk (8 * i) 8 xs room in
-    let hit = λ (k : ℕ) (ge : at ≤ k) (lt : k < at + 8).
+    let whole : lanes ≡ chunk (16 * i) 16 xs = ap (λ (ys : List (List ℤ)). get_or ys i []) c.as_chunks.ensures.front ∙ chunk_at 16 n i xs inside in
+    let long : length lanes ≡ 16 = ap length whole ∙ length-chunk (16 * i) 16 xs room in
+    let hit = λ (k : ℕ) (ge : at ≤ k) (lt : k < at + 16).
     (let j = k - at in
     let lane : get_or lanes j (pos 0) ≡ get_or xs k (pos 0) =
-    ap (λ (l : List ℤ). get_or l j (pos 0)) whole ∙ get_or-chunk (8 * i) 8 xs j (pos 0) (omega arith) ∙ ap (λ m. get_or xs m (pos 0)) (omega arith) in
+    ap (λ (l : List ℤ). get_or l j (pos 0)) whole ∙ get_or-chunk (16 * i) 16 xs j (pos 0) (omega arith) ∙ ap (λ m. get_or xs m (pos 0)) (omega arith) in
     ap (λ (h : ℤ). not (int_eq h (pos 0)))
     (ap (λ (hs : List ℤ). get_or hs j (pos 0)) c.compare_lanes-hits.ensures ∙ get_or-map _ lanes j (pos 0) (pos 0) (omega arith))
     ∙ one_or_zero _

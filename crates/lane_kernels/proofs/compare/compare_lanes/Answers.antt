@@ -15,10 +15,10 @@ returns c =
     let d = c.args.c in
     let f : SFits w64 d = c.ranges.c in
     let done = λ (k : Cmp) (is : c.args.cmp ≡ k) (h : c.match-cmp.hits ≡ map (λ x. ones (holds k x d)) xs).
-    ap (λ hs. map (to_z w64) (sel_l (map (top 63) hs) (replicate 8 1) (replicate 8 0))) h ∙ chosen_lanes (λ x. holds k x d) 8 xs c.told-lanes
+    ap (λ hs. map (to_z w64) (sel_l (map (top 63) hs) (replicate 16 1) (replicate 16 0))) h ∙ chosen_lanes (λ x. holds k x d) 16 xs c.told-lanes
     ∙ ap (λ (m : Cmp). map (λ x. cond (holds m x d) (pos 1) (pos 0)) xs) (sym is) in
-    let right = λ (t : ℕ → ℕ → Bool) (p : ℤ → Bool) (says : (x : ℤ) → SFits w64 x → t (of_z w64 x) (of_z w64 d) ≡ p x). compared_right t p (of_z w64 d) says 8 xs c.told-lanes c.requires in
-    let left = λ (t : ℕ → ℕ → Bool) (p : ℤ → Bool) (says : (x : ℤ) → SFits w64 x → t (of_z w64 d) (of_z w64 x) ≡ p x). compared_left t p (of_z w64 d) says 8 xs c.told-lanes c.requires in
+    let right = λ (t : ℕ → ℕ → Bool) (p : ℤ → Bool) (says : (x : ℤ) → SFits w64 x → t (of_z w64 x) (of_z w64 d) ≡ p x). compared_right t p (of_z w64 d) says 16 xs c.told-lanes c.requires in
+    let left = λ (t : ℕ → ℕ → Bool) (p : ℤ → Bool) (says : (x : ℤ) → SFits w64 x → t (of_z w64 d) (of_z w64 x) ≡ p x). compared_left t p (of_z w64 d) says 16 xs c.told-lanes c.requires in
     elim c.match-cmp.branch [
       | in-Eq w ↦ done Eq w.in-Eq.is (w.hits-is ∙ right eqb (λ x. holds Eq x d) (λ x g. eqb_bits x d g f))
       | in-Ne w ↦ done Ne w.in-Ne.is (w.hits-is ∙ right (λ a b. not (eqb a b)) (λ x. holds Ne x d) (λ x g. ap not (eqb_bits x d g f)))
