@@ -1,6 +1,6 @@
 #!/bin/sh
-# Runs the same job with streamjob, with a plain Rust program and with SQLite, compares their answers
-# byte for byte, and prints what each took.
+# Runs the same job with streamjob, with a plain Rust program and with what of SQLite, pandas and Miller
+# the machine has, compares their answers byte for byte, and prints what each took.
 #
 # Words are numbers of records (1000000 where there are none), and name=number for the generator, as
 # keys=10. RUNS is how often each program runs (3), and STREAMJOB another program to run.
@@ -38,8 +38,19 @@ if python3 -c 'import sqlite3' 2>/dev/null; then
 else
   echo "absent: sqlite3"
 fi
-command -v mlr >/dev/null && echo "not timed: Miller" || echo "absent: Miller"
-python3 -c 'import pandas' 2>/dev/null && echo "not timed: pandas" || echo "absent: pandas"
+pandas=
+for python in python3 /usr/bin/python3; do
+  if [ -z "$pandas" ] && "$python" -c 'import pandas' 2>/dev/null; then
+    pandas="$python $here/tables.py $words"
+  fi
+done
+[ -n "$pandas" ] || echo "absent: pandas"
+miller=
+if command -v mlr >/dev/null; then
+  miller="mlr --ijson --onidx --from $folder/input.json put -q -s size=$window_size -s slide=$window_slide -f $here/records.mlr"
+else
+  echo "absent: Miller"
+fi
 
 for records in ${sizes:-1000000}; do
   "$folder/generate" "$folder/plan.json" "$folder/input.json" "records=$records" $shape
@@ -48,5 +59,5 @@ for records in ${sizes:-1000000}; do
   python3 "$here/compare.py" "${RUNS:-3}" \
     plain "$folder/plain $words" \
     streamjob "$program run $folder/plan.json $folder/input.json" \
-    ${sqlite:+sqlite "$sqlite"}
+    ${sqlite:+sqlite "$sqlite"} ${pandas:+pandas "$pandas"} ${miller:+miller "$miller"}
 done
