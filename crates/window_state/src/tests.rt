@@ -135,14 +135,30 @@ fn faults_have_their_codes(rt: HostRuntime) -> Result<(), Fail> {
     Ok(())
 }
 
+// The start, key, and numbers of each part.
+fn contents(alloc: Global, parts: &[Part]) -> Result<Vec<(i64, i64, Vec<i128>)>, Fail> {
+    let mut contents = Vec::new(alloc);
+    for part in parts {
+        let numbers = Vec::from_slice(alloc, part.acc.numbers())?;
+        contents.push((part.place.start, part.place.key, numbers))?;
+    }
+    Ok(contents)
+}
+
 #[test]
 fn parts_make_the_state_again(rt: HostRuntime) -> Result<(), Fail> {
     let alloc = rt.alloc();
     let window = window(alloc, 10, 10)?;
     let state = state(alloc, &window, &[(12, 7), (0, 7), (9, 7), (9, -4)])?;
     let parts = state.parts(alloc)?;
-    assert_eq!(rt; parts.len(), 3);
     let mut again = WindowState::from_parts(alloc, &window, &parts)?;
+    let held = contents(alloc, &parts)?;
+    assert_eq!(rt; held.len(), 3);
+    assert_eq!(rt;
+        (held[0].0, held[0].1, held[0].2.as_slice()),
+        (0, -4, [1, -4].as_slice())
+    );
+    assert_eq!(rt; held, contents(alloc, &again.parts(alloc)?)?);
     assert_eq!(rt;
         fired(alloc, &mut again, i64::MAX)?.as_slice(),
         [(0, 10, -4, 1, -4), (0, 10, 7, 2, 14), (10, 20, 7, 1, 7)].as_slice()
