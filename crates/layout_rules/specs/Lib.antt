@@ -4,3 +4,4 @@ pub mod Stages
 pub mod Rules
 pub mod Scale
 pub mod Layouts
+pub mod Laws
