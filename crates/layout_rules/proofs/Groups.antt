@@ -1,5 +1,5 @@
 -- Operators in stages, from the other end.
-use Rattle.std.proofs.Common.{◌≡◌, suc, ◌<◌, List, [], ◌∷◌, ◌++◌, true, ◌&&◌, ◌==◌, eqb, length, refl, sym, ap, subst, ◌∙◌, inl, inr, arith}
+use Rattle.std.proofs.Common.{◌≡◌, suc, ◌<◌, List, [], ◌∷◌, ◌++◌, true, ◌&&◌, ◌==◌, length, refl, sym, ap, subst, ◌∙◌, inl, inr, arith}
 use Rattle.std.specs.List.{AllByRecursion}
 use Rattle.std.proofs.lemmas.Bool.{cases_Bool, eqb-true, false≢true}
 use Rattle.logical_plan.specs.PlanData.{PlanData}
@@ -15,7 +15,7 @@ first_last o x y os [] = refl
 first_last o x y os (g ∷ gs) = refl
 
 -- an operator stands first in its stages
-headed : (p : PlanData) (c : ScaleData) (o : Operator) (os : List Operator) → (xs : List Operator) × (rest : List (List Operator)) × (groups p c o os ≡ (o ∷ xs) ∷ rest)
+pub headed : (p : PlanData) (c : ScaleData) (o : Operator) (os : List Operator) → (xs : List Operator) × (rest : List (List Operator)) × (groups p c o os ≡ (o ∷ xs) ∷ rest)
 headed p c o [] = ([], [], refl)
 headed p c o (o' ∷ os) =
     let h = headed p c o' os in
@@ -43,7 +43,7 @@ one_more p c o o' (x ∷ os) =
       | inr e ↦ rw e (ap (λ g. (o ∷ []) ∷ g) ih ∙ elim (cases_Bool (follows p c (last_of x os) o')) [ inl d ↦ rw d (cons_last (o ∷ []) o' (groups p c x os) some) | inr d ↦ rw d refl ])
     ]
 
-same_width : (p : PlanData) (c : ScaleData) (o o' : Operator) → follows p c o o' ≡ true → parallelism_of c o ≡ parallelism_of c o'
+pub same_width : (p : PlanData) (c : ScaleData) (o o' : Operator) → follows p c o o' ≡ true → parallelism_of c o ≡ parallelism_of c o'
 same_width p c o (Source x) e = absurd (false≢true e)
 same_width p c o (Filter f) e =
     let z = both_are (filter_scale c f).chain ((parallelism_of c o == (filter_scale c f).parallelism) && may_chain_to p o) e in

@@ -7,7 +7,6 @@ use Rattle.key_groups.specs.Groups.{key_group, hash_code}
 use Rattle.key_groups.specs.Ranges.{group_owner}
 use Rattle.lane_kernels.specs.Mix.{murmur_hash}
 use Rattle.logical_plan.specs.PlanData.{PlanData}
-use Rattle.logical_plan.specs.Windows.{passes}
 use Rattle.dataflow_model.specs.Task.{Split, Role, Source, Chain, Window, Sink, Owns, is_source}
 use Rattle.dataflow_model.specs.Layout.{Layout, IsLayout}
 use Rattle.layout_rules.specs.declared.stage.Edge.TheVariants.{ByGroup}
@@ -329,4 +328,3 @@ module _ (p : PlanData) (e : Entries) (cut : ℕ → ℕ → ℕ) (stops : Bool)
     last_filter = λ s t r a b h. ap (λ n. kept_by p (drop n stages) r) (rung_window s t h a b) ∙ at_end r;
     source_filter = λ t r h l. source_at t r h l;
   }
-

@@ -5,3 +5,5 @@ pub mod Partitions
 pub mod Shapes
 pub mod Once
 pub mod Groups
+pub mod Counted
+pub mod FiveStages

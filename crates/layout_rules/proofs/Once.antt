@@ -1,10 +1,8 @@
 -- A plan has one list of stages at a scale.
-use Rattle.std.proofs.Common.{◌≡◌, ℕ, zero, suc, ◌+◌, ◌<◌, ◌≤◌, max, List, [], ◌∷◌, cond, if◌then◌else◌, eqb, length, map, get_or, Option, Some, None, refl, sym, ap, ◌∙◌, inl, inr, arith}
+use Rattle.std.proofs.Common.{◌≡◌, ℕ, zero, suc, ◌+◌, ◌<◌, ◌≤◌, max, List, [], ◌∷◌, cond, if◌then◌else◌, eqb, length, map, get_or, Some, None, refl, sym, ap, ◌∙◌, inl, inr, arith}
 use Rattle.std.proofs.lemmas.Bool.{cases_eq, cases_lt}
-use Rattle.logical_plan.specs.PlanData.{PlanData}
 use Rattle.dataflow_model.specs.Task.{is_source}
 use Rattle.layout_rules.specs.declared.stage.Operator.{Operator}
-use Rattle.layout_rules.specs.declared.stage.Edge.{Edge}
 use Rattle.layout_rules.specs.declared.stage.Edge.TheVariants.{Forward, ByGroup, Rebalance}
 use Rattle.layout_rules.specs.declared.stage.Stage.{Stage}
 use Rattle.layout_rules.specs.Stages.{stage_from, stage_at, width, role_of, is_window, sources, after, edge_into}

@@ -1,12 +1,12 @@
 -- A compiled layout deals each partition of the input to one task.
-use Rattle.std.proofs.Common.{◌≡◌, ℕ, suc, ◌+◌, ◌-◌, ◌%◌, ◌<◌, List, [], Bool, true, length, get_or, slice_index, if◌then◌else◌, refl, sym, ap, subst, ◌∙◌, inl, inr, arith}
+use Rattle.std.proofs.Common.{◌≡◌, ℕ, suc, ◌+◌, ◌%◌, ◌<◌, List, Bool, true, length, get_or, slice_index, refl, sym, ap, subst, ◌∙◌, inl, inr, arith}
 use Rattle.std.proofs.lemmas.Bool.{cases_lt, eq-eqb, eqb-true}
 use Rattle.std.proofs.lemmas.Nat.{mod_below}
 use Rattle.logical_plan.specs.PlanData.{PlanData}
 use Rattle.dataflow_model.specs.Task.{Source, is_source}
 use Rattle.dataflow_model.specs.Layout.{Layout, Deals}
 use Rattle.layout_rules.specs.declared.stage.Stage.{Stage}
-use Rattle.layout_rules.specs.Places.{first, row_of, those, count}
+use Rattle.layout_rules.specs.Places.{first, those, count}
 use Rattle.layout_rules.specs.Stages.{stage_at, width, role_of, source_of, sources, stage_of, subtask_of, its_stage, belongs, partitions_at, partitions_of}
 use Rattle.layout_rules.specs.Layouts.{partition_counts, Entries, layout_of, source_at, partition_at, input_of}
 use Rattle.layout_rules.proofs.Shape.{IsShaped}

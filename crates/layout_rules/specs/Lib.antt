@@ -5,3 +5,4 @@ pub mod Rules
 pub mod Scale
 pub mod Layouts
 pub mod Laws
+pub mod Example
