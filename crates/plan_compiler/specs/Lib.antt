@@ -1,0 +1,4 @@
+pub mod ScaleText
+pub mod Draft
+pub mod Fault
+pub mod Requirements
