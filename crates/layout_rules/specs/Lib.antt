@@ -1,0 +1,6 @@
+pub mod Places
+pub mod ScaleData
+pub mod Stages
+pub mod Rules
+pub mod Scale
+pub mod Layouts
