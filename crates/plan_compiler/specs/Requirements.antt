@@ -1,11 +1,14 @@
 -- What a scale must meet, and the fault where it does not, in the order in which they are decided.
-use Rattle.std.specs.Prelude.{ℕ, min, pos, Bool, ◌&&◌, List, [], ◌∷◌, Option, Some, None, if◌then◌else◌, bytes_eq}
+use Rattle.std.specs.Prelude.{min, pos, nat_le, Bool, List, [], ◌∷◌, Option, Some, None, if◌then◌else◌, bytes_eq}
 use Rattle.std.specs.List.{list_all, list_any}
 use Rattle.logical_plan.specs.PlanData.{PlanData, uids}
 use Rattle.logical_plan.specs.Requirements.{is_within}
 use Rattle.plan_compiler.specs.declared.fault.ScaleFault.{ScaleFault}
-use Rattle.plan_compiler.specs.declared.fault.ScaleFault.TheVariants.{UnknownUid, MissingUid, Parallelism, Ring}
+use Rattle.plan_compiler.specs.declared.fault.ScaleFault.TheVariants.{UnknownUid, MissingUid, Parallelism, Ring, Tasks}
+use Rattle.layout_rules.specs.Stages.{tasks}
+use Rattle.layout_rules.specs.Rules.{stages_of}
 use Rattle.plan_compiler.specs.ScaleText.{ScaleText}
+use Rattle.plan_compiler.specs.Said.{scale_of}
 
 -- each member has the uid of an operator of the plan
 unfoldable pub has_known_uids : PlanData → ScaleText → Bool
@@ -23,11 +26,15 @@ has_parallelism plan text = list_all (λ m. is_within (pos 1) (pos (min 64 plan.
 unfoldable pub has_ring : PlanData → ScaleText → Bool
 has_ring plan text = is_within (pos 1) (pos 1024) text.ring
 
+-- the layout has at most 256 tasks, with the sink's one
+unfoldable pub has_few_tasks : PlanData → ScaleText → Bool
+has_few_tasks plan text = nat_le (tasks (stages_of plan (scale_of plan text))) 256
+
 abbrev pub Requirement : Type 0
 Requirement = ScaleFault × (PlanData → ScaleText → Bool)
 
 unfoldable pub requirements : List Requirement
-requirements = (UnknownUid, has_known_uids) ∷ (MissingUid, has_all_uids) ∷ (Parallelism, has_parallelism) ∷ (Ring, has_ring) ∷ []
+requirements = (UnknownUid, has_known_uids) ∷ (MissingUid, has_all_uids) ∷ (Parallelism, has_parallelism) ∷ (Ring, has_ring) ∷ (Tasks, has_few_tasks) ∷ []
 
 -- the fault of the first requirement that is not met
 abbrev pub first_unmet : List Requirement → PlanData → ScaleText → Option ScaleFault

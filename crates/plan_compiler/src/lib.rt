@@ -4,6 +4,10 @@
 
 mod check;
 mod fault;
+mod scale;
 mod scale_text;
+mod tasks;
 
 pub use fault::ScaleFault;
+pub use layout_rules::FilterScale;
+pub use scale::Scale;
