@@ -2,6 +2,7 @@
 //! compiled into stages of subtasks.
 #![tactic(auto)]
 
+mod building;
 mod check;
 mod fault;
 mod scale;
