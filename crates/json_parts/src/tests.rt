@@ -1,9 +1,9 @@
 use crate::{
-    Cell, PartError, has_only, list_of, list_or_empty, text, text_of, value_of, whole, whole_or,
+    Cell, PartError, flag_or, has_only, list_of, list_or_empty, text, text_of, value_of, whole, whole_or,
 };
 use std::test::Fail;
 
-const TEXT: &str = r#"{"a":-7,"b":"x","c":[1,2.5],"d":[[3],[]],"e":null}"#;
+const TEXT: &str = r#"{"a":-7,"b":"x","c":[1,2.5],"d":[[3],[]],"e":null,"f":false}"#;
 
 #[test]
 fn parts(rt: HostRuntime) -> Result<(), Fail> {
@@ -13,8 +13,9 @@ fn parts(rt: HostRuntime) -> Result<(), Fail> {
     assert_eq!(rt; whole_or(&value, "z", 5)?, 5);
     assert_eq!(rt; text_of(&value, "b")?, "x");
     assert_eq!(rt; text(alloc, &value, "b")?.as_str(), "x");
-    assert!(rt; has_only(&value, &["e", "d", "c", "b", "a"]));
-    assert!(rt; !has_only(&value, &["a", "b", "c", "d"]));
+    assert_eq!(rt; (flag_or(&value, "f", true)?, flag_or(&value, "z", true)?), (false, true));
+    assert!(rt; has_only(&value, &["f", "e", "d", "c", "b", "a"]));
+    assert!(rt; !has_only(&value, &["a", "b", "c", "d", "f"]));
     let cells = list_of::<Cell>(alloc, &value, "c")?;
     assert_eq!(rt; cells.as_slice(), [Cell(Some(1)), Cell(None)].as_slice());
     assert_eq!(rt; list_or_empty::<Cell>(alloc, &value, "z")?.len(), 0);
@@ -39,6 +40,8 @@ fn refusals(rt: HostRuntime) -> Result<(), Fail> {
         );
     }
     assert_eq!(rt; whole_or(&value, "e", 5).err(), form);
+    assert_eq!(rt; flag_or(&value, "e", true).err(), form);
+    assert_eq!(rt; flag_or(&value, "a", true).err(), form);
     assert_eq!(rt; text_of(&value, "a").err(), form);
     assert_eq!(rt; list_or_empty::<Cell>(alloc, &value, "e").err(), form);
     assert_eq!(rt; list_of::<Vec<Cell>>(alloc, &value, "c").err(), form);

@@ -1,0 +1,8 @@
+pub mod Places
+pub mod ScaleData
+pub mod Stages
+pub mod Rules
+pub mod Scale
+pub mod Layouts
+pub mod Laws
+pub mod Example

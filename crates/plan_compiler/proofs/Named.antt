@@ -1,0 +1,111 @@
+-- The members of a document by their names.
+use Rattle.std.proofs.Common.{◌≡◌, ℕ, ℤ, suc, ◌+◌, Bool, true, false, ◌&&◌, ◌||◌, not, min, pos, cond, map, length, List, [], ◌∷◌, ◌++◌, Option, Some, None, option_map, is_some, string_bytes, refl, ap, ◌∙◌, ltb, inl, inr, arith}
+use Rattle.std.proofs.lemmas.Bool.{cases_Bool, and_parts}
+use Rattle.std.proofs.lemmas.Int.{ints}
+use Rattle.std.proofs.lemmas.Bool.Decides.{nat_tests}
+use Rattle.std.specs.Prelude.{bytes_eq}
+use Rattle.std.specs.Option.{option_map_or}
+use Rattle.std.specs.List.{list_all, list_any, find, position, prefix_len}
+use Rattle.std.proofs.lemmas.List.Folds.{list_all-append, list_all-map}
+use Rattle.logical_plan.specs.declared.spec.SourceSpec.{SourceSpec}
+use Rattle.logical_plan.specs.declared.spec.FilterSpec.{FilterSpec}
+use Rattle.logical_plan.specs.PlanData.{PlanData, uids}
+use Rattle.logical_plan.specs.Requirements.{is_within}
+use Rattle.plan_compiler.specs.declared.scale_text.OperatorText.{OperatorText}
+use Rattle.plan_compiler.specs.declared.scale_text.ScaleDraft.{ScaleDraft}
+use Rattle.plan_compiler.specs.Draft.{OperatorDraft, operator_draft_text, operators_draft_text, draft_text}
+use Rattle.plan_compiler.specs.ScaleText.{ScaleText}
+use Rattle.plan_compiler.specs.Said.{one_subtask, operator_under}
+use Rattle.plan_compiler.specs.Requirements.{has_known_uids, has_all_uids, has_parallelism}
+
+list_any_map : {A B : Type 0} (test : B → Bool) (f : A → B) (xs : List A) → list_any test (map f xs) ≡ list_any (λ x. test (f x)) xs
+list_any_map test f [] = refl
+list_any_map test f (x ∷ xs) = ap (λ (b : Bool). test (f x) || b) (list_any_map test f xs)
+
+and_true : (a : Bool) → (a && true) ≡ a
+and_true true = refl
+and_true false = refl
+
+pub known_uids_draft : (plan : PlanData) (draft : ScaleDraft) → has_known_uids plan (draft_text draft) ≡ list_all (λ (m : OperatorDraft). list_any (bytes_eq (string_bytes m.name)) (uids plan)) draft.operators.items
+unfolding has_known_uids
+known_uids_draft plan draft = list_all-map (λ (m : List ℕ × OperatorText). list_any (bytes_eq m.0) (uids plan)) operator_draft_text draft.operators.items
+
+pub parallelism_draft : (plan : PlanData) (draft : ScaleDraft)
+    → has_parallelism plan (draft_text draft) ≡ list_all (λ (m : OperatorDraft). is_within (pos 1) (pos (min 64 plan.max)) m.part.parallelism) draft.operators.items
+unfolding has_parallelism
+parallelism_draft plan draft = list_all-map (λ (m : List ℕ × OperatorText). is_within (pos 1) (pos (min 64 plan.max)) m.1.parallelism) operator_draft_text draft.operators.items
+
+given_draft : (operators : List OperatorDraft) (names : List (List ℕ))
+    → list_all (λ uid. list_any (λ m. bytes_eq m.0 uid) (map operator_draft_text operators)) names ≡ list_all (λ uid. list_any (λ (m : OperatorDraft). bytes_eq (string_bytes m.name) uid) operators) names
+given_draft operators [] = refl
+given_draft operators (uid ∷ names) = rw (list_any_map (λ (m : List ℕ × OperatorText). bytes_eq m.0 uid) operator_draft_text operators, given_draft operators names) refl
+
+pub all_uids_draft : (plan : PlanData) (draft : ScaleDraft) → has_all_uids plan (draft_text draft)
+    ≡ ((list_all (λ (s : SourceSpec). list_any (λ (m : OperatorDraft). bytes_eq (string_bytes m.name) s.uid) draft.operators.items) plan.sources
+    && list_all (λ (f : FilterSpec). list_any (λ (m : OperatorDraft). bytes_eq (string_bytes m.name) f.uid) draft.operators.items) plan.filters)
+    && list_any (λ (m : OperatorDraft). bytes_eq (string_bytes m.name) plan.window.uid) draft.operators.items)
+unfolding has_all_uids
+all_uids_draft plan draft = given_draft draft.operators.items (uids plan) ∙ simp (list_all-append, list_all-map, and_true)
+
+some_if : (b : Bool) (n : ℕ) → is_some (cond b (Some n) None) ≡ b
+some_if true n = refl
+some_if false n = refl
+
+below_suc : (m n : ℕ) → ltb (1 + m) (suc n) ≡ ltb m n
+below_suc m n = grind (arith, nat_tests)
+
+found_below : {A : Type 0} (test : A → Bool) (xs : List A) → ltb (prefix_len (λ x. not (test x)) xs) (length xs) ≡ list_any test xs
+found_below test [] = refl
+found_below test (x ∷ xs) =
+    elim (cases_Bool (test x)) [
+      | inl e ↦ rw e (grind (arith, nat_tests))
+      | inr e ↦ rw e (below_suc (prefix_len (λ y. not (test y)) xs) (length xs) ∙ found_below test xs)
+    ]
+
+pub is_some_position : {A : Type 0} (test : A → Bool) (xs : List A) → is_some (position test xs) ≡ list_any test xs
+is_some_position test xs = some_if _ _ ∙ found_below test xs
+
+choose_map : {A B : Type 0} (f : A → B) (b : Bool) (x : A) (rest : Option B) (found : Option A) → rest ≡ option_map f found → cond b (Some (f x)) rest ≡ option_map f (cond b (Some x) found)
+choose_map f true x rest found h = refl
+choose_map f false x rest found h = h
+
+find_map : {A B : Type 0} (test : B → Bool) (f : A → B) (xs : List A) → find test (map f xs) ≡ option_map f (find (λ x. test (f x)) xs)
+find_map test f [] = refl
+find_map test f (x ∷ xs) = choose_map f (test (f x)) x (find test (map f xs)) (find (λ y. test (f y)) xs) (find_map test f xs)
+
+part_of : (o : Option OperatorDraft) → option_map_or (λ m. m.1) (option_map operator_draft_text o) one_subtask ≡ option_map_or (λ (m : OperatorDraft). m.part) o one_subtask
+part_of None = refl
+part_of (Some m) = refl
+
+pub operator_under_draft : (uid : List ℕ) (operators : List OperatorDraft)
+    → operator_under uid (operators_draft_text operators) ≡ option_map_or (λ (m : OperatorDraft). m.part) (find (λ (m : OperatorDraft). bytes_eq (string_bytes m.name) uid) operators) one_subtask
+operator_under_draft uid operators =
+    ap (λ (o : Option (List ℕ × OperatorText)). option_map_or (λ m. m.1) o one_subtask) (find_map (λ (m : List ℕ × OperatorText). bytes_eq m.0 uid) operator_draft_text operators)
+    ∙ part_of (find (λ (m : OperatorDraft). bytes_eq (string_bytes m.name) uid) operators)
+
+-- what holds of each member's part, and of one subtask, holds under each uid
+found_passes : (test : OperatorText → Bool) (uid : List ℕ) (operators : List (List ℕ × OperatorText)) → test one_subtask ≡ true → list_all (λ m. test m.1) operators ≡ true → test (operator_under uid operators) ≡ true
+found_passes test uid [] one all = one
+found_passes test uid (m ∷ ms) one all =
+    let parts = and_parts (test m.1) (list_all (λ (x : List ℕ × OperatorText). test x.1) ms) all in
+    elim (cases_Bool (bytes_eq m.0 uid)) [
+      | inl e ↦ rw e parts.0
+      | inr e ↦ rw e (found_passes test uid ms one parts.1)
+    ]
+
+pub within_under : (uid : List ℕ) (operators : List (List ℕ × OperatorText)) → list_all (λ m. is_within (pos 1) (pos 64) m.1.parallelism) operators ≡ true
+    → is_within (pos 1) (pos 64) (operator_under uid operators).parallelism ≡ true
+within_under uid operators all = found_passes (λ o. is_within (pos 1) (pos 64) o.parallelism) uid operators refl all
+
+narrower : (max : ℕ) (n : ℤ) → is_within (pos 1) (pos (min 64 max)) n ≡ true → is_within (pos 1) (pos 64) n ≡ true
+narrower max n h = grind (arith, ints)
+
+all_narrower : (max : ℕ) (operators : List (List ℕ × OperatorText)) → list_all (λ m. is_within (pos 1) (pos (min 64 max)) m.1.parallelism) operators ≡ true → list_all (λ m. is_within (pos 1) (pos 64) m.1.parallelism) operators ≡ true
+all_narrower max [] h = refl
+all_narrower max (m ∷ ms) h =
+    let parts = and_parts (is_within (pos 1) (pos (min 64 max)) m.1.parallelism) (list_all (λ (x : List ℕ × OperatorText). is_within (pos 1) (pos (min 64 max)) x.1.parallelism) ms) h in
+    rw (narrower max m.1.parallelism parts.0) (all_narrower max ms parts.1)
+
+pub within_64 : (plan : PlanData) (text : ScaleText) → has_parallelism plan text ≡ true → list_all (λ m. is_within (pos 1) (pos 64) m.1.parallelism) text.operators ≡ true
+unfolding has_parallelism
+within_64 plan text h = all_narrower plan.max text.operators h
