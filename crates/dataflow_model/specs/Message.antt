@@ -1,17 +1,9 @@
 -- What goes from task to task.
 use Rattle.std.specs.Prelude.{ℕ, ℤ, List}
 use Rattle.plain_data.specs.Record.{Record}
+use Rattle.logical_plan.specs.declared.spec.Row.{Row}
 
--- a key and the start of a window
-pub record Cell : Type 0 where
-  pub key : ℤ
-  pub start : ℤ
-
--- what a window that fired gives for a key
-pub record Row : Type 0 where
-  pub cell : Cell
-  pub numbers : List ℤ
-
+-- records, rows of windows that fired, a watermark, a savepoint's barrier, or the end of the stream
 pub data Message : Type 0 where
   Rows : (records : List Record) → Message
   Fired : (rows : List Row) → Message
