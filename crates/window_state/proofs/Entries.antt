@@ -1,25 +1,54 @@
 -- The entries of the windows, as a finite map and as rows.
-use Rattle.std.proofs.Common.{◌≡◌, ℤ, Bool, true, false, cond, ◌&&◌, T, List, [], ◌∷◌, ◌++◌, map, refl, sym, ap, subst, ◌∙◌, append_assoc, Option, Some, None}
-use Rattle.std.specs.List.{filter, AllByRecursion}
+use Rattle.std.proofs.Common.{◌≡◌, ℤ, Bool, true, false, cond, ◌&&◌, T, List, [], ◌∷◌, ◌++◌, map, refl, sym, ap, subst, ◌∙◌, arith, append_assoc, Option, Some, None}
+use Rattle.std.specs.List.{filter, AllByRecursion, IsDistinct}
 use Rattle.std.specs.List.Sorted.{IsStrictlySortedBy}
-use Rattle.std.specs.Map.{lookup, keys_of}
+use Rattle.std.specs.Map.{keys_of}
 use Rattle.std.specs.Option.{option_map}
-use Rattle.std.specs.Ordering.{is_eq, is_lt, eq_by_cmp}
+use Rattle.std.specs.Ordering.{int_eq, int_cmp, is_eq, is_lt, ordering_then}
 use Rattle.std.specs.declared.cmp.Ordering.TheVariants.{Less, Equal}
-use Rattle.std.specs.BTreeMap.{BTreeMap, IsOrdered, is_at, get as tree_get}
-use Rattle.std.specs.FinMap.{from_sorted, get, get-from_sorted, entries, entries-from_sorted, retain_keys, get-retain_keys, same_map, empty, get-empty}
-use Rattle.std.specs.FinMap.Entries.{find, is_sorted, below_all, find-where_key}
+use Rattle.std.specs.FinMap.{from_entries, get, get-from_entries, entries, from_sorted, get-from_sorted, entries-from_sorted, retain_keys, get-retain_keys, same_map, empty}
+use Rattle.std.specs.FinMap.Entries.{find, is_sorted, below_all}
+use Rattle.std.proofs.lemmas.Int.{ints}
 use Rattle.logical_plan.specs.declared.spec.WindowSpec.{WindowSpec}
 use Rattle.logical_plan.specs.declared.spec.Place.{Place}
 use Rattle.logical_plan.specs.declared.spec.Row.{Row}
 use Rattle.logical_plan.specs.Rows.{place_cmp, is_due, row_at}
 use Rattle.logical_plan.proofs.PlaceMaps.{place_cmp_total, place_cmp-IsAntisymmetric}
 use Rattle.aggregates.specs.Kinds.{AccData}
-use Rattle.window_state.specs.Windows.{total_at, AreWindows}
+use Rattle.window_state.specs.Windows.{is_place, acc_at, total_at, AreWindows}
 use Rattle.window_state.specs.State.{totals}
 use Rattle.window_state.specs.Firing.{rows_due}
+use Rattle.window_state.specs.Parts.{with_entry, entries_at}
+use Rattle.window_state.proofs.Updates.{place_from_test}
 
 -- ---- the map of entries
+
+pub tied : (p q : Place) → is_eq (place_cmp p q) ≡ is_place p q
+tied p q = alike p.start q.start p.key q.key
+  where
+    alike : (a b c d : ℤ) → is_eq (ordering_then (int_cmp a b) (int_cmp c d)) ≡ (int_eq a b && int_eq c d)
+    alike a b c d = grind (arith, ints)
+
+pub found_total : (es : List (Place × AccData)) (q : Place) → find place_cmp q (totals es) ≡ total_at es q
+found_total [] q = refl
+found_total (e ∷ es) q =
+    ap (λ b. cond b (Some e.1.total) (find place_cmp q (totals es))) (tied q e.0)
+    ∙ ap (cond (is_place q e.0) (Some e.1.total)) (found_total es q)
+    ∙ through (is_place q e.0)
+  where
+    through : (b : Bool) → cond b (Some e.1.total) (total_at es q) ≡ option_map (λ (a : AccData). a.total) (cond b (Some e.1) (acc_at es q))
+    through true = refl
+    through false = refl
+
+-- the finite map has at each place what stands there
+pub get-totals : (es : List (Place × AccData)) (q : Place) → get (from_entries {R = place_cmp} (totals es)) q ≡ total_at es q
+get-totals es q = get-from_entries place_cmp_total (totals es) q ∙ found_total es q
+
+-- entries that have the same at each place make the same map
+pub same_totals : (es fs : List (Place × AccData)) → ((q : Place) → acc_at es q ≡ acc_at fs q) → from_entries {R = place_cmp} (totals es) ≡ from_entries (totals fs)
+same_totals es fs is = same_map place_cmp_total place_cmp-IsAntisymmetric _ _ (λ q. get-totals es q ∙ ap (option_map (λ (a : AccData). a.total)) (is q) ∙ sym (get-totals fs q))
+
+-- ---- entries in the order of their places
 
 and_T : (a b : Bool) → T a → T b → T (a && b)
 and_T true b h k = k
@@ -32,47 +61,51 @@ below_from : (p : Place) (es : List (Place × AccData)) → AllByRecursion (λ q
 below_from p [] h = tt
 below_from p (e ∷ es) h = and_T (is_lt (place_cmp p e.0)) (below_all place_cmp p (totals es)) (less_T p e.0 h.0) (below_from p es h.1)
 
-pub sorted_totals : (es : List (Place × AccData)) → IsStrictlySortedBy place_cmp (keys_of es) → T (is_sorted place_cmp (totals es))
+sorted_totals : (es : List (Place × AccData)) → IsStrictlySortedBy place_cmp (keys_of es) → T (is_sorted place_cmp (totals es))
 unfolding IsStrictlySortedBy
 sorted_totals [] h = tt
 sorted_totals (e ∷ es) h = and_T (below_all place_cmp e.0 (totals es)) (is_sorted place_cmp (totals es)) (below_from e.0 es h.0) (sorted_totals es h.1)
 
-pub found : {X : Type 0} (q : Place) (es : List (Place × X)) → lookup (is_at (place_cmp q)) es ≡ find place_cmp q es
-found q [] = refl
-found q (e ∷ es) = ap (λ o. cond (is_eq (place_cmp q e.0)) (Some e.1) o) (found q es)
-
-pub found_total : (q : Place) (es : List (Place × AccData)) → find place_cmp q (totals es) ≡ option_map (λ a. a.total) (find place_cmp q es)
-found_total q [] = refl
-found_total q (e ∷ es) = elim (eq_by_cmp place_cmp q e.0) as (λ b. cond b (Some e.1.total) (find place_cmp q (totals es)) ≡ option_map (λ a. a.total) (cond b (Some e.1) (find place_cmp q es))) [
-  | true ↦ refl
-  | false ↦ found_total q es
-]
-
--- the finite map has at each place what stands there
-pub get-totals : (m : BTreeMap Place AccData) (q : Place) → IsOrdered place_cmp m → get (from_sorted {R = place_cmp} (totals m.entries)) q ≡ total_at m q
-get-totals m q ordered =
-    get-from_sorted place_cmp (totals m.entries) q (sorted_totals m.entries ordered)
-    ∙ found_total q m.entries ∙ ap (option_map (λ (a : AccData). a.total)) (sym (found q m.entries))
-
-pub entries-totals : (m : BTreeMap Place AccData) → IsOrdered place_cmp m → entries (from_sorted {R = place_cmp} (totals m.entries)) ≡ totals m.entries
-entries-totals m ordered = entries-from_sorted place_cmp (totals m.entries) (sorted_totals m.entries ordered)
+-- they are the map's own
+pub entries-totals : (es : List (Place × AccData)) → IsStrictlySortedBy place_cmp (keys_of es) → entries (from_entries {R = place_cmp} (totals es)) ≡ totals es
+entries-totals es h =
+    let sorted = sorted_totals es h in
+    let same : from_entries {R = place_cmp} (totals es) ≡ from_sorted (totals es) =
+    same_map place_cmp_total place_cmp-IsAntisymmetric _ _ (λ q. get-from_entries place_cmp_total (totals es) q ∙ sym (get-from_sorted place_cmp (totals es) q sorted)) in
+    ap entries same ∙ entries-from_sorted place_cmp (totals es) sorted
 
 -- ---- windows that stay
+
+-- of the entries whose places pass a test
+pub acc_at-filter : (p : Place → Bool) (es : List (Place × AccData)) (q : Place) → acc_at (filter (λ e. p e.0) es) q ≡ cond (p q) (acc_at es q) None
+acc_at-filter p [] q = either_none (p q)
+  where
+    either_none : (b : Bool) → (let none : Option AccData = None in none ≡ cond b none none)
+    either_none true = refl
+    either_none false = refl
+acc_at-filter p (e ∷ es) q = by_case (is_place q e.0) refl (p e.0) refl (acc_at-filter p es q)
+  where
+    by_case : (here : Bool) → is_place q e.0 ≡ here → (kept : Bool) → p e.0 ≡ kept → acc_at (filter (λ x. p x.0) es) q ≡ cond (p q) (acc_at es q) None
+        → acc_at (cond kept (e ∷ filter (λ x. p x.0) es) (filter (λ x. p x.0) es)) q ≡ cond (p q) (cond here (Some e.1) (acc_at es q)) None
+    by_case true h true k later =
+        ap (λ b. cond b (Some e.1) (acc_at (filter (λ x. p x.0) es) q)) h
+        ∙ sym (ap (λ b. cond b (Some e.1) None) (ap p (place_from_test q e.0 h) ∙ k))
+    by_case true h false k later =
+        let out : p q ≡ false = ap p (place_from_test q e.0 h) ∙ k in
+        later ∙ ap (λ b. cond b (acc_at es q) None) out ∙ sym (ap (λ b. cond b (Some e.1) None) out)
+    by_case false h true k later = ap (λ b. cond b (Some e.1) (acc_at (filter (λ x. p x.0) es) q)) h ∙ later
+    by_case false h false k later = later
 
 some_of : (b : Bool) (o : Option AccData) (a : AccData) → cond b o None ≡ Some a → o ≡ Some a
 some_of true o a h = h
 some_of false o a h = absurd cc
 
--- what is found among the entries that pass a test of their places was found before
-kept_before : (p : Place → Bool) (m n : BTreeMap Place AccData) → n.entries ≡ filter (λ e. p e.0) m.entries → (q : Place) (a : AccData) → tree_get place_cmp n q ≡ Some a → tree_get place_cmp m q ≡ Some a
-kept_before p m n is q a h =
-    let alike = λ (x : Place) (e : place_cmp q x ≡ Equal). ap p (sym (place_cmp-IsAntisymmetric q x e)) in
-    let there : find place_cmp q (filter (λ e. p e.0) m.entries) ≡ cond (p q) (find place_cmp q m.entries) None = find-where_key place_cmp p q alike m.entries in
-    found q m.entries ∙ some_of (p q) (find place_cmp q m.entries) a (sym there ∙ ap (find place_cmp q) (sym is) ∙ sym (found q n.entries) ∙ h)
+kept_before : (p : Place → Bool) (m n : List (Place × AccData)) → n ≡ filter (λ e. p e.0) m → (q : Place) (a : AccData) → acc_at n q ≡ Some a → acc_at m q ≡ Some a
+kept_before p m n is q a h = some_of (p q) (acc_at m q) a (sym (acc_at-filter p m q) ∙ ap (λ es. acc_at es q) (sym is) ∙ h)
 
-pub windows_kept : (w : WindowSpec) (p : Place → Bool) (m n : BTreeMap Place AccData) → AreWindows w m → IsOrdered place_cmp n → n.entries ≡ filter (λ e. p e.0) m.entries → AreWindows w n
-windows_kept w p m n h ordered is = record {
-  ordered = ordered;
+pub windows_kept : (w : WindowSpec) (p : Place → Bool) (m n : List (Place × AccData)) → AreWindows w m → IsDistinct is_place (keys_of n) → n ≡ filter (λ e. p e.0) m → AreWindows w n
+windows_kept w p m n h distinct is = record {
+  distinct = distinct;
   kinds = λ q a there. h.kinds q a (kept_before p m n is q a there);
   starts = λ q a there. h.starts q a (kept_before p m n is q a there);
 }
@@ -97,23 +130,29 @@ stays_next w t rows e left rest all so_far is due =
     sym (ap (λ b. rows ++ map (λ x. row_at w x.0 x.1.total) (cond b (e ∷ filter (λ x. is_due w t x.0.start) rest) (filter (λ x. is_due w t x.0.start) rest))) due)
     ∙ ap (λ l. rows ++ rows_due w t l) (sym is) ∙ so_far
 
+-- a place where nothing stands
+pub none_next : (es : List (Place × AccData)) (p : Place) (left rest : List Place) → left ≡ p ∷ rest → acc_at es p ≡ None → entries_at es left ≡ entries_at es rest
+none_next es p left rest is none = ap (entries_at es) is ∙ ap (λ o. with_entry p o (entries_at es rest)) none
+
+-- a place with an entry
+pub some_next : (es : List (Place × AccData)) (p : Place) (a : AccData) (left rest : List Place) → left ≡ p ∷ rest → acc_at es p ≡ Some a → entries_at es left ≡ (p, a) ∷ entries_at es rest
+some_next es p a left rest is some = ap (entries_at es) is ∙ ap (λ o. with_entry p o (entries_at es rest)) some
+
 -- ---- the map of the windows that stay
 
 map_cond : (b : Bool) (o : Option AccData) → option_map (λ (a : AccData). a.total) (cond b o None) ≡ cond b (option_map (λ (a : AccData). a.total) o) None
 map_cond true o = refl
 map_cond false o = refl
 
-pub map_kept : (p : Place → Bool) (m n : BTreeMap Place AccData) → IsOrdered place_cmp m → IsOrdered place_cmp n → n.entries ≡ filter (λ e. p e.0) m.entries
-    → from_sorted {R = place_cmp} (totals n.entries) ≡ retain_keys (from_sorted {R = place_cmp} (totals m.entries)) p
-map_kept p m n ordered_m ordered_n is =
+pub map_kept : (p : Place → Bool) (m n : List (Place × AccData)) → n ≡ filter (λ e. p e.0) m → from_entries {R = place_cmp} (totals n) ≡ retain_keys (from_entries {R = place_cmp} (totals m)) p
+map_kept p m n is =
     same_map place_cmp_total place_cmp-IsAntisymmetric _ _ (λ q.
     let alike = λ (x : Place) (e : place_cmp q x ≡ Equal). ap p (sym (place_cmp-IsAntisymmetric q x e)) in
-    get-totals n q ordered_n
-    ∙ ap (option_map (λ (a : AccData). a.total)) (found q n.entries ∙ ap (find place_cmp q) is ∙ find-where_key place_cmp p q alike m.entries)
-    ∙ map_cond (p q) (find place_cmp q m.entries)
-    ∙ ap (λ o. cond (p q) o None) (ap (option_map (λ (a : AccData). a.total)) (sym (found q m.entries)) ∙ sym (get-totals m q ordered_m))
-    ∙ sym (get-retain_keys (from_sorted {R = place_cmp} (totals m.entries)) p q alike))
+    get-totals n q
+    ∙ ap (option_map (λ (a : AccData). a.total)) (ap (λ es. acc_at es q) is ∙ acc_at-filter p m q)
+    ∙ map_cond (p q) (acc_at m q)
+    ∙ ap (λ o. cond (p q) o None) (sym (get-totals m q))
+    ∙ sym (get-retain_keys (from_entries {R = place_cmp} (totals m)) p q alike))
 
-pub map_none : (m : BTreeMap Place AccData) → m.entries ≡ [] → from_sorted {R = place_cmp} (totals m.entries) ≡ empty
-map_none m is = same_map place_cmp_total place_cmp-IsAntisymmetric _ _ (λ q.
-    ap (λ es. get (from_sorted {R = place_cmp} (totals es)) q) is ∙ get-from_sorted place_cmp [] q tt ∙ sym (get-empty place_cmp q))
+pub map_none : (es : List (Place × AccData)) → es ≡ [] → from_entries {R = place_cmp} (totals es) ≡ empty
+map_none es is = ap (λ l. from_entries (totals l)) is

@@ -1,5 +1,6 @@
 pub mod Updates
 pub mod Slides
 pub mod Entries
+pub mod Sorted
 pub mod Rows
 pub mod PartMaps

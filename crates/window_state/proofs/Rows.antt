@@ -4,30 +4,31 @@ use Rattle.std.specs.List.{filter, AllByRecursion}
 use Rattle.std.specs.List.Sorted.{IsStrictlySortedBy, IsSortedByKey}
 use Rattle.std.specs.Map.{keys_of}
 use Rattle.std.specs.Option.{option_map, option_to_list}
-use Rattle.std.specs.Ordering.{int_eq, int_cmp, is_eq, is_lt, ordering_then}
+use Rattle.std.specs.Ordering.{int_eq, int_cmp, is_lt, ordering_then}
 use Rattle.std.specs.declared.cmp.Ordering.TheVariants.{Less}
-use Rattle.std.specs.FinMap.{get, from_sorted, get-from_sorted}
-use Rattle.std.specs.FinMap.Entries.{find}
-use Rattle.std.specs.BTreeMap.{BTreeMap, IsOrdered}
+use Rattle.std.specs.FinMap.{get, from_entries}
 use Rattle.std.proofs.lemmas.Int.{ints}
 use Rattle.logical_plan.specs.declared.spec.WindowSpec.{WindowSpec}
 use Rattle.logical_plan.specs.declared.spec.Place.{Place}
 use Rattle.logical_plan.specs.declared.spec.Row.{Row}
 use Rattle.logical_plan.specs.Rows.{place_cmp, place_of, row_is_at, is_due, row_at, AreRowsOf}
 use Rattle.aggregates.specs.Kinds.{AccData}
-use Rattle.window_state.specs.Windows.{is_place}
+use Rattle.window_state.specs.Windows.{is_place, acc_at}
 use Rattle.window_state.specs.State.{totals, fired}
 use Rattle.window_state.specs.Firing.{rows_due}
 use Rattle.window_state.proofs.Updates.{place_from_test}
-use Rattle.window_state.proofs.Entries.{sorted_totals, found_total}
+use Rattle.window_state.proofs.Entries.{get-totals}
 
 -- ---- just those that are due
 
 apart : (a b c d : ℤ) → ordering_then (int_cmp a c) (int_cmp b d) ≡ Less → (int_eq c a && int_eq d b) ≡ false
 apart a b c d h = grind (arith, ints)
 
-pub tied : (a b c d : ℤ) → is_eq (ordering_then (int_cmp a b) (int_cmp c d)) ≡ (int_eq b a && int_eq d c)
-tied a b c d = grind (arith, ints)
+flipped : (p q : Place) (b : Bool) → is_place p q ≡ b → is_place q p ≡ b
+flipped p q b h = flip p.start q.start p.key q.key ∙ h
+  where
+    flip : (a b c d : ℤ) → (int_eq b a && int_eq d c) ≡ (int_eq a b && int_eq c d)
+    flip a b c d = grind (arith, ints)
 
 -- a row that is or is not taken, at a place where it does not stand
 skipped : (q : Place) (b : Bool) (row : Row) (rows : List Row) → row_is_at q row ≡ false → filter (row_is_at q) (cond b (row ∷ rows) rows) ≡ filter (row_is_at q) rows
@@ -54,7 +55,7 @@ taken w q false row rows h none = none
 
 -- what is due of the entries found
 abbrev pub due_found : WindowSpec → ℤ → List (Place × AccData) → Place → Option Row
-due_found w t es q = if is_due w t q.start then option_map (λ a. row_at w q a.total) (find place_cmp q es) else None
+due_found w t es q = if is_due w t q.start then option_map (λ a. row_at w q a.total) (acc_at es q) else None
 
 rows_found : (w : WindowSpec) (t : ℤ) (es : List (Place × AccData)) → IsStrictlySortedBy place_cmp (keys_of es) → (q : Place) → filter (row_is_at q) (rows_due w t es) ≡ option_to_list (due_found w t es q)
 unfolding IsStrictlySortedBy
@@ -65,13 +66,13 @@ rows_found w t (e ∷ es) h q = by_case (is_place e.0 q) refl (rows_found w t es
     by_case true here later =
         let same : e.0 ≡ q = place_from_test e.0 q here in
         let none : filter (row_is_at q) (rows_due w t es) ≡ [] = subst (λ p. filter (row_is_at p) (rows_due w t es) ≡ []) same (none_at w t e.0 es h.0) in
-        let first : find place_cmp q (e ∷ es) ≡ Some e.1 = ap (λ b. cond b (Some e.1) (find place_cmp q es)) (tied q.start e.0.start q.key e.0.key ∙ here) in
+        let first : acc_at (e ∷ es) q ≡ Some e.1 = ap (λ b. cond b (Some e.1) (acc_at es q)) (flipped e.0 q true here) in
         ap (filter (row_is_at q)) (rows_cons w t e es)
         ∙ taken w q (is_due w t e.0.start) (row_at w e.0 e.1.total) (rows_due w t es) here none
         ∙ ap (λ p. option_to_list (if is_due w t p.start then Some (row_at w p e.1.total) else None)) same
         ∙ sym (ap (λ o. option_to_list (if is_due w t q.start then option_map (λ (a : AccData). row_at w q a.total) o else None)) first)
     by_case false here later =
-        let next : find place_cmp q (e ∷ es) ≡ find place_cmp q es = ap (λ b. cond b (Some e.1) (find place_cmp q es)) (tied q.start e.0.start q.key e.0.key ∙ here) in
+        let next : acc_at (e ∷ es) q ≡ acc_at es q = ap (λ b. cond b (Some e.1) (acc_at es q)) (flipped e.0 q false here) in
         ap (filter (row_is_at q)) (rows_cons w t e es)
         ∙ skipped q (is_due w t e.0.start) (row_at w e.0 e.1.total) (rows_due w t es) here
         ∙ later
@@ -81,11 +82,13 @@ option_twice : (w : WindowSpec) (q : Place) (o : Option AccData) → option_map 
 option_twice w q None = refl
 option_twice w q (Some a) = refl
 
-pub rows_fired : (w : WindowSpec) (t : ℤ) (m : BTreeMap Place AccData) → IsOrdered place_cmp m → AreRowsOf (fired w t (get (from_sorted {R = place_cmp} (totals m.entries)))) (rows_due w t m.entries)
-rows_fired w t m ordered q =
-    rows_found w t m.entries ordered q
-    ∙ sym (ap (λ o. option_to_list (if is_due w t q.start then o else None))
-    (ap (option_map (row_at w q)) (get-from_sorted place_cmp (totals m.entries) q (sorted_totals m.entries ordered) ∙ found_total q m.entries) ∙ option_twice w q (find place_cmp q m.entries)))
+-- the entries in order have the same at each place
+pub rows_fired : (w : WindowSpec) (t : ℤ) (es sorted : List (Place × AccData)) → IsStrictlySortedBy place_cmp (keys_of sorted) → ((q : Place) → acc_at sorted q ≡ acc_at es q)
+    → AreRowsOf (fired w t (get (from_entries {R = place_cmp} (totals es)))) (rows_due w t sorted)
+rows_fired w t es sorted strict same q =
+    rows_found w t sorted strict q
+    ∙ ap (λ o. option_to_list (if is_due w t q.start then option_map (λ a. row_at w q a.total) o else None)) (same q)
+    ∙ sym (ap (λ o. option_to_list (if is_due w t q.start then o else None)) (ap (option_map (row_at w q)) (get-totals es q) ∙ option_twice w q (acc_at es q)))
 
 -- ---- in order
 
@@ -120,5 +123,5 @@ in_order (x ∷ y ∷ ys) h (suc k) d low high =
     let e : suc k + 1 ≡ suc (k + 1) = omega arith in
     rw e (in_order (y ∷ ys) h.1 k d (omega arith) (omega arith))
 
-pub rows_ordered : (w : WindowSpec) (t : ℤ) (m : BTreeMap Place AccData) → IsOrdered place_cmp m → IsSortedByKey place_of place_cmp (rows_due w t m.entries)
-rows_ordered w t m ordered = in_order (rows_due w t m.entries) (rows_rise w t m.entries ordered)
+pub rows_ordered : (w : WindowSpec) (t : ℤ) (es : List (Place × AccData)) → IsStrictlySortedBy place_cmp (keys_of es) → IsSortedByKey place_of place_cmp (rows_due w t es)
+rows_ordered w t es strict = in_order (rows_due w t es) (rows_rise w t es strict)

@@ -4,7 +4,6 @@ use Rattle.std.specs.Int.{int_rem_euclid}
 use Rattle.std.specs.List.{filter}
 use Rattle.std.specs.Option.{option_map}
 use Rattle.std.specs.Ordering.{int_eq}
-use Rattle.std.specs.BTreeMap.{BTreeMap, get}
 use Rattle.std.specs.Int.{w64}
 use Rattle.std.specs.Int.Signed.{pos-nat_abs, yes_non_neg}
 use Rattle.std.proofs.Math.IntN.{nat_abs}
@@ -17,12 +16,12 @@ use Rattle.logical_plan.specs.declared.spec.Place.{Place}
 use Rattle.logical_plan.specs.PlanData.{IsWindow}
 use Rattle.logical_plan.specs.Windows.{IsTime, is_start, is_at}
 use Rattle.logical_plan.specs.Aggregates.{Aggregated, aggregate_of, merge}
-use Rattle.logical_plan.specs.Rows.{place_cmp, records_of, aggregate_at}
+use Rattle.logical_plan.specs.Rows.{records_of, aggregate_at}
 use Rattle.logical_plan.proofs.Aggs.{merge_assoc}
 use Rattle.logical_plan.proofs.PlaceTotals.{aggregate_at-append, merge-one}
 use Rattle.logical_plan.proofs.Starts.{is_reached, reached_more, reached_once, reached_none, reached_all, remainder}
 use Rattle.aggregates.specs.Kinds.{AccData}
-use Rattle.window_state.specs.Windows.{total_at, HasRoom}
+use Rattle.window_state.specs.Windows.{acc_at, total_at, HasRoom}
 
 step_bool : (ks : List Aggregate) (x y : Option Aggregated) (p p' e k : Bool) → p' ≡ (p || e) → (e ≡ true → p ≡ false)
     → (if e && k then merge ks (if p && k then merge ks x y else x) y else (if p && k then merge ks x y else x)) ≡ (if p' && k then merge ks x y else x)
@@ -79,19 +78,19 @@ is_itself a = grind (arith, ints)
 some_total : (o : Option AccData) (x : Option Aggregated) (a : AccData) → option_map (λ b. b.total) o ≡ x → o ≡ Some a → x ≡ Some a.total
 some_total o x a e is = sym e ∙ ap (option_map (λ b. b.total)) is
 
-total_of : (m : BTreeMap Place AccData) (q : Place) (t : Aggregated) → total_at m q ≡ Some t → (b : AccData) × (get place_cmp m q ≡ Some b) × (b.total ≡ t)
-total_of m q t h = by_case (get place_cmp m q) refl
+total_of : (m : List (Place × AccData)) (q : Place) (t : Aggregated) → total_at m q ≡ Some t → (b : AccData) × (acc_at m q ≡ Some b) × (b.total ≡ t)
+total_of m q t h = by_case (acc_at m q) refl
   where
-    by_case : (o : Option AccData) → get place_cmp m q ≡ o → (b : AccData) × (get place_cmp m q ≡ Some b) × (b.total ≡ t)
+    by_case : (o : Option AccData) → acc_at m q ≡ o → (b : AccData) × (acc_at m q ≡ Some b) × (b.total ≡ t)
     by_case None e = absurd (let none : None ≡ Some t = sym (ap (option_map (λ (b : AccData). b.total)) e) ∙ h in cc)
     by_case (Some b) e = (b, e, (let same : Some b.total ≡ Some t = sym (ap (option_map (λ (c : AccData). c.total)) e) ∙ h in cc))
 
 -- so the window there can take it
-pub room_fresh : (w : WindowSpec) (r : Record) (old now : BTreeMap Place AccData) (q : Place) (b : ℕ) → at w.time r -ℤ pos b ≡ q.start → HasRoom 1 old
-    → total_at now q ≡ slid w r (total_at old q) q b → (a : AccData) → get place_cmp now q ≡ Some a → a.total.count < 2 ^ 41
+pub room_fresh : (w : WindowSpec) (r : Record) (old now : List (Place × AccData)) (q : Place) (b : ℕ) → at w.time r -ℤ pos b ≡ q.start → HasRoom 1 old
+    → total_at now q ≡ slid w r (total_at old q) q b → (a : AccData) → acc_at now q ≡ Some a → a.total.count < 2 ^ 41
 room_fresh w r old now q b begins room is a has =
     let fresh : slid w r (total_at old q) q b ≡ total_at old q = slid_fresh w r (total_at old q) q b (ap (λ s. int_eq s q.start) begins ∙ is_itself q.start) in
-    let same : total_at old q ≡ Some a.total = some_total (get place_cmp now q) (total_at old q) a (is ∙ fresh) has in
+    let same : total_at old q ≡ Some a.total = some_total (acc_at now q) (total_at old q) a (is ∙ fresh) has in
     let found = total_of old q a.total same in
     let most = room q found.0 found.1 in
     let count = ap (λ (t : Aggregated). t.count) found.2 in
@@ -135,18 +134,18 @@ count_merge ks None b = omega arith
 count_merge ks (Some a) None = omega arith
 count_merge ks (Some a) (Some b) = refl
 
-count_old : (n : ℕ) (m : BTreeMap Place AccData) (q : Place) → HasRoom n m → n ≤ 2 ^ 41 → count_or (total_at m q) + n ≤ 2 ^ 41
-count_old n m q room few = by_case (get place_cmp m q) refl
+count_old : (n : ℕ) (m : List (Place × AccData)) (q : Place) → HasRoom n m → n ≤ 2 ^ 41 → count_or (total_at m q) + n ≤ 2 ^ 41
+count_old n m q room few = by_case (acc_at m q) refl
   where
-    by_case : (o : Option AccData) → get place_cmp m q ≡ o → count_or (option_map (λ b. b.total) (get place_cmp m q)) + n ≤ 2 ^ 41
+    by_case : (o : Option AccData) → acc_at m q ≡ o → count_or (option_map (λ b. b.total) (acc_at m q)) + n ≤ 2 ^ 41
     by_case None e = rw e (omega (arith, few))
     by_case (Some b) e = rw e (room q b e)
 
 -- after i records of n there is room for one more
-pub room_rows : (w : WindowSpec) (rs : List Record) (i : ℕ) (old now : BTreeMap Place AccData) → i < length rs → length rs ≤ 2 ^ 41 → HasRoom (length rs) old
+pub room_rows : (w : WindowSpec) (rs : List Record) (i : ℕ) (old now : List (Place × AccData)) → i < length rs → length rs ≤ 2 ^ 41 → HasRoom (length rs) old
     → ((q : Place) → total_at now q ≡ merge w.aggregates (total_at old q) (aggregate_at w (take i rs) q)) → HasRoom 1 now
 room_rows w rs i old now h few room is q a has =
-    let t : Some a.total ≡ merge w.aggregates (total_at old q) (aggregate_at w (take i rs) q) = sym (some_total (get place_cmp now q) (total_at now q) a refl has) ∙ is q in
+    let t : Some a.total ≡ merge w.aggregates (total_at old q) (aggregate_at w (take i rs) q) = sym (some_total (acc_at now q) (total_at now q) a refl has) ∙ is q in
     let count = ap count_or t in
     omega (arith, count, count_merge w.aggregates (total_at old q) (aggregate_at w (take i rs) q), count_at w (take i rs) q, length-take i rs, count_old (length rs) old q room few)
 

@@ -1,20 +1,17 @@
 -- One place of the windows is written.
 use Rattle.std.proofs.Common.{◌≡◌, ℤ, Bool, true, false, cond, ◌&&◌, List, [], ◌∷◌, map, refl, sym, ap, subst, ◌∙◌, arith, Some, if◌then◌else◌}
 use Rattle.std.specs.Option.{option_map}
-use Rattle.std.specs.Ordering.{int_eq, int_cmp, is_eq, ordering_then}
-use Rattle.std.specs.BTreeMap.{BTreeMap, IsOrdered, get}
+use Rattle.std.specs.Ordering.{int_eq}
+use Rattle.std.specs.List.{IsDistinct}
+use Rattle.std.specs.Map.{keys_of}
 use Rattle.std.proofs.lemmas.Int.{ints}
 use Rattle.plain_data.specs.Record.{Record}
 use Rattle.logical_plan.specs.declared.spec.Aggregate.{Aggregate}
 use Rattle.logical_plan.specs.declared.spec.WindowSpec.{WindowSpec}
 use Rattle.logical_plan.specs.declared.spec.Place.{Place}
 use Rattle.logical_plan.specs.Aggregates.{aggregate_of, merge}
-use Rattle.logical_plan.specs.Rows.{place_cmp}
 use Rattle.aggregates.specs.Kinds.{AccData, kind_of}
-use Rattle.window_state.specs.Windows.{total_at, is_place, IsStart, AreWindows}
-
-tied : (a b c d : ℤ) → is_eq (ordering_then (int_cmp a b) (int_cmp c d)) ≡ (int_eq a b && int_eq c d)
-tied a b c d = grind (arith, ints)
+use Rattle.window_state.specs.Windows.{acc_at, total_at, is_place, IsStart, AreWindows}
 
 same_place : (a b c d : ℤ) → (int_eq a b && int_eq c d) ≡ true → (a ≡ b) × (c ≡ d)
 same_place a b c d h = let e1 : a ≡ b = grind (arith, ints) in let e2 : c ≡ d = grind (arith, ints) in (e1, e2)
@@ -25,43 +22,37 @@ place_from_test p q h =
     λ i. record { start = parts.0 i; key = parts.1 i }
 
 -- n is m with a at p
-pub record Writes (p : Place) (a : AccData) (m n : BTreeMap Place AccData) : Type 0 where
-  pub at : (q : Place) → get place_cmp n q ≡ cond (is_place p q) (Some a) (get place_cmp m q)
-  pub ordered : IsOrdered place_cmp n
-
-pub writes : (p : Place) (a : AccData) (m n : BTreeMap Place AccData) → ((q : Place) → get place_cmp n q ≡ cond (is_eq (place_cmp p q)) (Some a) (get place_cmp m q)) → IsOrdered place_cmp n → Writes p a m n
-writes p a m n h ordered = record {
-  at = λ q. h q ∙ ap (λ b. cond b (Some a) (get place_cmp m q)) (tied p.start q.start p.key q.key);
-  ordered = ordered;
-}
+pub record Writes (p : Place) (a : AccData) (m n : List (Place × AccData)) : Type 0 where
+  pub at : (q : Place) → acc_at n q ≡ cond (is_place p q) (Some a) (acc_at m q)
+  pub distinct : IsDistinct is_place (keys_of n)
 
 some_same : (a b : AccData) → Some a ≡ Some b → a ≡ b
 some_same a b e = cc
 
 -- what holds at the place, and held before at each other, holds at each
-everywhere : (P : Place → AccData → Type 0) (p : Place) (a : AccData) (m n : BTreeMap Place AccData) → Writes p a m n → P p a
-    → ((q : Place) (b : AccData) → get place_cmp m q ≡ Some b → P q b) → (q : Place) (b : AccData) → get place_cmp n q ≡ Some b → P q b
+everywhere : (P : Place → AccData → Type 0) (p : Place) (a : AccData) (m n : List (Place × AccData)) → Writes p a m n → P p a
+    → ((q : Place) (b : AccData) → acc_at m q ≡ Some b → P q b) → (q : Place) (b : AccData) → acc_at n q ≡ Some b → P q b
 everywhere P p a m n w here there q b is = by_case (is_place p q) refl
   where
     by_case : (t : Bool) → is_place p q ≡ t → P q b
     by_case true e =
-        let same : a ≡ b = some_same a b (sym (w.at q ∙ ap (λ t. cond t (Some a) (get place_cmp m q)) e) ∙ is) in
+        let same : a ≡ b = some_same a b (sym (w.at q ∙ ap (λ t. cond t (Some a) (acc_at m q)) e) ∙ is) in
         subst (λ x. P x b) (place_from_test p q e) (subst (P p) same here)
-    by_case false e = there q b (sym (w.at q ∙ ap (λ t. cond t (Some a) (get place_cmp m q)) e) ∙ is)
+    by_case false e = there q b (sym (w.at q ∙ ap (λ t. cond t (Some a) (acc_at m q)) e) ∙ is)
 
-pub windows_written : (w : WindowSpec) (p : Place) (a : AccData) (m n : BTreeMap Place AccData) → Writes p a m n → AreWindows w m → a.kinds ≡ map kind_of w.aggregates → IsStart p.start → AreWindows w n
+pub windows_written : (w : WindowSpec) (p : Place) (a : AccData) (m n : List (Place × AccData)) → Writes p a m n → AreWindows w m → a.kinds ≡ map kind_of w.aggregates → IsStart p.start → AreWindows w n
 windows_written w p a m n writes_ h kinds start = record {
-  ordered = writes_.ordered;
+  distinct = writes_.distinct;
   kinds = everywhere (λ q b. b.kinds ≡ map kind_of w.aggregates) p a m n writes_ kinds h.kinds;
   starts = everywhere (λ q b. IsStart q.start) p a m n writes_ start h.starts;
 }
 
 -- what stands at each place, where a's total is what stood at p with the record brought in
-pub added_written : (ks : List Aggregate) (r : Record) (p : Place) (a : AccData) (m n : BTreeMap Place AccData) → Writes p a m n → Some a.total ≡ merge ks (total_at m p) (aggregate_of ks (r ∷ []))
+pub added_written : (ks : List Aggregate) (r : Record) (p : Place) (a : AccData) (m n : List (Place × AccData)) → Writes p a m n → Some a.total ≡ merge ks (total_at m p) (aggregate_of ks (r ∷ []))
     → (q : Place) → total_at n q ≡ (if is_place p q then merge ks (total_at m q) (aggregate_of ks (r ∷ [])) else total_at m q)
 added_written ks r p a m n w is q = ap (option_map (λ b. b.total)) (w.at q) ∙ by_case (is_place p q) refl
   where
     by_case : (t : Bool) → is_place p q ≡ t
-        → option_map (λ b. b.total) (cond t (Some a) (get place_cmp m q)) ≡ (if t then merge ks (total_at m q) (aggregate_of ks (r ∷ [])) else total_at m q)
+        → option_map (λ b. b.total) (cond t (Some a) (acc_at m q)) ≡ (if t then merge ks (total_at m q) (aggregate_of ks (r ∷ [])) else total_at m q)
     by_case true e = is ∙ ap (λ x. merge ks (total_at m x) (aggregate_of ks (r ∷ []))) (place_from_test p q e)
     by_case false e = refl

@@ -1,14 +1,23 @@
 -- The places of a state one by one.
-use Rattle.std.specs.Prelude.{◌≡◌, map, List}
+use Rattle.std.specs.Prelude.{◌≡◌, map, List, [], ◌∷◌, Option, Some, None}
 use Rattle.logical_plan.specs.declared.spec.WindowSpec.{WindowSpec}
 use Rattle.logical_plan.specs.declared.spec.Place.{Place}
 use Rattle.logical_plan.specs.Aggregates.{Aggregated}
 use Rattle.aggregates.specs.Kinds.{AccData, kind_of}
 use Rattle.window_state.specs.declared.parts.Part.{Part}
-use Rattle.window_state.specs.Windows.{IsStart}
+use Rattle.window_state.specs.Windows.{IsStart, acc_at}
 
 abbrev pub part_of : Place × AccData → Part
 part_of e = record { place = e.0; acc = e.1 }
+
+-- the entries of some places, where they have one, in the order of the places
+abbrev pub with_entry : Place → Option AccData → List (Place × AccData) → List (Place × AccData)
+with_entry p None rest = rest
+with_entry p (Some a) rest = (p, a) ∷ rest
+
+abbrev pub entries_at : List (Place × AccData) → List Place → List (Place × AccData)
+entries_at es [] = []
+entries_at es (p ∷ ps) = with_entry p (acc_at es p) (entries_at es ps)
 
 -- a part for each entry
 abbrev pub parts_in : List (Place × AccData) → List Part

@@ -1,12 +1,12 @@
 -- The fields of a window state, and the value that they stand for.
-use Rattle.std.specs.FinMap.{from_sorted}
+use Rattle.std.specs.FinMap.{from_entries}
 use Rattle.window_state.specs.declared.state.WindowState.TheInside.{Inside}
 use Rattle.window_state.specs.State.{StateData, totals}
 use Rattle.window_state.specs.Windows.{IsOperator, AreWindows}
 
 abbrev pub state_view : Inside → StateData
-state_view s = record { window = s.window; windows = from_sorted (totals s.windows.entries); has_failed = s.has_failed }
+state_view s = record { window = s.window; windows = from_entries (totals s.windows.entries); has_failed = s.has_failed }
 
 pub record IsStateInside (s : Inside) : Type 0 where
   pub operator : IsOperator s.window
-  pub windows : AreWindows s.window s.windows
+  pub windows : AreWindows s.window s.windows.entries

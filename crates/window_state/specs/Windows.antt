@@ -1,37 +1,40 @@
 -- The windows of a state as a function of a place, and what every state's windows meet.
-use Rattle.std.specs.Prelude.{◌≡◌, ℕ, ℤ, pos, neg_ℤ, ◌+◌, ◌^◌, ◌≤◌, ◌<◌, ◌<ℤ◌, length, map, Option, Some, option_map, Bool, ◌&&◌}
-use Rattle.std.specs.BTreeMap.{BTreeMap, IsOrdered, get}
+use Rattle.std.specs.Prelude.{◌≡◌, ℕ, ℤ, pos, neg_ℤ, ◌+◌, ◌^◌, ◌≤◌, ◌<◌, ◌<ℤ◌, length, map, List, Option, Some, option_map, Bool, ◌&&◌}
+use Rattle.std.specs.Map.{keys_of, lookup}
 use Rattle.std.specs.Ordering.{int_eq}
-use Rattle.std.specs.List.{All}
+use Rattle.std.specs.List.{All, IsDistinct}
 use Rattle.logical_plan.specs.declared.spec.WindowSpec.{WindowSpec}
 use Rattle.logical_plan.specs.declared.spec.Place.{Place}
 use Rattle.logical_plan.specs.PlanData.{IsWindow, has_column}
 use Rattle.logical_plan.specs.Aggregates.{Aggregated}
-use Rattle.logical_plan.specs.Rows.{place_cmp}
 use Rattle.aggregates.specs.Kinds.{AccData, kind_of}
-
--- what stands at a place
-abbrev pub total_at : BTreeMap Place AccData → Place → Option Aggregated
-total_at m q = option_map (λ a. a.total) (get place_cmp m q)
 
 -- p is the place q
 abbrev pub is_place : Place → Place → Bool
 is_place p q = int_eq p.start q.start && int_eq p.key q.key
+
+-- the accumulator of a place, among the entries of the windows
+abbrev pub acc_at : List (Place × AccData) → Place → Option AccData
+acc_at es q = lookup (is_place q) es
+
+-- what stands at a place
+abbrev pub total_at : List (Place × AccData) → Place → Option Aggregated
+total_at es q = option_map (λ a. a.total) (acc_at es q)
 
 -- the starts of windows of times in range
 pub record IsStart (s : ℤ) : Type 0 where
   pub above : neg_ℤ (pos (2 ^ 62 + 2 ^ 40)) <ℤ s
   pub below : s <ℤ pos (2 ^ 62)
 
--- the windows are in order, each has the plan's aggregates, and a start in range
-pub record AreWindows (w : WindowSpec) (m : BTreeMap Place AccData) : Type 0 where
-  pub ordered : IsOrdered place_cmp m
-  pub kinds : (q : Place) (a : AccData) → get place_cmp m q ≡ Some a → a.kinds ≡ map kind_of w.aggregates
-  pub starts : (q : Place) (a : AccData) → get place_cmp m q ≡ Some a → IsStart q.start
+-- no place stands twice, each has the plan's aggregates, and a start in range
+pub record AreWindows (w : WindowSpec) (es : List (Place × AccData)) : Type 0 where
+  pub distinct : IsDistinct is_place (keys_of es)
+  pub kinds : (q : Place) (a : AccData) → acc_at es q ≡ Some a → a.kinds ≡ map kind_of w.aggregates
+  pub starts : (q : Place) (a : AccData) → acc_at es q ≡ Some a → IsStart q.start
 
 -- each window can take so many records more
-abbrev pub HasRoom : ℕ → BTreeMap Place AccData → Type 0
-HasRoom n m = (q : Place) (a : AccData) → get place_cmp m q ≡ Some a → a.total.count + n ≤ 2 ^ 41
+abbrev pub HasRoom : ℕ → List (Place × AccData) → Type 0
+HasRoom n es = (q : Place) (a : AccData) → acc_at es q ≡ Some a → a.total.count + n ≤ 2 ^ 41
 
 -- a window operator as every plan has it
 pub record IsOperator (w : WindowSpec) : Type 0 where

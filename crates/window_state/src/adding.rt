@@ -8,19 +8,17 @@ ghost use Rattle.logical_plan.specs.declared.spec.Place.{Place as PlaceValue};
 ghost use Rattle.logical_plan.specs.Windows.{IsTime};
 ghost use Rattle.logical_plan.specs.Rows.{aggregate_at};
 ghost use Rattle.logical_plan.specs.Aggregates.{aggregate_of, merge};
-ghost use Rattle.std.specs.BTreeMap.{get};
-ghost use Rattle.logical_plan.specs.Rows.{place_cmp};
 ghost use Rattle.aggregates.specs.Kinds.{AccData};
-ghost use Rattle.window_state.specs.Windows.{AreWindows, CanAggregate, HasRoom, IsStart, total_at, is_place};
+ghost use Rattle.window_state.specs.Windows.{AreWindows, CanAggregate, HasRoom, IsStart, acc_at, total_at, is_place};
 
 use aggregates::Acc;
 use columns::Batch;
+use indexmap::IndexMap;
 use logical_plan::{Place, WindowSpec};
 use std::alloc::AllocError;
-use std::collections::BTreeMap;
 
-/// The open windows: what stands at each place.
-pub(crate) type Windows = BTreeMap<Place, Acc>;
+/// The open windows: what stands at each place, in no order.
+pub(crate) type Windows = IndexMap<Place, Acc>;
 
 /// Brings a record in at one place.
 pub(crate) fn add_at(
@@ -33,12 +31,12 @@ pub(crate) fn add_at(
     requires row_in { row < length batch.now.rows }
     requires window { CanAggregate batch.now.width w.now }
     requires start { IsStart place.start }
-    requires windows { AreWindows w.now windows.old }
-    requires room { (a : AccData) → get place_cmp windows.old place ≡ Some a → a.total.count < 2 ^ 41 }
-    ensures windows { AreWindows w.now windows.new }
-    ensures added { OnOk result ((q : PlaceValue) → total_at windows.new q
-        ≡ (if is_place place q then merge w.now.aggregates (total_at windows.old q) (aggregate_of w.now.aggregates (slice_index_or batch.now.rows row [] ∷ []))
-        else total_at windows.old q)) }
+    requires windows { AreWindows w.now windows.old.entries }
+    requires room { (a : AccData) → acc_at windows.old.entries place ≡ Some a → a.total.count < 2 ^ 41 }
+    ensures windows { AreWindows w.now windows.new.entries }
+    ensures added { OnOk result ((q : PlaceValue) → total_at windows.new.entries q
+        ≡ (if is_place place q then merge w.now.aggregates (total_at windows.old.entries q) (aggregate_of w.now.aggregates (slice_index_or batch.now.rows row [] ∷ []))
+        else total_at windows.old.entries q)) }
 {
     match windows.get_mut(&place) {
         Some(acc) => acc.add(w, batch, row),
@@ -61,11 +59,11 @@ fn add_from(
     requires window { CanAggregate batch.now.width w.now }
     requires time { IsTime (at w.now.time (slice_index_or batch.now.rows row [])) }
     requires rest { int_rem_euclid (at w.now.time (slice_index_or batch.now.rows row []) -ℤ w.now.offset) w.now.slide ≡ pos first }
-    requires windows { AreWindows w.now windows.old }
-    requires room { HasRoom 1 windows.old }
-    ensures windows { AreWindows w.now windows.new }
-    ensures added { OnOk result ((q : PlaceValue) → total_at windows.new q
-        ≡ merge w.now.aggregates (total_at windows.old q) (aggregate_at w.now (slice_index_or batch.now.rows row [] ∷ []) q)) }
+    requires windows { AreWindows w.now windows.old.entries }
+    requires room { HasRoom 1 windows.old.entries }
+    ensures windows { AreWindows w.now windows.new.entries }
+    ensures added { OnOk result ((q : PlaceValue) → total_at windows.new.entries q
+        ≡ merge w.now.aggregates (total_at windows.old.entries q) (aggregate_at w.now (slice_index_or batch.now.rows row [] ∷ []) q)) }
 {
     let time = batch.value(row, w.time as usize);
     let key = batch.value(row, w.key as usize);
@@ -90,11 +88,11 @@ fn add_record(
     requires row_in { row < length batch.now.rows }
     requires window { CanAggregate batch.now.width w.now }
     requires time { IsTime (at w.now.time (slice_index_or batch.now.rows row [])) }
-    requires windows { AreWindows w.now windows.old }
-    requires room { HasRoom 1 windows.old }
-    ensures windows { AreWindows w.now windows.new }
-    ensures added { OnOk result ((q : PlaceValue) → total_at windows.new q
-        ≡ merge w.now.aggregates (total_at windows.old q) (aggregate_at w.now (slice_index_or batch.now.rows row [] ∷ []) q)) }
+    requires windows { AreWindows w.now windows.old.entries }
+    requires room { HasRoom 1 windows.old.entries }
+    ensures windows { AreWindows w.now windows.new.entries }
+    ensures added { OnOk result ((q : PlaceValue) → total_at windows.new.entries q
+        ≡ merge w.now.aggregates (total_at windows.old.entries q) (aggregate_at w.now (slice_index_or batch.now.rows row [] ∷ []) q)) }
 {
     let time = batch.value(row, w.time as usize);
     let first = (time - w.offset).rem_euclid(w.slide) as u64;
@@ -109,11 +107,11 @@ pub(crate) fn add_batch(
 ) -> Result<(), AllocError>
     requires window { CanAggregate batch.now.width w.now }
     requires times { All (λ r. IsTime (at w.now.time r)) batch.now.rows }
-    requires windows { AreWindows w.now windows.old }
-    requires room { HasRoom (length batch.now.rows) windows.old }
-    ensures windows { AreWindows w.now windows.new }
-    ensures added { OnOk result ((q : PlaceValue) → total_at windows.new q
-        ≡ merge w.now.aggregates (total_at windows.old q) (aggregate_at w.now batch.now.rows q)) }
+    requires windows { AreWindows w.now windows.old.entries }
+    requires room { HasRoom (length batch.now.rows) windows.old.entries }
+    ensures windows { AreWindows w.now windows.new.entries }
+    ensures added { OnOk result ((q : PlaceValue) → total_at windows.new.entries q
+        ≡ merge w.now.aggregates (total_at windows.old.entries q) (aggregate_at w.now batch.now.rows q)) }
 {
     for row in 0..batch.len() {
         add_record(windows, w, batch, row)?;

@@ -5,6 +5,7 @@ ghost use Rattle.logical_plan.specs.Rows.{is_due as due, row_at};
 ghost use Rattle.aggregates.specs.Kinds.{AccData};
 ghost use Rattle.window_state.specs.Windows.{AreWindows, IsOperator, IsStart};
 ghost use Rattle.window_state.specs.Firing.{rows_due};
+ghost use Rattle.window_state.specs.Parts.{entries_at};
 
 use crate::adding::Windows;
 use aggregates::Acc;
@@ -35,21 +36,24 @@ fn row_of(alloc: Global, w: &WindowSpec, place: Place, acc: &Acc) -> Result<Row,
     })
 }
 
-/// The rows of the windows that fire by the watermark, in order.
+/// The rows of the windows at some places that fire by the watermark, in the order of the places.
 pub(crate) fn rows_of(
     alloc: Global,
     w: &WindowSpec,
     windows: &Windows,
+    places: &[Place],
     watermark: i64,
 ) -> Result<Vec<Row>, AllocError>
     requires operator { IsOperator w.now }
-    requires windows { AreWindows w.now windows.now }
-    ensures { IfOk result (λ rows. rows.items ≡ rows_due w.now watermark windows.now.entries) }
+    requires windows { AreWindows w.now windows.now.entries }
+    ensures { IfOk result (λ rows. rows.items ≡ rows_due w.now watermark (entries_at windows.now.entries places.now)) }
 {
     let mut rows = Vec::new(alloc);
-    for (place, acc) in windows.iter() {
-        if is_due(w, watermark, place.start) {
-            rows.push(row_of(alloc, w, *place, acc)?)?;
+    for place in places {
+        if let Some(acc) = windows.get(place) {
+            if is_due(w, watermark, place.start) {
+                rows.push(row_of(alloc, w, *place, acc)?)?;
+            }
         }
     }
     Ok(rows)
@@ -57,8 +61,8 @@ pub(crate) fn rows_of(
 
 /// Takes the windows out that fire by the watermark.
 pub(crate) fn remove_due(windows: &mut Windows, w: &WindowSpec, watermark: i64)
-    requires { AreWindows w.now windows.old }
-    ensures windows { AreWindows w.now windows.new }
+    requires { AreWindows w.now windows.old.entries }
+    ensures windows { AreWindows w.now windows.new.entries }
     ensures left { windows.new.entries ≡ filter (λ e. not (due w.now watermark e.0.start)) windows.old.entries }
 {
     windows.retain(|place, _| !is_due(w, watermark, place.start));

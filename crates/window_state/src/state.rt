@@ -14,11 +14,11 @@ ghost use Rattle.window_state.specs.Parts.{entries_of, IsPartOf};
 use crate::adding::{Windows, add_batch};
 use crate::fault::StateFault;
 use crate::firing::{remove_due, rows_of};
-use crate::parts::{Part, parts_of};
+use crate::parts::{Part, parts_of, places_of};
 use columns::Batch;
+use indexmap::IndexMap;
 use logical_plan::{Row, WindowSpec};
 use std::alloc::Global;
-use std::collections::BTreeMap;
 use std::marker::Model;
 
 /// What stands in the windows that have not fired: for each place, a window's start and a key, what its
@@ -57,7 +57,7 @@ impl WindowState {
         Ok(WindowState {
             alloc,
             window: window.copy(alloc)?,
-            windows: BTreeMap::new(alloc),
+            windows: IndexMap::new(alloc),
             has_failed: false,
         })
     }
@@ -100,7 +100,8 @@ impl WindowState {
         if self.has_failed {
             return Err(StateFault::Failed);
         }
-        let rows = rows_of(self.alloc, &self.window, &self.windows, watermark)?;
+        let places = places_of(self.alloc, &self.windows)?;
+        let rows = rows_of(self.alloc, &self.window, &self.windows, &places, watermark)?;
         remove_due(&mut self.windows, &self.window, watermark);
         Ok(rows)
     }
@@ -114,7 +115,8 @@ impl WindowState {
         if self.has_failed {
             return Err(StateFault::Failed);
         }
-        Ok(parts_of(alloc, &self.windows)?)
+        let places = places_of(alloc, &self.windows)?;
+        Ok(parts_of(alloc, &self.windows, &places)?)
     }
 
     /// The state that holds the parts. Where a place stands twice, the first counts.
@@ -136,7 +138,7 @@ impl WindowState {
         }) }
         ensures fault { IfErr result (λ fault. fault ≡ StateFault.Memory) }
     {
-        let mut windows = BTreeMap::new(alloc);
+        let mut windows = IndexMap::new(alloc);
         let mut left = parts.len();
         while left > 0 {
             left -= 1;

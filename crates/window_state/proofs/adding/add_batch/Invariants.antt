@@ -7,6 +7,6 @@ use Rattle.window_state.proofs.adding.add_batch.Given as goal
 
 abbrev pub invariant-loop-row : goal.invariant-loop-row
 invariant-loop-row l = record {
-  windows : AreWindows l.w l.windows;
-  added : (q : Place) → total_at l.windows q ≡ merge l.w.aggregates (total_at l.fn.windows q) (aggregate_at l.w (take l.row l.batch.rows) q);
+  windows : AreWindows l.w l.windows.entries;
+  added : (q : Place) → total_at l.windows.entries q ≡ merge l.w.aggregates (total_at l.fn.windows.entries q) (aggregate_at l.w (take l.row l.batch.rows) q);
 }

@@ -8,8 +8,8 @@ abbrev pub invariant-loop-back : goal.invariant-loop-back
 invariant-loop-back l = record {
   high : l.back ≤ 2 ^ 41;
   rem : l.back % l.slide ≡ l.fn.first;
-  windows : AreWindows l.w l.windows;
-  added : (q : Place) → total_at l.windows q ≡ slid l.w (slice_index_or l.batch.rows l.row []) (total_at l.fn.windows q) q l.back;
+  windows : AreWindows l.w l.windows.entries;
+  added : (q : Place) → total_at l.windows.entries q ≡ slid l.w (slice_index_or l.batch.rows l.row []) (total_at l.fn.windows.entries q) q l.back;
 }
 
 abbrev pub decreases-loop-back : goal.decreases-loop-back

@@ -15,5 +15,5 @@ returns-clause-left c =
 
 pub returns-clause-windows : goal.returns-clause-windows
 returns-clause-windows c =
-    windows_kept c.args.w.now (λ q. not (is_due c.args.w.now (to_z w64 (of_z w64 c.args.watermark)) q.start)) c.args.windows.now c.retain.new.self c.requires c.retain.ensures.ordered
+    windows_kept c.args.w.now (λ q. not (is_due c.args.w.now (to_z w64 (of_z w64 c.args.watermark)) q.start)) c.args.windows.now.entries c.retain.new.self.entries c.requires c.retain.ensures.unique
     (filter_same_pairs _ (λ e. not (is_due c.args.w.now (to_z w64 (of_z w64 c.args.watermark)) e.0.start)) _ (λ k v b w f' t. search rules) _ _ c.retain.ensures.filtered)

@@ -1,25 +1,43 @@
-use Rattle.std.proofs.Common.{◌≡◌, ◌++◌, Some, ap, ◌∙◌, rules, to_z, of_z}
+use Rattle.std.proofs.Common.{◌≡◌, ◌∷◌, List, subst, ◌++◌, ◌<◌, ◌+◌, pos, length, drop, get_or, arith, rules, ap, sym, ◌∙◌, to_z, of_z}
 use Rattle.std.specs.Int.{w64}
-use Rattle.std.specs.Map.Iter.{deref_pair}
-use Rattle.std.specs.BTreeMap.{get}
-use Rattle.std.proofs.lemmas.Map.Views.{All-turn}
+use Rattle.std.proofs.lemmas.List.{drop_more}
 use Rattle.logical_plan.specs.declared.spec.Place.{Place}
-use Rattle.logical_plan.specs.Rows.{place_cmp}
-use Rattle.aggregates.specs.Kinds.{AccData}
+use Rattle.logical_plan.specs.declared.spec.Row.{Row}
 use Rattle.window_state.specs.Firing.{rows_due}
-use Rattle.window_state.proofs.Entries.{fires_next}
+use Rattle.window_state.specs.Parts.{entries_at}
+use Rattle.window_state.proofs.Entries.{fires_next, stays_next, some_next, none_next}
+use Rattle.window_state.proofs.firing.rows_of.Goals.{in-Some+then-is_due+in_ok-row_of+in_ok-push, in-Some+else-is_due, in_default}
 use Rattle.window_state.proofs.firing.rows_of.Goals as goal
 
 pub row_of-requires-clause-start : goal.row_of-requires-clause-start
-row_of-requires-clause-start c =
-    let there : get place_cmp c.args.windows.now c.in-Some.place.now ≡ Some c.in-Some.acc.now =
-    All-turn deref_pair (λ (e : Place × AccData). get place_cmp c.args.windows.now e.0 ≡ Some e.1) _ _ _ _ _ _ _ c.iter-place-items.ensures.found
-    (c.into_iter-place-iterator.ensures.into_iter_gives ∙ c.iter-place-items.ensures.rest) c.loop-place.yielded_by c.in-Some.is c.next.ensures.steps in
-    c.requires.windows.starts c.in-Some.place.now c.in-Some.acc.now there
+row_of-requires-clause-start c = c.requires.windows.starts _ c.in-Some.acc.now (sym c.in-Some.ensures.value)
 
-pub loop-place-preserved-in_ok-push : goal.loop-place-preserved-in_ok-push
-loop-place-preserved-in_ok-push c =
+pub loop-place-preserved : goal.loop-place-preserved
+loop-place-preserved c =
+    let i = c.loop-place.place-index in
+    let places = c.args.places.now in
+    let es = c.args.windows.now.entries in
+    let w = c.args.w.now in
     let t = to_z w64 (of_z w64 c.args.watermark) in
-    ap (λ l. l ++ rows_due c.args.w.now t c.next.new.self) c.in_ok-push.ensures.items
-    ∙ fires_next c.args.w.now t c.loop-place.rows.items c.in_ok-row_of.field-0 (c.in-Some.place.now, c.in-Some.acc.now) c.loop-place.place-iterator c.next.new.self c.args.windows.now.entries
-    c.loop-place.invariant c.in-Some.ensures.steps (search rules) c.in_ok-row_of.ensures
+    let none : Place = record { start = pos 0; key = pos 0 } in
+    let p = get_or places i none in
+    let inside : i < length places = omega arith in
+    let next : drop i places ≡ p ∷ drop (i + 1) places = drop_more places i none inside in
+    elim c.match-get.branch [
+      | in-Some+then-is_due+in_ok-row_of+in_ok-push b ↦ (
+          let there = some_next es p b.in-Some.acc.now (drop i places) (drop (i + 1) places) next (sym b.in-Some.ensures.value) in
+          subst (λ (rows : List Row). rows ++ rows_due w t (entries_at es (drop (i + 1) places)) ≡ rows_due w t (entries_at es places)) (sym (ap (λ v. v.items) b.rows-is ∙ b.in_ok-push.ensures.items))
+          (fires_next w t c.loop-place.rows.items b.in_ok-row_of.field-0 (p, b.in-Some.acc.now) (entries_at es (drop i places)) (entries_at es (drop (i + 1) places)) (entries_at es places)
+          c.loop-place.invariant there (search rules) b.in_ok-row_of.ensures)
+          )
+      | in-Some+else-is_due b ↦ (
+          let there = some_next es p b.in-Some.acc.now (drop i places) (drop (i + 1) places) next (sym b.in-Some.ensures.value) in
+          subst (λ (rows : List Row). rows ++ rows_due w t (entries_at es (drop (i + 1) places)) ≡ rows_due w t (entries_at es places)) (sym (ap (λ v. v.items) b.rows-is))
+          (stays_next w t c.loop-place.rows.items (p, b.in-Some.acc.now) (entries_at es (drop i places)) (entries_at es (drop (i + 1) places)) (entries_at es places)
+          c.loop-place.invariant there (search rules))
+          )
+      | in_default b ↦ (
+          subst (λ (rows : List Row). rows ++ rows_due w t (entries_at es (drop (i + 1) places)) ≡ rows_due w t (entries_at es places)) (sym (ap (λ v. v.items) b.rows-is))
+          (ap (λ l. c.loop-place.rows.items ++ rows_due w t l) (sym (none_next es p (drop i places) (drop (i + 1) places) next (sym b.in_default.ensures.value))) ∙ c.loop-place.invariant)
+          )
+    ]

@@ -9,8 +9,8 @@ use Rattle.window_state.proofs.state.WindowState.from_parts.Given as goal
 abbrev pub invariant-loop-left : goal.invariant-loop-left
 invariant-loop-left l = record {
   few : l.left ≤ length l.parts;
-  windows : AreWindows l.window l.windows;
-  totals : (q : Place) → total_at l.windows q ≡ find place_cmp q (entries_of (drop l.left l.parts));
+  windows : AreWindows l.window l.windows.entries;
+  totals : (q : Place) → total_at l.windows.entries q ≡ find place_cmp q (entries_of (drop l.left l.parts));
 }
 
 abbrev pub decreases-loop-left : goal.decreases-loop-left
