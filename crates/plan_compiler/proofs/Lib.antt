@@ -1,1 +1,4 @@
 pub mod Named
+pub mod Staged
+pub mod Finished
+pub mod Ranges

@@ -131,10 +131,5 @@ pub fn single(alloc: Global, plan: &Plan) -> Result<Scale, AllocError>
 {
     let sources = ones(alloc, plan.sources())?;
     let filters = chained(alloc, plan.filters())?;
-    Ok(Scale::new(
-        16,
-        Items::from_vec(sources),
-        Items::from_vec(filters),
-        1,
-    ))
+    Ok(Scale::new(16, Items::from_vec(sources), Items::from_vec(filters), 1))
 }

@@ -80,9 +80,8 @@ fn are_counts(most: u32, operators: &[OperatorDraft]) -> bool
     ensures { result ≡ list_all (λ m. is_within (pos 1) (pos most) m.part.parallelism) operators.now }
 {
     let most = i64::from(most);
-    operators
-        .iter()
-        .all(|operator| 1 <= operator.part.parallelism && operator.part.parallelism <= most)
+    operators.iter().all(|operator| 1 <= operator.part.parallelism
+        && operator.part.parallelism <= most)
 }
 
 /// Whether a ring holds 1 to 1,024 messages.

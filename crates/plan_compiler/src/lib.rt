@@ -7,6 +7,7 @@ mod check;
 mod fault;
 mod scale;
 mod scale_text;
+mod stages;
 mod tasks;
 
 pub use fault::ScaleFault;
