@@ -2,3 +2,4 @@ pub mod Named
 pub mod Staged
 pub mod Finished
 pub mod Ranges
+pub mod TaskPlaces

@@ -6,3 +6,4 @@ pub mod Tasks
 pub mod Requirements
 pub mod Answer
 pub mod Compiling
+pub mod LayoutData

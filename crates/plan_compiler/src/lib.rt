@@ -5,6 +5,7 @@
 mod building;
 mod check;
 mod fault;
+mod places;
 mod scale;
 mod scale_text;
 mod stages;
