@@ -3,3 +3,4 @@ pub mod Staged
 pub mod Finished
 pub mod Ranges
 pub mod TaskPlaces
+pub mod Chosen

@@ -6,6 +6,7 @@ mod building;
 mod check;
 mod fault;
 mod places;
+mod rings;
 mod scale;
 mod scale_text;
 mod stages;
