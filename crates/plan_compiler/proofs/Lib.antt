@@ -4,3 +4,4 @@ pub mod Finished
 pub mod Ranges
 pub mod TaskPlaces
 pub mod Chosen
+pub mod CompiledTasks
