@@ -5,6 +5,7 @@
 mod building;
 mod check;
 mod fault;
+mod reading;
 mod scale;
 mod scale_text;
 mod tasks;
