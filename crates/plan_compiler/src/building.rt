@@ -139,11 +139,6 @@ impl Scale {
     {
         let sources = ones(alloc, plan.sources())?;
         let filters = chained(alloc, plan.filters())?;
-        Ok(Scale::new(
-            16,
-            Items::from_vec(sources),
-            Items::from_vec(filters),
-            1,
-        ))
+        Ok(Scale::new(16, Items::from_vec(sources), Items::from_vec(filters), 1))
     }
 }

@@ -13,3 +13,6 @@ mod tasks;
 pub use fault::ScaleFault;
 pub use layout_rules::FilterScale;
 pub use scale::Scale;
+
+#[cfg(test)]
+mod tests;

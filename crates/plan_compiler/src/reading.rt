@@ -23,7 +23,7 @@ use std::alloc::Global;
 /// The most tasks that a layout may have, with the sink's one.
 const MOST_TASKS: u32 = 256;
 
-#[tactic(auto, unfolding(crate::specs::Requirements::requirements))]
+#[tactic(auto, unfolding(crate::specs::Requirements::requirements, crate::specs::Requirements::has_ring))]
 fn scale_from(alloc: Global, plan: &Plan, draft: &ScaleDraft) -> Result<Scale, ScaleFault>
     ensures reads { Gives (λ scale. scale) result (scale_or_fault plan.now (draft_text draft.now)) }
     ensures belongs { IfOk result (λ scale. IsScale plan.now scale) }
@@ -37,7 +37,7 @@ fn scale_from(alloc: Global, plan: &Plan, draft: &ScaleDraft) -> Result<Scale, S
     if !check::has_parallelism(plan, draft) {
         return Err(ScaleFault::Parallelism);
     }
-    if !check::has_ring(plan, draft) {
+    if !check::has_ring(draft) {
         return Err(ScaleFault::Ring);
     }
     let scale = scale_of(alloc, plan, draft)?;
