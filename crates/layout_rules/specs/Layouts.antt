@@ -1,5 +1,5 @@
 -- The layout in the abstract that a list of stages is.
-use Rattle.std.specs.Prelude.{ℕ, ℤ, ◌+◌, ◌-◌, List, [], ◌∷◌, Bool, true, ◌&&◌, if◌then◌else◌, Option, Some, None, length, take, drop, map, slice_index}
+use Rattle.std.specs.Prelude.{ℕ, suc, ℤ, ◌+◌, ◌-◌, List, [], ◌∷◌, Bool, true, ◌&&◌, if◌then◌else◌, Option, Some, None, length, take, drop, map, slice_index}
 use Rattle.plain_data.specs.Record.{Record}
 use Rattle.key_groups.specs.Groups.{key_group}
 use Rattle.key_groups.specs.Ranges.{group_owner}
@@ -74,7 +74,7 @@ task_of p e cut stops stages t =
 abbrev pub layout_of : PlanData → Entries → (ℕ → ℕ → ℕ) → Bool → List Stage → ℕ → Layout
 layout_of p e cut stops stages w = record {
   before = first (width stages) w;
-  sink = first (width stages) (w + 1);
+  sink = first (width stages) (suc w);
   task = task_of p e cut stops stages;
   ring = ring stages;
   from = λ t i. slice_index (inputs_of stages t) i;

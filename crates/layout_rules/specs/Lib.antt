@@ -4,3 +4,5 @@ pub mod Stages
 pub mod Rules
 pub mod Scale
 pub mod Layouts
+pub mod Laws
+pub mod Example

@@ -1,5 +1,6 @@
 -- Which stages a plan has at a scale.
-use Rattle.std.specs.Prelude.{◌≡◌, ℕ, zero, suc, ◌-◌, ◌<◌, List, [], ◌∷◌, Bool, true, false, ◌&&◌, ◌==◌, if◌then◌else◌, Some, None, length, map, slice_index_or}
+use Rattle.std.specs.List.{AllByRecursion}
+use Rattle.std.specs.Prelude.{◌≡◌, ℕ, zero, suc, ◌-◌, ◌<◌, List, [], ◌∷◌, ◌++◌, Bool, true, false, ◌&&◌, ◌==◌, if◌then◌else◌, Some, None, length, map, slice_index_or}
 use Rattle.logical_plan.specs.PlanData.{PlanData}
 use Rattle.layout_rules.specs.declared.stage.Operator.{Operator}
 use Rattle.layout_rules.specs.declared.stage.Operator.TheVariants.{Source, Filter, Window, Sink}
@@ -84,3 +85,25 @@ with_edges stages a (s ∷ s' ∷ ss) = record s { edge = Some (edge_into s (sta
 
 abbrev pub stages_of : PlanData → ScaleData → List Stage
 stages_of p c = let bare = map (opened c) (in_stages p c (in_order p)) in with_edges bare 0 bare
+
+-- the operator that filter f comes after, and how many tasks that filter opens
+abbrev pub before_filter : PlanData → ℕ → Operator
+before_filter p zero = Source (length p.sources - 1)
+before_filter p (suc f) = Filter f
+
+abbrev pub opened_by : PlanData → ScaleData → ℕ → ℕ
+opened_by p c f = if follows p c (before_filter p f) (Filter f) then 0 else (filter_scale c f).parallelism
+
+-- the same stages from the other end
+abbrev pub last_of : Operator → List Operator → Operator
+last_of o [] = o
+last_of o (o' ∷ os) = last_of o' os
+
+abbrev pub onto_last : Operator → List (List Operator) → List (List Operator)
+onto_last o [] = []
+onto_last o (g ∷ []) = (g ++ o ∷ []) ∷ []
+onto_last o (g ∷ g' ∷ gs) = g ∷ onto_last o (g' ∷ gs)
+
+-- all operators of a stage have its parallelism
+abbrev pub HasWidth : ScaleData → List Operator → Type 0
+HasWidth c g = AllByRecursion (λ o. parallelism_of c o ≡ width_of c g) g

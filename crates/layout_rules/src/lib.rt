@@ -5,6 +5,7 @@
 //! (`specs/Stages`). Which stages a plan has at a scale is in `specs/Rules`.
 #![tactic(auto)]
 
+pub mod laws;
 mod stage;
 
 pub use stage::{Edge, FilterScale, Operator, Stage, TaskPlace};

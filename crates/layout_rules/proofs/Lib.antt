@@ -1,0 +1,9 @@
+pub mod Rows
+pub mod Shape
+pub mod LayoutLaws
+pub mod Partitions
+pub mod Shapes
+pub mod Once
+pub mod Groups
+pub mod Counted
+pub mod FiveStages

@@ -1,0 +1,104 @@
+-- Numbers dealt out in rows, and the numbers that pass a test.
+use Rattle.std.proofs.Common.{◌≡◌, ℕ, zero, suc, ◌+◌, ◌<◌, ◌≤◌, [], ◌∷◌, ◌++◌, Bool, true, false, cond, leb, length, get_or, refl, sym, ap, ◌∙◌, inl, inr, arith}
+use Rattle.std.proofs.lemmas.Bool.{cases_eq, cases_Bool, cases_lt, leb-true, leb-false}
+use Rattle.std.proofs.lemmas.List.{length-append, get_or_append_left, get_or_at}
+use Rattle.layout_rules.specs.Places.{first, row_of, those, count}
+
+-- a row begins where those before it end
+pub first_up : (f : ℕ → ℕ) (a b : ℕ) → a ≤ b → first f a ≤ first f b
+first_up f a zero l = let e : a ≡ 0 = omega arith in rw e (omega arith)
+first_up f a (suc b) l =
+    elim (cases_eq a (suc b)) [
+      | inl e ↦ rw e (omega arith)
+      | inr ne ↦ omega (arith, first_up f a b (omega arith))
+    ]
+
+pub row_is : (f : ℕ → ℕ) (n t : ℕ) → t < first f n → (row_of f n t < n) × (first f (row_of f n t) ≤ t) × (t < first f (suc (row_of f n t)))
+row_is f zero t l = absurd (omega arith)
+row_is f (suc n) t l =
+    elim (cases_Bool (leb (first f n) t)) [
+      | inl e ↦ rw e (omega arith, leb-true (first f n) t e, l)
+      | inr e ↦ rw e (let r = row_is f n t (leb-false (first f n) t e) in (omega (arith, r.0), r.1, r.2))
+    ]
+
+-- a number has one row
+pub row_one : (f : ℕ → ℕ) (a b t : ℕ) → first f a ≤ t → t < first f (suc a) → first f b ≤ t → t < first f (suc b) → a ≡ b
+row_one f a b t l m l' m' =
+    elim (cases_lt a b) [
+      | inl e ↦ absurd (omega (arith, first_up f (suc a) b e, l', m))
+      | inr e ↦ elim (cases_eq a b) [ inl q ↦ q | inr ne ↦ absurd (omega (arith, first_up f (suc b) a (omega arith), l, m')) ]
+    ]
+
+pub row_at : (f : ℕ → ℕ) (n a i : ℕ) → a < n → i < f a → (row_of f n (first f a + i) ≡ a) × (first f a + i < first f n)
+row_at f n a i l m =
+    let u : first f a + i < first f n = omega (arith, first_up f (suc a) n l) in
+    let r = row_is f n (first f a + i) u in
+    (row_one f (row_of f n (first f a + i)) a (first f a + i) r.1 r.2 (omega arith) (omega arith), u)
+
+pub count_up : (test : ℕ → Bool) (a b : ℕ) → a ≤ b → count test a ≤ count test b
+count_up test a zero l = let e : a ≡ 0 = omega arith in rw e (omega arith)
+count_up test a (suc b) l =
+    elim (cases_eq a (suc b)) [
+      | inl e ↦ rw e (omega arith)
+      | inr ne ↦ omega (arith, count_up test a b (omega arith))
+    ]
+
+pub length_those : (test : ℕ → Bool) (n : ℕ) → length (those test n) ≡ count test n
+length_those test zero = refl
+length_those test (suc n) =
+    length-append (those test n) (cond (test n) (n ∷ []) [])
+    ∙ elim (cases_Bool (test n)) [
+      | inl e ↦ rw e (omega (arith, length_those test n))
+      | inr e ↦ rw e (omega (arith, length_those test n))
+    ]
+
+-- a number that passes stands at its count
+pub select : (test : ℕ → Bool) (n s : ℕ) → s < n → test s ≡ true → (count test s < count test n) × (get_or (those test n) (count test s) 0 ≡ s)
+select test zero s l e = absurd (omega arith)
+select test (suc n) s l e =
+    elim (cases_eq s n) [
+      | inl q ↦ (
+          let e' : test n ≡ true = sym (ap test q) ∙ e in
+          rw (q, e') (omega arith, get_or_at (those test n) n [] 0 (count test n) (length_those test n)))
+      | inr ne ↦ (
+          let r = select test n s (omega arith) e in
+          let k : count test s < length (those test n) = omega (arith, r.0, length_those test n) in
+          (omega (arith, r.0), get_or_append_left (those test n) (cond (test n) (n ∷ []) []) 0 (count test s) k ∙ r.1))
+    ]
+
+-- and what stands at a place passes and has that count
+pub selected : (test : ℕ → Bool) (n i : ℕ) → i < count test n → (get_or (those test n) i 0 < n) × (test (get_or (those test n) i 0) ≡ true) × (count test (get_or (those test n) i 0) ≡ i)
+selected test zero i l = absurd (omega arith)
+selected test (suc n) i l =
+    elim (cases_lt i (count test n)) [
+      | inl k ↦ (
+          let r = selected test n i k in
+          let k' : i < length (those test n) = omega (arith, k, length_those test n) in
+          let q = get_or_append_left (those test n) (cond (test n) (n ∷ []) []) 0 i k' in
+          rw q (omega (arith, r.0), r.1, r.2))
+      | inr k ↦ elim (cases_Bool (test n)) [
+        | inr e ↦ absurd (let z : i < count test n + cond (test n) 1 0 = l in let z' : i < count test n + 0 = (rw e at z) in omega (arith, z', k))
+        | inl e ↦ (
+            let z' : i < count test n + 1 = (let z : i < count test n + cond (test n) 1 0 = l in rw e at z) in
+            let i' : i ≡ count test n = omega (arith, z', k) in
+            let q : get_or (those test n ++ cond (test n) (n ∷ []) []) i 0 ≡ n = rw e (get_or_at (those test n) n [] 0 i (length_those test n ∙ sym i')) in
+            rw q (omega arith, e, sym i'))
+      ]
+    ]
+
+-- a stretch that none passes, and one that all pass
+pub count_none : (test : ℕ → Bool) (a n : ℕ) → a ≤ n → ((k : ℕ) → a ≤ k → k < n → test k ≡ false) → count test n ≡ count test a
+count_none test a zero l h = let e : a ≡ 0 = omega arith in rw e refl
+count_none test a (suc n) l h =
+    elim (cases_eq a (suc n)) [
+      | inl e ↦ rw e refl
+      | inr ne ↦ let z = h n (omega arith) (omega arith) in rw z (omega (arith, count_none test a n (omega arith) (λ k x y. h k x (omega arith))))
+    ]
+
+pub count_all : (test : ℕ → Bool) (a n : ℕ) → a ≤ n → ((k : ℕ) → a ≤ k → k < n → test k ≡ true) → count test n + a ≡ count test a + n
+count_all test a zero l h = let e : a ≡ 0 = omega arith in rw e refl
+count_all test a (suc n) l h =
+    elim (cases_eq a (suc n)) [
+      | inl e ↦ rw e refl
+      | inr ne ↦ let z = h n (omega arith) (omega arith) in rw z (omega (arith, count_all test a n (omega arith) (λ k x y. h k x (omega arith))))
+    ]

@@ -1,0 +1,48 @@
+-- A worked layout: sources with 2 and 3 subtasks, two chained filters with 2, a window with 3.
+use Rattle.std.specs.Prelude.{◌≡◌, ℕ, List, [], ◌∷◌, true, Some, None}
+use Rattle.logical_plan.specs.declared.spec.SourceSpec.{SourceSpec}
+use Rattle.logical_plan.specs.declared.spec.FilterSpec.{FilterSpec}
+use Rattle.logical_plan.specs.declared.spec.WindowSpec.{WindowSpec}
+use Rattle.logical_plan.specs.PlanData.{PlanData, plan_data_of}
+use Rattle.layout_rules.specs.declared.stage.Operator.TheVariants.{Source, Filter, Window, Sink}
+use Rattle.layout_rules.specs.declared.stage.Edge.TheVariants.{Forward, ByGroup, Rebalance}
+use Rattle.layout_rules.specs.declared.stage.Stage.{Stage}
+use Rattle.layout_rules.specs.Stages.{stage_from, inputs_of, outputs_of, partitions_of}
+use Rattle.layout_rules.specs.Rules.{IsCompiled}
+use Rattle.layout_rules.specs.Scale.{FilterScale, ScaleData, scale_data_of}
+use Rattle.layout_rules.specs.Layouts.{partition_counts}
+
+-- a plan with two sources of 5 partitions and two filters
+abbrev pub five_partitions : List ℕ → SourceSpec
+five_partitions uid = record { uid = uid; partitions = 5 }
+
+abbrev pub two_sources : List ℕ → List ℕ → FilterSpec → FilterSpec → WindowSpec → PlanData
+two_sources s r f g w = plan_data_of 3 128 (five_partitions s ∷ five_partitions r ∷ []) (f ∷ g ∷ []) w
+
+abbrev pub chained : ℕ → FilterScale
+chained n = record { parallelism = n; chain = true }
+
+abbrev pub two_and_three : ScaleData
+two_and_three = scale_data_of 16 (2 ∷ 3 ∷ []) (chained 2 ∷ chained 2 ∷ []) 3
+
+abbrev pub five : List Stage
+five =
+    stage_from 2 (Source 0 ∷ []) (Some Forward)
+    ∷ stage_from 3 (Source 1 ∷ []) (Some Rebalance)
+    ∷ stage_from 2 (Filter 0 ∷ Filter 1 ∷ []) (Some ByGroup)
+    ∷ stage_from 3 (Window ∷ []) (Some Rebalance)
+    ∷ stage_from 1 (Sink ∷ []) None ∷ []
+
+abbrev pub FiveStages : Type 0
+FiveStages = (s r : List ℕ) (f g : FilterSpec) (w : WindowSpec)
+    → IsCompiled (two_sources s r f g w) two_and_three five
+    × (inputs_of five 5 ≡ 0 ∷ 2 ∷ 3 ∷ 4 ∷ [])
+    × (inputs_of five 6 ≡ 1 ∷ 2 ∷ 3 ∷ 4 ∷ [])
+    × (inputs_of five 8 ≡ 5 ∷ 6 ∷ [])
+    × (inputs_of five 10 ≡ 7 ∷ 8 ∷ 9 ∷ [])
+    × (outputs_of five 1 ≡ 6 ∷ [])
+    × (outputs_of five 3 ≡ 5 ∷ 6 ∷ [])
+    × (outputs_of five 5 ≡ 7 ∷ 8 ∷ 9 ∷ [])
+    × (outputs_of five 10 ≡ [])
+    × (partitions_of (partition_counts (two_sources s r f g w)) five 3 ≡ 1 ∷ 4 ∷ [])
+    × (partitions_of (partition_counts (two_sources s r f g w)) five 5 ≡ [])

@@ -1,0 +1,42 @@
+//! Laws of the definitions, each the contract of a function that does nothing.
+
+ghost use Rattle.layout_rules.specs.Laws.{CompiledIsLayout, CompiledOnce, CompiledEver, OneMore, StagesAlike, TasksCounted};
+ghost use Rattle.layout_rules.specs.Example.{FiveStages};
+
+/// The stages of a plan at a scale are a layout: its tasks and rings go together, a record comes to the one
+/// window task that owns its key and through every filter, and each partition is read by one task.
+pub fn compiled_is_layout()
+    ensures { CompiledIsLayout }
+{}
+
+/// A plan has one list of stages at a scale: the rules leave nothing open.
+pub fn compiled_once()
+    ensures { CompiledOnce }
+{}
+
+/// Every plan has stages at every scale: those that `stages_of` makes.
+pub fn compiled_ever()
+    ensures { CompiledEver }
+{}
+
+/// One more operator joins the last stage or opens one; those before it stay where they are.
+pub fn one_more()
+    ensures { OneMore }
+{}
+
+/// All operators of a stage have the stage's parallelism.
+pub fn stages_alike()
+    ensures { StagesAlike }
+{}
+
+/// How many tasks the layout of a plan has at a scale: those of the sources, of each filter that opens a
+/// stage, of the window, and the sink's.
+pub fn tasks_counted()
+    ensures { TasksCounted }
+{}
+
+/// A worked layout: two sources with 2 and 3 subtasks, two chained filters with 2 and a window with 3. Tasks
+/// 5 and 6, of the filters, have a forward ring from the first source and one from each task of the second.
+pub fn five_stages()
+    ensures { FiveStages }
+{}
