@@ -1,4 +1,7 @@
 pub mod Named
-pub mod Sums
 pub mod TaskCount
 pub mod Sound
+pub mod Staged
+pub mod Finished
+pub mod Ranges
+pub mod TaskPlaces

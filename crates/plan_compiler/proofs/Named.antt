@@ -1,5 +1,5 @@
 -- The members of a document by their names.
-use Rattle.std.proofs.Common.{◌≡◌, ℕ, ℤ, suc, ◌+◌, Bool, true, false, ◌&&◌, ◌||◌, not, min, pos, cond, map, length, List, [], ◌∷◌, ◌++◌, Option, Some, None, option_map, is_some, string_bytes, refl, ap, ◌∙◌, ltb, inl, inr, arith}
+use Rattle.std.proofs.Common.{◌≡◌, ℕ, ℤ, suc, ◌+◌, Bool, true, false, ◌&&◌, ◌||◌, not, min, pos, cond, map, length, List, [], ◌∷◌, Option, Some, None, option_map, is_some, string_bytes, refl, ap, ◌∙◌, ltb, inl, inr, arith}
 use Rattle.std.proofs.lemmas.Bool.{cases_Bool, and_parts}
 use Rattle.std.proofs.lemmas.Int.{ints}
 use Rattle.std.proofs.lemmas.Bool.Decides.{nat_tests}

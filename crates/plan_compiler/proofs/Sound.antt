@@ -1,11 +1,11 @@
 -- What is read of a text that meets every requirement is a scale of the plan.
-use Rattle.std.proofs.Common.{◌≡◌, ℕ, ◌+◌, ◌*◌, ◌≤◌, ℤ, pos, negsuc, min, Bool, true, false, List, [], ◌∷◌, sum, map, length, get_or, Option, Some, None, Ok, Err, if◌then◌else◌, subst, refl, sym, ap, ◌∙◌, inl, inr, arith}
+use Rattle.std.proofs.Common.{◌≡◌, ℕ, ◌+◌, ◌*◌, ◌≤◌, ℤ, pos, negsuc, min, true, List, [], ◌∷◌, sum, map, length, Option, Some, refl, sym, ap, ◌∙◌, inl, inr, arith}
 use Rattle.std.specs.Prelude.{unsigned_abs, nat_le}
-use Rattle.std.specs.Option.{option_map_or}
-use Rattle.std.specs.List.{All, list_all}
+use Rattle.std.specs.List.{All}
 use Rattle.std.proofs.lemmas.Bool.{cases_Bool, leb-true}
 use Rattle.std.proofs.lemmas.Int.{ints}
 use Rattle.std.proofs.lemmas.List.{length-map}
+use Rattle.std.proofs.lemmas.List.Sums.{sum_by-cons}
 use Rattle.std.proofs.lemmas.List.Elements.{All-map, All-head, All-tail}
 use Rattle.logical_plan.specs.declared.spec.SourceSpec.{SourceSpec}
 use Rattle.logical_plan.specs.declared.spec.FilterSpec.{FilterSpec}
@@ -16,15 +16,12 @@ use Rattle.layout_rules.specs.Scale.{IsParallelism, IsScale}
 use Rattle.layout_rules.specs.ScaleData.{ScaleData}
 use Rattle.layout_rules.specs.Stages.{tasks}
 use Rattle.layout_rules.specs.Rules.{stages_of}
-use Rattle.plan_compiler.specs.declared.fault.ScaleFault.{ScaleFault}
 use Rattle.plan_compiler.specs.declared.scale_text.OperatorText.{OperatorText}
 use Rattle.plan_compiler.specs.ScaleText.{ScaleText}
 use Rattle.plan_compiler.specs.Said.{operator_under, parallelism_under, filter_under, scale_of, single_scale}
 use Rattle.plan_compiler.specs.Tasks.{only_one, joins, filter_tasks, task_count}
-use Rattle.plan_compiler.specs.Requirements.{requirements, first_unmet, has_known_uids, has_all_uids, has_parallelism, has_ring, has_few_tasks}
-use Rattle.plan_compiler.specs.Answer.{scale_or_fault}
+use Rattle.plan_compiler.specs.Requirements.{has_parallelism, has_ring, has_few_tasks}
 use Rattle.plan_compiler.proofs.Named.{found_passes}
-use Rattle.plan_compiler.proofs.Sums.{sum_cons}
 use Rattle.plan_compiler.proofs.TaskCount.{Fits, tasks_are}
 
 is_one : (max : ℕ) → 1 ≤ max → is_within (pos 1) (pos (min 64 max)) (pos 1) ≡ true
@@ -52,7 +49,7 @@ pub record IsCounted (plan : PlanData) (c : ScaleData) : Type 0 where
 
 pub counted : (plan : PlanData) (text : ScaleText) → IsPlan plan → has_parallelism plan text ≡ true → IsCounted plan (scale_of plan text)
 counted plan text p met = record {
-  fits = record { sources = length-map plan.sources (λ (s : SourceSpec). parallelism_under s.uid text.operators); filters = length-map plan.filters (λ (f : FilterSpec). filter_under f.uid text.operators); some = p.sourced };
+  fits = record { sources = length-map plan.sources (λ (s : SourceSpec). parallelism_under s.uid text.operators); filters = length-map plan.filters (λ (f : FilterSpec). filter_under f.uid text.operators) };
   sources = All-map (IsParallelism plan.max) (λ (s : SourceSpec). parallelism_under s.uid text.operators) plan.sources (λ k d h. under plan text p met _);
   filters = All-map (λ (f : FilterScale). IsParallelism plan.max f.parallelism) (λ (f : FilterSpec). filter_under f.uid text.operators) plan.filters (λ k d h. under plan text p met _);
   window = under plan text p met plan.window.uid;
@@ -63,7 +60,7 @@ sum_small max [] h = omega arith
 sum_small max (n ∷ ns) h =
     let first = All-head (IsParallelism max) n ns h in
     let rest = sum_small max ns (All-tail (IsParallelism max) n ns h) in
-    let split = sum_cons n ns in
+    let split : sum (n ∷ ns) ≡ n + sum ns = sum_by-cons (λ (x : ℕ). x) n ns in
     omega (arith, first.few, rest, split)
 
 -- what counting the tasks asks for
@@ -101,7 +98,7 @@ is_scale plan text p parallelism ring few =
 pub counted_few : (plan : PlanData) (text : ScaleText) (c : ScaleData) (n : ℕ) → IsPlan plan → has_parallelism plan text ≡ true → c ≡ scale_of plan text → n ≡ task_count c → nat_le n 256 ≡ has_few_tasks plan text
 unfolding has_few_tasks
 counted_few plan text c n p parallelism is count =
-    ap (λ (m : ℕ). nat_le m 256) (count ∙ ap task_count is ∙ sym (tasks_are plan (scale_of plan text) (counted plan text p parallelism).fits))
+    ap (λ (m : ℕ). nat_le m 256) (count ∙ ap task_count is ∙ sym (tasks_are plan (scale_of plan text) p (counted plan text p parallelism).fits))
 
 pub counted_small : (plan : PlanData) (text : ScaleText) (c : ScaleData) → IsPlan plan → has_parallelism plan text ≡ true → c ≡ scale_of plan text → IsSmall c
 counted_small plan text c p parallelism is = rw is (small plan (scale_of plan text) p (counted plan text p parallelism))
@@ -110,7 +107,7 @@ ones_sum : {A : Type 0} (xs : List A) → sum (map (λ _. 1) xs) ≡ length xs
 ones_sum [] = refl
 ones_sum (x ∷ xs) =
     let ih = ones_sum xs in
-    let split = sum_cons 1 (map (λ _. 1) xs) in
+    let split : sum (1 ∷ map (λ _. 1) xs) ≡ 1 + sum (map (λ _. 1) xs) = sum_by-cons (λ (x : ℕ). x) 1 (map (λ _. 1) xs) in
     omega (arith, ih, split)
 
 chained_one : FilterScale
@@ -138,7 +135,7 @@ pub single_is_scale : (plan : PlanData) → IsPlan plan → IsScale plan (single
 unfolding chained_one
 single_is_scale plan p =
     let one = one_each plan.max p.grouped in
-    let fits : Fits plan (single_scale plan) = record { sources = length-map plan.sources (λ (s : SourceSpec). 1); filters = length-map plan.filters (λ (f : FilterSpec). chained_one); some = p.sourced } in
+    let fits : Fits plan (single_scale plan) = record { sources = length-map plan.sources (λ (s : SourceSpec). 1); filters = length-map plan.filters (λ (f : FilterSpec). chained_one) } in
     let sources = ones_sum plan.sources in
     let filters = one_opens (only_one (single_scale plan).sources) plan.filters in
     let few = p.sources_few in
@@ -151,5 +148,5 @@ single_is_scale plan p =
       source_parallelisms = All-map (IsParallelism plan.max) (λ (s : SourceSpec). 1) plan.sources (λ k d h. one);
       filter_parallelisms = All-map (λ (f : FilterScale). IsParallelism plan.max f.parallelism) (λ (f : FilterSpec). chained_one) plan.filters (λ k d h. one);
       window_parallelism = one;
-      tasks_few = rw (tasks_are plan (single_scale plan) fits) count;
+      tasks_few = rw (tasks_are plan (single_scale plan) p fits) count;
     }

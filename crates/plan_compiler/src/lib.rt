@@ -5,9 +5,11 @@
 mod building;
 mod check;
 mod fault;
+mod places;
 mod reading;
 mod scale;
 mod scale_text;
+mod stages;
 mod tasks;
 
 pub use fault::ScaleFault;
