@@ -8,6 +8,7 @@ mod compiling;
 mod fault;
 mod layout;
 mod places;
+mod reading;
 mod rings;
 mod scale;
 mod scale_text;
@@ -19,3 +20,6 @@ pub use fault::ScaleFault;
 pub use layout::Layout;
 pub use layout_rules::{Edge, FilterScale, Operator, Stage, TaskPlace};
 pub use scale::Scale;
+
+#[cfg(test)]
+mod tests;
