@@ -13,61 +13,91 @@ use Rattle.stream_input.specs.PlanRows.{plan_rows}
 use Rattle.stream_input.specs.Text.{IsTextOf}
 use Rattle.stream_input.specs.declared.fault.InputFault.{InputFault}
 use Rattle.stream_input.specs.declared.fault.InputFault.TheVariants as input
+use Rattle.layout_rules.specs.ScaleData.{ScaleData}
+use Rattle.plan_compiler.specs.Answer as scales
+use Rattle.plan_compiler.specs.declared.fault.ScaleFault.{ScaleFault}
+use Rattle.plan_compiler.specs.declared.fault.ScaleFault.TheVariants as scale
 use Rattle.job.specs.declared.fault.JobFault.{JobFault}
-use Rattle.job.specs.declared.fault.JobFault.TheVariants.{Write, Memory}
-use Rattle.job.specs.Fault.{plan_fault, input_fault}
-use Rattle.job.specs.Run.{Answers, input_said, plan_said, run_said}
+use Rattle.job.specs.declared.fault.JobFault.TheVariants.{Plan, Input, Scale, Write, Memory}
+use Rattle.job.specs.Fault.{plan_fault, input_fault, scale_fault}
+use Rattle.job.specs.Tells.{Tells}
+use Rattle.job.specs.Run.{Answers, WritesRows, input_said, plan_said, run_said}
 
 err_is : {T E : Type 0} (r : Result T E) (e : E) → IsErr r → IsErrAnd r (λ y. y ≡ e) → r ≡ Err e
 err_is (Ok x) e fails is = absurd cc
 err_is (Err y) e fails is = ap Err is
 
--- the plan's refusal, once it is known that reading the plan gives it
-refused_plan : (input : List ℕ) (said : Result PlanData PlanFault) (fault : PlanFault) (old new : Option (List ℕ)) → plans.Fails fault said
-    → Answers (plan_said input said) (Err (plan_fault fault)) old new
-refused_plan bytes said plan.Memory old new is = tt
-refused_plan bytes said plan.NotJson old new is = ap (plan_said bytes) is
-refused_plan bytes said plan.Member old new is = ap (plan_said bytes) is
-refused_plan bytes said plan.Columns old new is = ap (plan_said bytes) is
-refused_plan bytes said plan.ColumnIndex old new is = ap (plan_said bytes) is
-refused_plan bytes said plan.MaxParallelism old new is = ap (plan_said bytes) is
-refused_plan bytes said plan.Sources old new is = ap (plan_said bytes) is
-refused_plan bytes said plan.Partitions old new is = ap (plan_said bytes) is
-refused_plan bytes said plan.Uid old new is = ap (plan_said bytes) is
-refused_plan bytes said plan.UidTwice old new is = ap (plan_said bytes) is
-refused_plan bytes said plan.Filters old new is = ap (plan_said bytes) is
-refused_plan bytes said plan.WindowSize old new is = ap (plan_said bytes) is
-refused_plan bytes said plan.WindowSlide old new is = ap (plan_said bytes) is
-refused_plan bytes said plan.WindowOffset old new is = ap (plan_said bytes) is
-refused_plan bytes said plan.Panes old new is = ap (plan_said bytes) is
-refused_plan bytes said plan.Aggregates old new is = ap (plan_said bytes) is
+-- what is told of an error, told of the result that it is
+pub tells_err : {X : Type 0} (writes : X → Type 0) (said : Result X JobFault) (fault : JobFault) (result : Result (Unit {0}) JobFault) → IsErr result → IsErrAnd result (λ e. e ≡ fault)
+    → Tells writes said (Err fault) → Tells writes said result
+tells_err writes said fault result fails gives told = subst (λ r. Tells writes said r) (sym (err_is result fault fails gives)) told
 
-refused_input : (plan : PlanData) (said : Result InputData InputFault) (fault : InputFault) (old new : Option (List ℕ)) → inputs.Fails fault said
-    → Answers (input_said plan said) (Err (input_fault fault)) old new
-refused_input found said input.Memory old new is = tt
-refused_input found said input.NotJson old new is = ap (input_said found) is
-refused_input found said input.Member old new is = ap (input_said found) is
-refused_input found said input.Source old new is = ap (input_said found) is
-refused_input found said input.Partitions old new is = ap (input_said found) is
-refused_input found said input.Width old new is = ap (input_said found) is
-refused_input found said input.Number old new is = ap (input_said found) is
-refused_input found said input.Rows old new is = ap (input_said found) is
-refused_input found said input.TimeRange old new is = ap (input_said found) is
-refused_input found said input.TooMany old new is = ap (input_said found) is
-refused_input found said (input.LateRecord source partition entry) old new is = ap (input_said found) is
+-- the plan's refusal, once it is known that reading the plan gives it
+pub tells_plan : {X : Type 0} (writes : X → Type 0) (said : Result X JobFault) (from : Result PlanData PlanFault) (fault : PlanFault) → plans.Fails fault from → (from ≡ Err fault → said ≡ Err (Plan fault))
+    → Tells writes said (Err (plan_fault fault))
+tells_plan writes said from plan.Memory is next = tt
+tells_plan writes said from plan.NotJson is next = next is
+tells_plan writes said from plan.Member is next = next is
+tells_plan writes said from plan.Columns is next = next is
+tells_plan writes said from plan.ColumnIndex is next = next is
+tells_plan writes said from plan.MaxParallelism is next = next is
+tells_plan writes said from plan.Sources is next = next is
+tells_plan writes said from plan.Partitions is next = next is
+tells_plan writes said from plan.Uid is next = next is
+tells_plan writes said from plan.UidTwice is next = next is
+tells_plan writes said from plan.Filters is next = next is
+tells_plan writes said from plan.WindowSize is next = next is
+tells_plan writes said from plan.WindowSlide is next = next is
+tells_plan writes said from plan.WindowOffset is next = next is
+tells_plan writes said from plan.Panes is next = next is
+tells_plan writes said from plan.Aggregates is next = next is
+
+pub tells_input : {X : Type 0} (writes : X → Type 0) (said : Result X JobFault) (from : Result InputData InputFault) (fault : InputFault) → inputs.Fails fault from → (from ≡ Err fault → said ≡ Err (Input fault))
+    → Tells writes said (Err (input_fault fault))
+tells_input writes said from input.Memory is next = tt
+tells_input writes said from input.NotJson is next = next is
+tells_input writes said from input.Member is next = next is
+tells_input writes said from input.Source is next = next is
+tells_input writes said from input.Partitions is next = next is
+tells_input writes said from input.Width is next = next is
+tells_input writes said from input.Number is next = next is
+tells_input writes said from input.Rows is next = next is
+tells_input writes said from input.TimeRange is next = next is
+tells_input writes said from input.TooMany is next = next is
+tells_input writes said from (input.LateRecord source partition entry) is next = next is
+
+pub tells_scale : {X : Type 0} (writes : X → Type 0) (said : Result X JobFault) (from : Result ScaleData ScaleFault) (fault : ScaleFault) → scales.Fails fault from → (from ≡ Err fault → said ≡ Err (Scale fault))
+    → Tells writes said (Err (scale_fault fault))
+tells_scale writes said from scale.Memory is next = tt
+tells_scale writes said from scale.NotJson is next = next is
+tells_scale writes said from scale.Member is next = next is
+tells_scale writes said from scale.UnknownUid is next = next is
+tells_scale writes said from scale.MissingUid is next = next is
+tells_scale writes said from scale.Parallelism is next = next is
+tells_scale writes said from scale.Ring is next = next is
+tells_scale writes said from scale.Tasks is next = next is
+
+-- all texts are read, and what they say is written or isn't
+pub tells_written : {X : Type 0} (writes : X → Type 0) (said : Result X JobFault) (x : X) (result : Result (Unit {0}) JobFault) → said ≡ Ok x → MatchResult result (λ _. writes x) (λ fault. fault ≡ Write)
+    → Tells writes said result
+tells_written writes said x result read wrote = subst (λ s. Tells writes s result) (sym read) (by_case result wrote)
+  where
+    by_case : (r : Result (Unit {0}) JobFault) → MatchResult r (λ _. writes x) (λ fault. fault ≡ Write) → Tells writes (Ok x) r
+    by_case (Ok u) written = written
+    by_case (Err fault) failed = subst (λ f. Tells writes (Ok x) (Err f)) (sym failed) refl
 
 pub plan_refused : (bytes input : List ℕ) (fault : PlanFault) (result : Result (Unit {0}) JobFault) (old new : Option (List ℕ)) → plans.Fails fault (plan_of_bytes bytes)
     → IsErr result → IsErrAnd result (λ e. e ≡ plan_fault fault) → Answers (run_said bytes input) result old new
 unfolding run_said
 plan_refused bytes input fault result old new is fails gives =
-    subst (λ r. Answers (plan_said input (plan_of_bytes bytes)) r old new) (sym (err_is result (plan_fault fault) fails gives)) (refused_plan input (plan_of_bytes bytes) fault old new is)
+    tells_err (WritesRows old new) (run_said bytes input) (plan_fault fault) result fails gives (tells_plan (WritesRows old new) (run_said bytes input) (plan_of_bytes bytes) fault is (λ e. ap (plan_said input) e))
 
 pub input_refused : (bytes input : List ℕ) (plan : PlanData) (fault : InputFault) (result : Result (Unit {0}) JobFault) (old new : Option (List ℕ)) → plan_of_bytes bytes ≡ Ok plan
     → inputs.Fails fault (input_of_bytes plan input) → IsErr result → IsErrAnd result (λ e. e ≡ input_fault fault) → Answers (run_said bytes input) result old new
 unfolding run_said
 input_refused bytes input plan fault result old new read is fails gives =
-    subst (λ said. Answers (plan_said input said) result old new) (sym read)
-    (subst (λ r. Answers (input_said plan (input_of_bytes plan input)) r old new) (sym (err_is result (input_fault fault) fails gives)) (refused_input plan (input_of_bytes plan input) fault old new is))
+    tells_err (WritesRows old new) (run_said bytes input) (input_fault fault) result fails gives
+    (tells_input (WritesRows old new) (run_said bytes input) (input_of_bytes plan input) fault is (λ e. ap (plan_said input) read ∙ ap (input_said plan) e))
 
 run_is : (bytes input : List ℕ) (plan : PlanData) (found : InputData) → plan_of_bytes bytes ≡ Ok plan → input_of_bytes plan input ≡ Ok found → run_said bytes input ≡ Ok (plan, found)
 unfolding run_said
@@ -75,15 +105,15 @@ run_is bytes input plan found read is = ap (plan_said input) read ∙ ap (input_
 
 -- where no memory was to be had, nothing is said
 pub out_of_memory : (bytes input : List ℕ) (result : Result (Unit {0}) JobFault) (old new : Option (List ℕ)) → IsErr result → IsErrAnd result (λ e. e ≡ Memory) → Answers (run_said bytes input) result old new
-out_of_memory bytes input result old new fails gives = subst (λ r. Answers (run_said bytes input) r old new) (sym (err_is result Memory fails gives)) tt
+out_of_memory bytes input result old new fails gives = tells_err (WritesRows old new) (run_said bytes input) Memory result fails gives tt
 
 -- both texts are read, and the text of the rows is written or isn't
 pub written : (bytes input : List ℕ) (plan : PlanData) (found : InputData) (text : List ℕ) (result : Result (Unit {0}) JobFault) (old new : Option (List ℕ))
     → plan_of_bytes bytes ≡ Ok plan → input_of_bytes plan input ≡ Ok found → IsTextOf (plan_rows plan found.sources) text
     → MatchResult result (λ _. Appends old new text) (λ fault. fault ≡ Write) → Answers (run_said bytes input) result old new
 written bytes input plan found text result old new read is rows wrote =
-    subst (λ said. Answers said result old new) (sym (run_is bytes input plan found read is)) (by_case result wrote)
+    tells_written (WritesRows old new) (run_said bytes input) (plan, found) result (run_is bytes input plan found read is) (with_rows result wrote)
   where
-    by_case : (r : Result (Unit {0}) JobFault) → MatchResult r (λ _. Appends old new text) (λ fault. fault ≡ Write) → Answers (Ok (plan, found)) r old new
-    by_case (Ok x) appended = (text, rows, appended)
-    by_case (Err fault) failed = subst (λ f. Answers (Ok (plan, found)) (Err f) old new) (sym failed) refl
+    with_rows : (r : Result (Unit {0}) JobFault) → MatchResult r (λ _. Appends old new text) (λ fault. fault ≡ Write) → MatchResult r (λ _. WritesRows old new (plan, found)) (λ fault. fault ≡ Write)
+    with_rows (Ok u) appended = (text, rows, appended)
+    with_rows (Err fault) failed = failed

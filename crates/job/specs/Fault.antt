@@ -3,8 +3,10 @@ use Rattle.logical_plan.specs.declared.fault.PlanFault.{PlanFault}
 use Rattle.logical_plan.specs.declared.fault.PlanFault.TheVariants as plan
 use Rattle.stream_input.specs.declared.fault.InputFault.{InputFault}
 use Rattle.stream_input.specs.declared.fault.InputFault.TheVariants as input
+use Rattle.plan_compiler.specs.declared.fault.ScaleFault.{ScaleFault}
+use Rattle.plan_compiler.specs.declared.fault.ScaleFault.TheVariants as scale
 use Rattle.job.specs.declared.fault.JobFault.{JobFault}
-use Rattle.job.specs.declared.fault.JobFault.TheVariants.{Plan, Input, Memory}
+use Rattle.job.specs.declared.fault.JobFault.TheVariants.{Plan, Input, Scale, Memory}
 
 abbrev pub plan_fault : PlanFault → JobFault
 plan_fault plan.Memory = Memory
@@ -13,3 +15,7 @@ plan_fault fault = Plan fault
 abbrev pub input_fault : InputFault → JobFault
 input_fault input.Memory = Memory
 input_fault fault = Input fault
+
+abbrev pub scale_fault : ScaleFault → JobFault
+scale_fault scale.Memory = Memory
+scale_fault fault = Scale fault

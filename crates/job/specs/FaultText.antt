@@ -5,6 +5,8 @@ use Rattle.logical_plan.specs.declared.fault.PlanFault.{PlanFault}
 use Rattle.logical_plan.specs.declared.fault.PlanFault.TheVariants as plan
 use Rattle.stream_input.specs.declared.fault.InputFault.{InputFault}
 use Rattle.stream_input.specs.declared.fault.InputFault.TheVariants as input
+use Rattle.plan_compiler.specs.declared.fault.ScaleFault.{ScaleFault}
+use Rattle.plan_compiler.specs.declared.fault.ScaleFault.TheVariants as scale
 use Rattle.job.specs.declared.fault.JobFault.{JobFault}
 use Rattle.job.specs.declared.fault.JobFault.TheVariants as job
 
@@ -39,9 +41,20 @@ input_text (input.LateRecord s p n) = codes "I9 LateRecord " ++ decimal s ++ cod
 input_text input.TooMany = codes "I10 TooMany"
 input_text input.Memory = codes "memory"
 
+abbrev pub scale_text : ScaleFault → List ℕ
+scale_text scale.NotJson = codes "S1 NotJson"
+scale_text scale.Member = codes "S2 Member"
+scale_text scale.UnknownUid = codes "S3 UnknownUid"
+scale_text scale.MissingUid = codes "S4 MissingUid"
+scale_text scale.Parallelism = codes "S5 Parallelism"
+scale_text scale.Ring = codes "S6 Ring"
+scale_text scale.Tasks = codes "S7 Tasks"
+scale_text scale.Memory = codes "memory"
+
 abbrev pub fault_text : JobFault → List ℕ
 fault_text (job.Plan fault) = plan_text fault
 fault_text (job.Input fault) = input_text fault
+fault_text (job.Scale fault) = scale_text fault
 fault_text job.Cut = codes "C1 Cut"
 fault_text job.Number = codes "C2 Number"
 fault_text job.Read = codes "F1 Read"
@@ -56,10 +69,15 @@ abbrev pub input_status : InputFault → ℕ
 input_status input.Memory = 4
 input_status fault = 3
 
+abbrev pub scale_status : ScaleFault → ℕ
+scale_status scale.Memory = 4
+scale_status fault = 3
+
 -- 4 for want of memory, 2 for a word of the command line that is no cut or no number, and else 3
 abbrev pub status : JobFault → ℕ
 status (job.Plan fault) = plan_status fault
 status (job.Input fault) = input_status fault
+status (job.Scale fault) = scale_status fault
 status job.Cut = 2
 status job.Number = 2
 status job.Memory = 4

@@ -1,5 +1,5 @@
 -- What running a job answers.
-use Rattle.std.specs.Prelude.{◌≡◌, ℕ, List, Option, Result, Ok, Err, IsOk}
+use Rattle.std.specs.Prelude.{ℕ, List, Option, Result, Ok, Err}
 use Rattle.std.specs.Io.KnownBytes.{Appends}
 use Rattle.logical_plan.specs.PlanData.{PlanData}
 use Rattle.logical_plan.specs.Answer.{plan_of_bytes}
@@ -10,7 +10,8 @@ use Rattle.stream_input.specs.Text.{IsTextOf}
 use Rattle.logical_plan.specs.declared.fault.PlanFault.{PlanFault}
 use Rattle.stream_input.specs.declared.fault.InputFault.{InputFault}
 use Rattle.job.specs.declared.fault.JobFault.{JobFault}
-use Rattle.job.specs.declared.fault.JobFault.TheVariants.{Plan, Input, Write, Memory}
+use Rattle.job.specs.declared.fault.JobFault.TheVariants.{Plan, Input}
+use Rattle.job.specs.Tells.{Tells}
 
 -- a plan and an input for it
 abbrev pub Job : Type 0
@@ -29,13 +30,8 @@ unfoldable pub run_said : List ℕ → List ℕ → Result Job JobFault
 run_said plan input = plan_said input (plan_of_bytes plan)
 
 -- what the writer held has grown by exactly the text of the plan's rows
-abbrev pub Wrote : Result Job JobFault → Option (List ℕ) → Option (List ℕ) → Type 0
-Wrote (Ok job) old new = (text : List ℕ) × IsTextOf (plan_rows job.0 job.1.sources) text × Appends old new text
-Wrote (Err fault) old new = ⊥
+abbrev pub WritesRows : Option (List ℕ) → Option (List ℕ) → Job → Type 0
+WritesRows old new job = (text : List ℕ) × IsTextOf (plan_rows job.0 job.1.sources) text × Appends old new text
 
--- where the answer is Ok, the text is written; a refusal is the one that the texts give; a failed write comes after both are read
 abbrev pub Answers : Result Job JobFault → Result (Unit {0}) JobFault → Option (List ℕ) → Option (List ℕ) → Type 0
-Answers said (Ok _) old new = Wrote said old new
-Answers said (Err Memory) old new = Unit {0}
-Answers said (Err Write) old new = IsOk said
-Answers said (Err fault) old new = said ≡ Err fault
+Answers said result old new = Tells (WritesRows old new) said result

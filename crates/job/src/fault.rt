@@ -1,9 +1,10 @@
 ghost use Rattle.std.specs.Prelude.{◌≡◌};
 ghost use Rattle.job.specs.declared.fault.JobFault.TheVariants.{Memory};
-ghost use Rattle.job.specs.Fault.{plan_fault, input_fault};
+ghost use Rattle.job.specs.Fault.{plan_fault, input_fault, scale_fault};
 
 use columns::BatchFault;
 use logical_plan::PlanFault;
+use plan_compiler::ScaleFault;
 use std::alloc::{AllocError, AllocFailed};
 use stream_input::InputFault;
 use thiserror::Error;
@@ -18,6 +19,9 @@ pub enum JobFault {
     /// The input's text is refused.
     #[error(transparent)]
     Input(InputFault),
+    /// The scale's text is refused.
+    #[error(transparent)]
+    Scale(ScaleFault),
     /// A word of the command line is no cut.
     #[error("C1 Cut")]
     Cut,
@@ -53,6 +57,17 @@ impl From<InputFault> for JobFault {
         match fault {
             InputFault::Memory => JobFault::Memory,
             other => JobFault::Input(other),
+        }
+    }
+}
+
+impl From<ScaleFault> for JobFault {
+    ghost from_gives = { λ fault e. e ≡ scale_fault fault };
+
+    fn from(fault: ScaleFault) -> JobFault {
+        match fault {
+            ScaleFault::Memory => JobFault::Memory,
+            other => JobFault::Scale(other),
         }
     }
 }

@@ -5,6 +5,7 @@ mod fault;
 mod filtering;
 mod folding;
 mod group;
+mod layout_text;
 mod line;
 mod run;
 #[cfg(test)]

@@ -1,10 +1,11 @@
 //! What the program says of a fault.
 
 ghost use Rattle.std.specs.Prelude.{◌≡◌, IfOk, string_bytes};
-ghost use Rattle.job.specs.FaultText.{fault_text, plan_text, status};
+ghost use Rattle.job.specs.FaultText.{fault_text, plan_text, scale_text, status};
 
 use crate::fault::JobFault;
 use logical_plan::PlanFault;
+use plan_compiler::ScaleFault;
 use std::alloc::{AllocError, Global};
 use std::fmt;
 use stream_input::InputFault;
@@ -18,7 +19,8 @@ pub fn status_of(fault: &JobFault) -> u8
         JobFault::Cut | JobFault::Number => 2,
         JobFault::Memory
         | JobFault::Plan(PlanFault::Memory)
-        | JobFault::Input(InputFault::Memory) => 4,
+        | JobFault::Input(InputFault::Memory)
+        | JobFault::Scale(ScaleFault::Memory) => 4,
         _ => 3,
     }
 }
@@ -62,6 +64,7 @@ impl fmt::Display for FaultLine<'_> {
             JobFault::Input(InputFault::TimeRange) => write!(f, "I8 TimeRange"),
             JobFault::Input(InputFault::TooMany) => write!(f, "I10 TooMany"),
             JobFault::Input(InputFault::Memory) | JobFault::Memory => write!(f, "memory"),
+            JobFault::Scale(fault) => write!(f, "{}", scale_name(fault)),
             JobFault::Cut => write!(f, "C1 Cut"),
             JobFault::Number => write!(f, "C2 Number"),
             JobFault::Read => write!(f, "F1 Read"),
@@ -90,5 +93,20 @@ fn plan_name(fault: &PlanFault) -> &'static str
         PlanFault::Panes => "P14 Panes",
         PlanFault::Aggregates => "P15 Aggregates",
         PlanFault::Memory => "memory",
+    }
+}
+
+fn scale_name(fault: &ScaleFault) -> &'static str
+    ensures { result.now ≡ scale_text fault.now }
+{
+    match fault {
+        ScaleFault::NotJson => "S1 NotJson",
+        ScaleFault::Member => "S2 Member",
+        ScaleFault::UnknownUid => "S3 UnknownUid",
+        ScaleFault::MissingUid => "S4 MissingUid",
+        ScaleFault::Parallelism => "S5 Parallelism",
+        ScaleFault::Ring => "S6 Ring",
+        ScaleFault::Tasks => "S7 Tasks",
+        ScaleFault::Memory => "memory",
     }
 }

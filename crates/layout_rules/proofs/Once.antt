@@ -1,6 +1,7 @@
 -- A plan has one list of stages at a scale.
 use Rattle.std.proofs.Common.{◌≡◌, ℕ, zero, suc, ◌+◌, ◌<◌, ◌≤◌, max, List, [], ◌∷◌, cond, if◌then◌else◌, eqb, length, map, get_or, Some, None, refl, sym, ap, ◌∙◌, inl, inr, arith}
 use Rattle.std.proofs.lemmas.Bool.{cases_eq, cases_lt}
+use Rattle.std.proofs.lemmas.List.{ext_get_or, get_or_past}
 use Rattle.dataflow_model.specs.Task.{is_source}
 use Rattle.layout_rules.specs.declared.stage.Operator.{Operator}
 use Rattle.layout_rules.specs.declared.stage.Edge.TheVariants.{Forward, ByGroup, Rebalance}
@@ -12,11 +13,11 @@ use Rattle.layout_rules.specs.Laws.{CompiledOnce, CompiledEver}
 use Rattle.layout_rules.proofs.Shapes.{operators_at, length_operators}
 
 -- the sources' stages, by operators alone
-abbrev lead : List (List Operator) → ℕ
+abbrev pub lead : List (List Operator) → ℕ
 lead [] = 0
 lead (g ∷ gs) = if is_source (role_of g) then suc (lead gs) else 0
 
-sources_lead : (ss : List Stage) → sources ss ≡ lead (map (λ s. s.operators) ss)
+pub sources_lead : (ss : List Stage) → sources ss ≡ lead (map (λ s. s.operators) ss)
 sources_lead [] = refl
 sources_lead (s ∷ ss) = ap (λ n. cond (is_source (role_of s.operators)) (suc n) 0) (sources_lead ss)
 
@@ -29,17 +30,6 @@ same_link s s' t t' a b o =
     ∙ ap (λ n. cond (is_window (role_of t'.operators)) ByGroup (cond (eqb n s'.parallelism) Forward Rebalance)) a
     ∙ ap (λ n. cond (is_window (role_of t'.operators)) ByGroup (cond (eqb t.parallelism n) Forward Rebalance)) b
 
-same_lists : (ss ss' : List Stage) → length ss ≡ length ss' → ((a : ℕ) → a < length ss → get_or ss a (stage_from 0 [] None) ≡ get_or ss' a (stage_from 0 [] None)) → ss ≡ ss'
-same_lists [] [] l h = refl
-same_lists [] (s ∷ ss) l h = absurd (omega (arith, l))
-same_lists (s ∷ ss) [] l h = absurd (omega (arith, l))
-same_lists (s ∷ ss) (s' ∷ ss') l h = ap (λ x. x ∷ ss) (h 0 (omega arith)) ∙ ap (λ xs. s' ∷ xs) (same_lists ss ss' (omega (arith, l)) (λ a k. h (suc a) (omega (arith, k))))
-
-beyond : (ss : List Stage) (a : ℕ) → length ss ≤ a → get_or ss a (stage_from 0 [] None) ≡ (stage_from 0 [] None)
-beyond [] a l = refl
-beyond (s ∷ ss) zero l = absurd (omega (arith, l))
-beyond (s ∷ ss) (suc a) l = beyond ss a (omega (arith, l))
-
 pub compiled_once : CompiledOnce
 compiled_once p c ss ss' h h' =
     let o = h.operators ∙ sym h'.operators in
@@ -49,9 +39,9 @@ compiled_once p c ss ss' h h' =
     let wide : (a : ℕ) → width ss a ≡ width ss' a = λ a.
     elim (cases_lt a (length ss)) [
       | inl l ↦ h.parallelism a l ∙ ap (width_of c) (ops a) ∙ sym (h'.parallelism a (omega (arith, l, len)))
-      | inr l ↦ ap (λ s. s.parallelism) (beyond ss a l) ∙ sym (ap (λ s. s.parallelism) (beyond ss' a (omega (arith, l, len))))
+      | inr l ↦ ap (λ s. s.parallelism) (get_or_past ss a (stage_from 0 [] None) l) ∙ sym (ap (λ s. s.parallelism) (get_or_past ss' a (stage_from 0 [] None) (omega (arith, l, len))))
     ] in
-    same_lists ss ss' len (λ a l. same_stage (stage_at ss a) (stage_at ss' a) (wide a) (ops a)
+    ext_get_or (stage_from 0 [] None) ss ss' len (λ a l. same_stage (stage_at ss a) (stage_at ss' a) (wide a) (ops a)
     (elim (cases_eq (suc a) (length ss)) [
       | inl e ↦ h.no_edge a e ∙ sym (h'.no_edge a (omega (arith, e, len)))
       | inr ne ↦

@@ -205,7 +205,7 @@ some_wide p c h (Filter f ∷ os) =
 some_wide p c h (Window ∷ os) = let z = h.window_parallelism.some in omega (arith, z)
 some_wide p c h (Sink ∷ os) = omega arith
 
-shaped : (p : PlanData) (c : ScaleData) (stages : List Stage) → IsPlan p → IsScale p c → IsCompiled p c stages → IsShaped p stages (window_of stages)
+pub shaped : (p : PlanData) (c : ScaleData) (stages : List Stage) → IsPlan p → IsScale p c → IsCompiled p c stages → IsShaped p stages (window_of stages)
 shaped p c stages ip sc h =
     let some = ip.sourced in
     let wh = whole p c (omega (arith, some)) in

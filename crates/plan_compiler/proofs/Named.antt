@@ -1,5 +1,5 @@
 -- The members of a document by their names.
-use Rattle.std.proofs.Common.{◌≡◌, ℕ, ℤ, suc, ◌+◌, Bool, true, false, ◌&&◌, ◌||◌, not, min, pos, cond, map, length, List, [], ◌∷◌, ◌++◌, Option, Some, None, option_map, is_some, string_bytes, refl, ap, ◌∙◌, ltb, inl, inr, arith}
+use Rattle.std.proofs.Common.{◌≡◌, ℕ, ℤ, suc, ◌+◌, Bool, true, false, ◌&&◌, ◌||◌, not, min, pos, cond, map, length, List, [], ◌∷◌, Option, Some, None, option_map, is_some, string_bytes, refl, ap, ◌∙◌, ltb, inl, inr, arith}
 use Rattle.std.proofs.lemmas.Bool.{cases_Bool, and_parts}
 use Rattle.std.proofs.lemmas.Int.{ints}
 use Rattle.std.proofs.lemmas.Bool.Decides.{nat_tests}
@@ -84,7 +84,7 @@ operator_under_draft uid operators =
     ∙ part_of (find (λ (m : OperatorDraft). bytes_eq (string_bytes m.name) uid) operators)
 
 -- what holds of each member's part, and of one subtask, holds under each uid
-found_passes : (test : OperatorText → Bool) (uid : List ℕ) (operators : List (List ℕ × OperatorText)) → test one_subtask ≡ true → list_all (λ m. test m.1) operators ≡ true → test (operator_under uid operators) ≡ true
+pub found_passes : (test : OperatorText → Bool) (uid : List ℕ) (operators : List (List ℕ × OperatorText)) → test one_subtask ≡ true → list_all (λ m. test m.1) operators ≡ true → test (operator_under uid operators) ≡ true
 found_passes test uid [] one all = one
 found_passes test uid (m ∷ ms) one all =
     let parts = and_parts (test m.1) (list_all (λ (x : List ℕ × OperatorText). test x.1) ms) all in

@@ -5,3 +5,5 @@ pub mod Said
 pub mod Tasks
 pub mod Requirements
 pub mod Answer
+pub mod Compiling
+pub mod LayoutData

@@ -3,6 +3,7 @@
 ghost use Rattle.std.specs.Prelude.{◌≡◌, true, map, pos, unsigned_abs, IfOk, option_copied, bytes_eq, string_bytes};
 ghost use Rattle.std.specs.List.{list_all, find};
 ghost use Rattle.logical_plan.specs.Requirements.{is_within};
+ghost use Rattle.layout_rules.specs.Scale.{IsScale};
 ghost use Rattle.plan_compiler.specs.Draft.{operators_draft_text, draft_text};
 ghost use Rattle.plan_compiler.specs.Said.{operator_under, parallelism_under, filter_under, scale_of as scale_said, single_scale};
 ghost use Rattle.plan_compiler.specs.Requirements.{has_parallelism, has_ring};
@@ -125,16 +126,19 @@ fn chained(alloc: Global, specs: &[FilterSpec]) -> Result<Vec<FilterScale>, Allo
         .collect(alloc)
 }
 
-/// One subtask for each operator, all chained, with rings of 16 messages.
-pub fn single(alloc: Global, plan: &Plan) -> Result<Scale, AllocError>
-    ensures { IfOk result (λ scale. scale ≡ single_scale plan.now) }
-{
-    let sources = ones(alloc, plan.sources())?;
-    let filters = chained(alloc, plan.filters())?;
-    Ok(Scale::new(
-        16,
-        Items::from_vec(sources),
-        Items::from_vec(filters),
-        1,
-    ))
+impl Scale {
+    /// One subtask for each operator, with all operators chained that may be, and rings of 16 messages.
+    ///
+    /// # Errors
+    ///
+    /// Only where memory runs out.
+    #[tactic(auto, using(crate::proofs::Sound::single_is_scale))]
+    pub fn single(alloc: Global, plan: &Plan) -> Result<Scale, AllocError>
+        ensures says { IfOk result (λ scale. scale ≡ single_scale plan.now) }
+        ensures belongs { IfOk result (λ scale. IsScale plan.now scale) }
+    {
+        let sources = ones(alloc, plan.sources())?;
+        let filters = chained(alloc, plan.filters())?;
+        Ok(Scale::new(16, Items::from_vec(sources), Items::from_vec(filters), 1))
+    }
 }

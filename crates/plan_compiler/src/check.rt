@@ -2,10 +2,10 @@
 
 ghost use Rattle.std.specs.Prelude.{◌≡◌, ◌≤◌, pos, min, bytes_eq, string_bytes};
 ghost use Rattle.std.specs.List.{list_all, list_any};
-ghost use Rattle.logical_plan.specs.PlanData.{uids};
+ghost use Rattle.logical_plan.specs.PlanData.{uids, IsPlan};
 ghost use Rattle.logical_plan.specs.Requirements.{is_within};
 ghost use Rattle.plan_compiler.specs.Draft.{draft_text};
-ghost use Rattle.plan_compiler.specs.Requirements.{has_known_uids as known_uids_are_met, has_all_uids as all_uids_are_met, has_parallelism as parallelism_is_met, has_ring as ring_is_met};
+ghost use Rattle.plan_compiler.specs.Requirements.{has_known_uids as known_uids_are_met, has_all_uids as all_uids_are_met, has_parallelism as parallelism_is_met};
 
 use crate::scale_text::{OperatorDraft, ScaleDraft};
 use logical_plan::{FilterSpec, Plan, SourceSpec};
@@ -71,7 +71,8 @@ fn is_given(uid: &str, operators: &[OperatorDraft]) -> bool
 /// Whether each parallelism is 1 to 64, and no more than there are key groups.
 #[tactic(auto, using(crate::proofs::Named::parallelism_draft))]
 pub fn has_parallelism(plan: &Plan, draft: &ScaleDraft) -> bool
-    ensures { result ≡ parallelism_is_met plan.now (draft_text draft.now) }
+    ensures says { result ≡ parallelism_is_met plan.now (draft_text draft.now) }
+    ensures sound { IsPlan plan.now }
 {
     are_counts(plan.max().min(64), draft.operators.as_slice())
 }
@@ -80,15 +81,13 @@ fn are_counts(most: u32, operators: &[OperatorDraft]) -> bool
     ensures { result ≡ list_all (λ m. is_within (pos 1) (pos most) m.part.parallelism) operators.now }
 {
     let most = i64::from(most);
-    operators
-        .iter()
-        .all(|operator| 1 <= operator.part.parallelism && operator.part.parallelism <= most)
+    operators.iter().all(|operator| 1 <= operator.part.parallelism
+        && operator.part.parallelism <= most)
 }
 
 /// Whether a ring holds 1 to 1,024 messages.
-#[tactic(auto, unfolding(crate::specs::Requirements::has_ring))]
-pub fn has_ring(plan: &Plan, draft: &ScaleDraft) -> bool
-    ensures { result ≡ ring_is_met plan.now (draft_text draft.now) }
+pub fn has_ring(draft: &ScaleDraft) -> bool
+    ensures { result ≡ is_within (pos 1) (pos 1024) draft.now.ring }
 {
     1 <= draft.ring && draft.ring <= 1024
 }

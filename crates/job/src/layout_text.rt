@@ -1,0 +1,111 @@
+//! The text of a layout.
+
+ghost use Rattle.std.specs.Prelude.{◌≡◌, ◌++◌, ◌∷◌, [], length, codes, OnOk, IfOk, string_bytes};
+ghost use Rattle.std.specs.List.{flat_map};
+ghost use Rattle.layout_rules.specs.Stages.{after, sources as leading_sources};
+ghost use Rattle.job.specs.LayoutText.{spaced, name_of, stage_line, edge_name, edge_line, partitions_line, groups_line, stage_text, edge_text, of_each};
+
+use key_groups::GroupRange;
+use layout_rules::{Edge, Operator, Stage, TaskPlace};
+use logical_plan::Plan;
+use std::alloc::{AllocError, Global};
+
+/// The uid of an operator; the sink has none.
+fn operator_name(plan: &Plan, operator: Operator) -> &str
+    ensures { result.now ≡ name_of plan.now operator }
+{
+    match operator {
+        Operator::Source(source) => match plan.sources().get(source as usize) {
+            Some(spec) => spec.uid.as_str(),
+            None => "",
+        },
+        Operator::Filter(filter) => match plan.filters().get(filter as usize) {
+            Some(spec) => spec.uid.as_str(),
+            None => "",
+        },
+        Operator::Window => plan.window().uid.as_str(),
+        Operator::Sink => "(sink)",
+    }
+}
+
+fn write_spaced(text: &mut String, word: &str) -> Result<(), AllocError>
+    ensures { OnOk result (string_bytes text.new ≡ string_bytes text.old ++ (32 ∷ word.now)) }
+{
+    write!(text, " {word}")
+}
+
+fn write_number(text: &mut String, number: u32) -> Result<(), AllocError>
+    ensures { OnOk result (string_bytes text.new ≡ string_bytes text.old ++ spaced number) }
+{
+    write!(text, " {number}")
+}
+
+fn write_numbers(text: &mut String, numbers: &[u32]) -> Result<(), AllocError>
+    ensures { OnOk result (string_bytes text.new ≡ string_bytes text.old ++ flat_map spaced numbers.now) }
+{
+    for number in numbers {
+        write_number(text, *number)?;
+    }
+    Ok(())
+}
+
+fn write_operators(text: &mut String, plan: &Plan, operators: &[Operator]) -> Result<(), AllocError>
+    ensures { OnOk result (string_bytes text.new ≡ string_bytes text.old ++ flat_map (λ o. 32 ∷ name_of plan.now o) operators.now) }
+{
+    for operator in operators {
+        write_spaced(text, operator_name(plan, *operator))?;
+    }
+    Ok(())
+}
+
+fn write_head(text: &mut String, word: &str, first: u32, second: u32) -> Result<(), AllocError>
+    ensures { OnOk result (string_bytes text.new ≡ string_bytes text.old ++ (word.now ++ spaced first ++ spaced second)) }
+{
+    write!(text, "{word} {first} {second}")
+}
+
+fn write_stage(text: &mut String, plan: &Plan, number: u32, stage: &Stage) -> Result<(), AllocError>
+    ensures { OnOk result (string_bytes text.new ≡ string_bytes text.old ++ stage_line plan.now number stage.now) }
+{
+    write_head(text, "stage", number, stage.parallelism)?;
+    write_operators(text, plan, stage.operators.as_slice())?;
+    writeln!(text)?;
+    Ok(())
+}
+
+fn name_of_edge(edge: Edge) -> &'static str
+    ensures { result.now ≡ edge_name edge }
+{
+    match edge {
+        Edge::Forward => "forward",
+        Edge::ByGroup => "group",
+        Edge::Rebalance => "rebalance",
+    }
+}
+
+fn write_edge(text: &mut String, from: u32, to: u32, edge: Edge) -> Result<(), AllocError>
+    ensures { OnOk result (string_bytes text.new ≡ string_bytes text.old ++ edge_line from to edge) }
+{
+    write_head(text, "edge", from, to)?;
+    write_spaced(text, name_of_edge(edge))?;
+    writeln!(text)?;
+    Ok(())
+}
+
+fn write_partitions(text: &mut String, place: TaskPlace, partitions: &[u32]) -> Result<(), AllocError>
+    ensures { OnOk result (string_bytes text.new ≡ string_bytes text.old ++ partitions_line place partitions.now) }
+{
+    write_head(text, "partitions", place.stage, place.subtask)?;
+    write_numbers(text, partitions)?;
+    writeln!(text)?;
+    Ok(())
+}
+
+fn write_groups(text: &mut String, place: TaskPlace, range: GroupRange) -> Result<(), AllocError>
+    ensures { OnOk result (string_bytes text.new ≡ string_bytes text.old ++ groups_line place range) }
+{
+    write_head(text, "groups", place.stage, place.subtask)?;
+    write_numbers(text, &[range.first, range.last])?;
+    writeln!(text)?;
+    Ok(())
+}
