@@ -1,6 +1,6 @@
 //! The text of a layout.
 
-ghost use Rattle.std.specs.Prelude.{◌≡◌, ◌++◌, ◌∷◌, [], length, codes, OnOk, IfOk, string_bytes};
+ghost use Rattle.std.specs.Prelude.{◌≡◌, ◌<◌, ◌≤◌, ◌++◌, ◌∷◌, length, OnOk, string_bytes};
 ghost use Rattle.std.specs.List.{flat_map};
 ghost use Rattle.layout_rules.specs.Stages.{after, sources as leading_sources};
 ghost use Rattle.job.specs.LayoutText.{spaced, name_of, stage_line, edge_name, edge_line, partitions_line, groups_line, stage_text, edge_text, of_each};
@@ -107,5 +107,59 @@ fn write_groups(text: &mut String, place: TaskPlace, range: GroupRange) -> Resul
     write_head(text, "groups", place.stage, place.subtask)?;
     write_numbers(text, &[range.first, range.last])?;
     writeln!(text)?;
+    Ok(())
+}
+
+/// The line of stage a.
+fn write_stage_at(
+    text: &mut String,
+    plan: &Plan,
+    stages: &[Stage],
+    a: u32,
+) -> Result<(), AllocError>
+    requires { a < length stages.now }
+    ensures { OnOk result (string_bytes text.new ≡ string_bytes text.old ++ stage_text plan.now stages.now a) }
+{
+    write_stage(text, plan, a, &stages[a as usize])
+}
+
+/// The line of the edge that leads out of stage a. The first stages are those of the sources.
+fn write_edge_at(
+    text: &mut String,
+    stages: &[Stage],
+    sources: u32,
+    a: u32,
+) -> Result<(), AllocError>
+    requires within { a < length stages.now }
+    requires few { length stages.now ≤ 256 }
+    requires leading { sources ≡ leading_sources stages.now }
+    ensures { OnOk result (string_bytes text.new ≡ string_bytes text.old ++ edge_text stages.now a) }
+{
+    match stages[a as usize].edge {
+        Some(edge) => write_edge(text, a, sources.max(a + 1), edge),
+        None => Ok(()),
+    }
+}
+
+/// A line for each stage.
+fn write_stages(text: &mut String, plan: &Plan, stages: &[Stage]) -> Result<(), AllocError>
+    requires { length stages.now ≤ 256 }
+    ensures { OnOk result (string_bytes text.new ≡ string_bytes text.old ++ of_each (length stages.now) (stage_text plan.now stages.now)) }
+{
+    for a in 0..stages.len() as u32 {
+        write_stage_at(text, plan, stages, a)?;
+    }
+    Ok(())
+}
+
+/// A line for each edge. The first stages are those of the sources.
+fn write_edges(text: &mut String, stages: &[Stage], sources: u32) -> Result<(), AllocError>
+    requires few { length stages.now ≤ 256 }
+    requires leading { sources ≡ leading_sources stages.now }
+    ensures { OnOk result (string_bytes text.new ≡ string_bytes text.old ++ of_each (length stages.now) (edge_text stages.now)) }
+{
+    for a in 0..stages.len() as u32 {
+        write_edge_at(text, stages, sources, a)?;
+    }
     Ok(())
 }
