@@ -5,3 +5,5 @@ pub mod Staged
 pub mod Finished
 pub mod Ranges
 pub mod TaskPlaces
+pub mod Chosen
+pub mod CompiledTasks

@@ -1,11 +1,12 @@
 -- The places of tasks, one after another.
-use Rattle.std.proofs.Common.{◌≡◌, ℕ, zero, suc, ◌+◌, ◌-◌, ◌<◌, ◌≤◌, List, [], ◌∷◌, ◌++◌, length, map, get_or, append-nil, append_assoc, refl, sym, ap, ◌∙◌, arith}
-use Rattle.std.proofs.lemmas.List.FromFn.{map-range_with_len_more, get_or-map-range_with_len}
+use Rattle.std.proofs.Common.{◌≡◌, ℕ, zero, suc, ◌+◌, ◌-◌, ◌<◌, ◌≤◌, List, [], ◌∷◌, ◌++◌, length, map, get_or, None, append-nil, append_assoc, refl, sym, ap, ◌∙◌, arith}
+use Rattle.std.proofs.lemmas.List.{get_or_default}
+use Rattle.std.proofs.lemmas.List.FromFn.{length-map-range_with_len, map-range_with_len_more, get_or-map-range_with_len}
 use Rattle.std.specs.List.{range_with_len}
 use Rattle.layout_rules.specs.declared.stage.Stage.{Stage}
 use Rattle.layout_rules.specs.declared.stage.TaskPlace.{TaskPlace}
 use Rattle.layout_rules.specs.Places.{first}
-use Rattle.layout_rules.specs.Stages.{width, tasks, stage_of, subtask_of, place_of}
+use Rattle.layout_rules.specs.Stages.{stage_from, stage_at, its_stage, width, tasks, stage_of, subtask_of, place_of}
 use Rattle.layout_rules.proofs.Rows.{row_is, row_at}
 use Rattle.plan_compiler.specs.LayoutData.{each_task}
 
@@ -47,6 +48,24 @@ stage_more stages a w xs ys l v e f =
     ∙ sym (part stages a (width stages a) l (omega arith))
     ∙ ap (λ k. map (place_of stages) (range_with_len 0 (first (width stages) k))) (sym q)
 
--- the place of a task in the table
-pub place_at : (stages : List Stage) (places : List TaskPlace) (t : ℕ) (d : TaskPlace) → places ≡ each_task stages (place_of stages) → t < tasks stages → get_or places t d ≡ place_of stages t
-place_at stages places t d e l = ap (λ ps. get_or ps t d) e ∙ get_or-map-range_with_len (place_of stages) 0 (tasks stages) t t d l (omega arith)
+-- the table of places, read at a task
+abbrev pub nowhere : TaskPlace
+nowhere = record { stage = 0; subtask = 0 }
+
+pub place_count : (stages : List Stage) (places : List TaskPlace) → places ≡ each_task stages (place_of stages) → length places ≡ tasks stages
+place_count stages places e = ap length e ∙ length-map-range_with_len (place_of stages) 0 (tasks stages)
+
+pub place_at : (stages : List Stage) (places : List TaskPlace) (t : ℕ) → places ≡ each_task stages (place_of stages) → t < tasks stages → get_or places t nowhere ≡ place_of stages t
+place_at stages places t e l = ap (λ ps. get_or ps t nowhere) e ∙ get_or-map-range_with_len (place_of stages) 0 (tasks stages) t t nowhere l (omega arith)
+
+-- the stage of a task is there, and has tasks
+pub stage_within : (stages : List Stage) (places : List TaskPlace) (t : ℕ) → places ≡ each_task stages (place_of stages) → t < tasks stages → (get_or places t nowhere).stage < length stages
+stage_within stages places t e l = let r = row_is (width stages) (length stages) t l in let z = ap (λ x. x.stage) (place_at stages places t e l) in omega (arith, r.0, z)
+
+pub stage_at_place : (stages : List Stage) (places : List TaskPlace) (t : ℕ) (d : Stage) → places ≡ each_task stages (place_of stages) → t < tasks stages → get_or stages (get_or places t nowhere).stage d ≡ its_stage stages t
+stage_at_place stages places t d e l =
+    get_or_default stages (get_or places t nowhere).stage d (stage_from 0 [] None) (stage_within stages places t e l)
+    ∙ ap (λ x. stage_at stages x.stage) (place_at stages places t e l)
+
+pub stage_wide : (stages : List Stage) (t : ℕ) → t < tasks stages → 0 < (its_stage stages t).parallelism
+stage_wide stages t l = let r = row_is (width stages) (length stages) t l in omega (arith, r.1, r.2)

@@ -4,16 +4,21 @@
 
 mod building;
 mod check;
+mod compiling;
 mod fault;
+mod layout;
 mod places;
 mod reading;
+mod rings;
 mod scale;
 mod scale_text;
 mod stages;
 mod tasks;
 
+pub use compiling::compile;
 pub use fault::ScaleFault;
-pub use layout_rules::FilterScale;
+pub use layout::Layout;
+pub use layout_rules::{Edge, FilterScale, Operator, Stage, TaskPlace};
 pub use scale::Scale;
 
 #[cfg(test)]
