@@ -3,3 +3,4 @@ pub mod Folds
 pub mod PlanText
 pub mod Refusals
 pub mod Numerals
+pub mod Lines

@@ -1,11 +1,13 @@
 //! The text of a layout.
 
-ghost use Rattle.std.specs.Prelude.{◌≡◌, ◌++◌, ◌∷◌, [], length, codes, OnOk, IfOk, string_bytes};
+ghost use Rattle.std.specs.Prelude.{◌≡◌, true, ◌<◌, ◌≤◌, ◌++◌, ◌∷◌, length, OnOk, string_bytes};
 ghost use Rattle.std.specs.List.{flat_map};
-ghost use Rattle.layout_rules.specs.Stages.{after, sources as leading_sources};
-ghost use Rattle.job.specs.LayoutText.{spaced, name_of, stage_line, edge_name, edge_line, partitions_line, groups_line, stage_text, edge_text, of_each};
+ghost use Rattle.dataflow_model.specs.Task.{is_source};
+ghost use Rattle.layout_rules.specs.Stages.{after, role_of, is_window, stage_at, width, sources as leading_sources};
+ghost use Rattle.job.specs.LayoutText.{spaced, name_of, stage_line, edge_name, edge_line, partitions_line, groups_line, stage_text, edge_text, partitions_at, groups_at, of_each};
+ghost use Rattle.job.specs.Subtask.{IsSubtask};
 
-use key_groups::GroupRange;
+use key_groups::{GroupRange, MaxParallelism, Parallelism, range_of};
 use layout_rules::{Edge, Operator, Stage, TaskPlace};
 use logical_plan::Plan;
 use std::alloc::{AllocError, Global};
@@ -108,4 +110,107 @@ fn write_groups(text: &mut String, place: TaskPlace, range: GroupRange) -> Resul
     write_numbers(text, &[range.first, range.last])?;
     writeln!(text)?;
     Ok(())
+}
+
+/// The line of stage a.
+fn write_stage_at(
+    text: &mut String,
+    plan: &Plan,
+    stages: &[Stage],
+    a: u32,
+) -> Result<(), AllocError>
+    requires { a < length stages.now }
+    ensures { OnOk result (string_bytes text.new ≡ string_bytes text.old ++ stage_text plan.now stages.now a) }
+{
+    write_stage(text, plan, a, &stages[a as usize])
+}
+
+/// The line of the edge that leads out of stage a. The first stages are those of the sources.
+fn write_edge_at(
+    text: &mut String,
+    stages: &[Stage],
+    sources: u32,
+    a: u32,
+) -> Result<(), AllocError>
+    requires within { a < length stages.now }
+    requires few { length stages.now ≤ 256 }
+    requires leading { sources ≡ leading_sources stages.now }
+    ensures { OnOk result (string_bytes text.new ≡ string_bytes text.old ++ edge_text stages.now a) }
+{
+    match stages[a as usize].edge {
+        Some(edge) => write_edge(text, a, sources.max(a + 1), edge),
+        None => Ok(()),
+    }
+}
+
+/// A line for each stage.
+fn write_stages(text: &mut String, plan: &Plan, stages: &[Stage]) -> Result<(), AllocError>
+    requires { length stages.now ≤ 256 }
+    ensures { OnOk result (string_bytes text.new ≡ string_bytes text.old ++ of_each (length stages.now) (stage_text plan.now stages.now)) }
+{
+    for a in 0..stages.len() as u32 {
+        write_stage_at(text, plan, stages, a)?;
+    }
+    Ok(())
+}
+
+/// A line for each edge. The first stages are those of the sources.
+fn write_edges(text: &mut String, stages: &[Stage], sources: u32) -> Result<(), AllocError>
+    requires few { length stages.now ≤ 256 }
+    requires leading { sources ≡ leading_sources stages.now }
+    ensures { OnOk result (string_bytes text.new ≡ string_bytes text.old ++ of_each (length stages.now) (edge_text stages.now)) }
+{
+    for a in 0..stages.len() as u32 {
+        write_edge_at(text, stages, sources, a)?;
+    }
+    Ok(())
+}
+
+/// Whether a stage of these operators reads a source.
+fn reads_source(operators: &[Operator]) -> bool
+    ensures { result ≡ is_source (role_of operators.now) }
+{
+    matches!(operators.first(), Some(Operator::Source(_)))
+}
+
+/// Whether a stage of these operators has the window.
+fn has_window(operators: &[Operator]) -> bool
+    ensures { result ≡ is_window (role_of operators.now) }
+{
+    matches!(operators.first(), Some(Operator::Window))
+}
+
+/// The line of a task's partitions, if it reads a source.
+fn write_partitions_at(
+    text: &mut String,
+    stages: &[Stage],
+    place: TaskPlace,
+    partitions: &[u32],
+) -> Result<(), AllocError>
+    requires { place.stage < length stages.now }
+    ensures { OnOk result (string_bytes text.new ≡ string_bytes text.old ++ partitions_at stages.now place partitions.now) }
+{
+    if !reads_source(stages[place.stage as usize].operators.as_slice()) {
+        return Ok(());
+    }
+    write_partitions(text, place, partitions)
+}
+
+/// The line of a task's key groups, if it has the window.
+fn write_groups_at(
+    text: &mut String,
+    max: MaxParallelism,
+    stages: &[Stage],
+    place: TaskPlace,
+) -> Result<(), AllocError>
+    requires within { place.stage < length stages.now }
+    requires window { is_window (role_of (stage_at stages.now place.stage).operators) ≡ true → IsSubtask max (width stages.now place.stage) place.subtask }
+    ensures { OnOk result (string_bytes text.new ≡ string_bytes text.old ++ groups_at max stages.now place) }
+{
+    let stage = &stages[place.stage as usize];
+    if !has_window(stage.operators.as_slice()) {
+        return Ok(());
+    }
+    let par = Parallelism::new(stage.parallelism, max).unwrap();
+    write_groups(text, place, range_of(max, par, place.subtask))
 }
