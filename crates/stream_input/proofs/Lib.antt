@@ -7,3 +7,9 @@ pub mod Named
 pub mod Tables
 pub mod LateRecords
 pub mod Sound
+mod Refines
+mod FitRows
+mod FitEntries
+mod Slots
+mod FitSources
+mod FitAnswers

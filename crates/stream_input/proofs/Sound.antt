@@ -1,5 +1,5 @@
 -- What is read of a text that meets every requirement is an input of the plan.
-use Rattle.std.proofs.Common.{option_map, ◌≡◌, ℕ, ◌^◌, ◌≤◌, ℤ, pos, neg_ℤ, ◌≤ℤ◌, ◌<ℤ◌, Bool, true, false, ◌==◌, map, length, get_or, List, [], ◌∷◌, Option, Some, None, Ok, Err, if◌then◌else◌, subst, refl, ◌∙◌, arith}
+use Rattle.std.proofs.Common.{option_map, ◌≡◌, ℕ, ◌^◌, ◌≤◌, ℤ, pos, neg_ℤ, ◌≤ℤ◌, ◌<ℤ◌, Bool, true, false, ◌==◌, map, length, get_or, List, [], ◌∷◌, Option, Some, None, Result, Ok, Err, if◌then◌else◌, subst, refl, ◌∙◌, arith}
 use Rattle.std.proofs.lemmas.Bool.{and_parts, eqb-true, leb-true}
 use Rattle.std.proofs.lemmas.Int.{ints}
 use Rattle.std.proofs.lemmas.List.{length-map}
@@ -19,7 +19,7 @@ use Rattle.stream_input.specs.Said.{record_of, number_of, entry_of, partitions_u
 use Rattle.stream_input.specs.Requirements.{is_time, is_timely, requirements, first_unmet, has_sources, has_partitions, has_width, has_numbers, has_rows, has_times, late_record, is_few}
 use Rattle.stream_input.specs.Watermarks.{IsOrderly}
 use Rattle.stream_input.specs.Late.{first_late, late_fault}
-use Rattle.stream_input.specs.Answer.{input_or_fault}
+use Rattle.stream_input.specs.Answer.{if_ok, text_of_bytes, input_or_fault, input_of_bytes}
 use Rattle.stream_input.proofs.LateRecords.{orderly}
 use Rattle.stream_input.proofs.Tables.{passes_under}
 
@@ -68,6 +68,9 @@ partitions_few plan text p met =
     let few = p.partitions_few k d h in
     let long = length-map (partitions_under (get_or plan.sources k d).uid text) (map (entry_of plan.columns)) in
     omega arith)
+
+pub sources_few : (plan : PlanData) (text : InputText) → IsPlan plan → length (sources_of plan text) ≤ 8
+sources_few plan text p = rw (length-map plan.sources (λ (s : SourceSpec). map (map (entry_of plan.columns)) (partitions_under s.uid text))) p.sources_few
 
 partitions_are : (columns : ℕ) (text : InputText) (specs : List SourceSpec) → list_all (λ s. length (partitions_under s.uid text) == s.partitions) specs ≡ true
     → map (λ ps. length ps) (map (λ s. map (map (entry_of columns)) (partitions_under s.uid text)) specs) ≡ map (λ (s : SourceSpec). s.partitions) specs
@@ -129,9 +132,18 @@ pub record IsRead (plan : PlanData) (i : InputData) : Type 0 where
   pub orderly : IsOrderly i.time i.sources
   pub belongs : BelongsTo plan i
 
-pub sound : (plan : PlanData) (text : InputText) (i : InputData) → input_or_fault plan text ≡ Ok i → IsRead plan i
+sound : (plan : PlanData) (text : InputText) (i : InputData) → input_or_fault plan text ≡ Ok i → IsRead plan i
 sound plan text i h =
     let none = no_fault (first_unmet requirements plan text) (input_of plan text) i h in
     let m = met plan text none.0 in
     let P : InputData → Type 0 = λ x. IsRead plan x in
     subst P none.1 (record { input = is_input plan text m; orderly = orderly_sources plan text m.late; belongs = belongs_to plan text m })
+
+said_ok : (plan : PlanData) (o : Result InputText InputFault) (i : InputData) → if_ok o (input_or_fault plan) ≡ Ok i → (text : InputText) × (input_or_fault plan text ≡ Ok i)
+said_ok plan (Ok text) i h = (text, h)
+said_ok plan (Err fault) i h = absurd cc
+
+-- the same of the bytes
+pub read_sound : (plan : PlanData) (bytes : List ℕ) (i : InputData) → input_of_bytes plan bytes ≡ Ok i → IsRead plan i
+unfolding input_of_bytes
+read_sound plan bytes i h = let text = said_ok plan (text_of_bytes bytes) i h in sound plan text.0 i text.1

@@ -20,7 +20,7 @@ use Rattle.stream_input.specs.Requirements.{every_entry}
 use Rattle.stream_input.proofs.Drafts.{list_all_map, wide_rows}
 
 -- each column of records is as long as there are records
-columns_are : (columns : List (Vec ℤ Global)) (records : List (List ℤ)) (width : ℕ)
+pub columns_are : (columns : List (Vec ℤ Global)) (records : List (List ℤ)) (width : ℕ)
     → map (λ c. c.items) columns ≡ map (λ c. column_of c records) (range_with_len 0 width)
     → (length columns ≡ width) × All (λ column. length column.items ≡ length records) columns
 columns_are columns records width are =
@@ -34,7 +34,7 @@ columns_are columns records width are =
     )
 
 -- the table of the columns of records
-table_is : (columns : List (Vec ℤ Global)) (records : List (List ℤ)) (count width : ℕ) → length records ≡ count
+pub table_is : (columns : List (Vec ℤ Global)) (records : List (List ℤ)) (count width : ℕ) → length records ≡ count
     → map (λ c. c.items) columns ≡ map (λ c. column_of c records) (range_with_len 0 width) → All (λ record_. length record_ ≡ width) records
     → ◌≡◌ {A = Table} (record { width = length columns; rows = rows_of (map (λ c. c.items) columns) count }) (record { width = width; rows = records })
 table_is columns records count width counted are even =

@@ -11,3 +11,4 @@ pub mod Late
 pub mod Requirements
 pub mod EntryTest
 pub mod Answer
+pub mod Fit

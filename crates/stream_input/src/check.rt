@@ -181,8 +181,16 @@ pub fn number_of(cell: Cell) -> i64
     cell.0.unwrap_or(0)
 }
 
-fn is_time(time: i64) -> bool
+/// Whether a time is from -2^62 to 2^62 - 1.
+pub fn is_time(time: i64) -> bool
     ensures { result ≡ is_time_number time }
 {
     -(1 << 62) <= time && time < 1 << 62
+}
+
+/// Whether all times are.
+pub fn are_times(times: &[i64]) -> bool
+    ensures { result ≡ list_all is_time_number times.now }
+{
+    times.iter().all(|time| is_time(*time))
 }

@@ -6,7 +6,7 @@ ghost use Rattle.stream_input.specs.Answer.{Gives, input_of_bytes};
 use crate::entry::Entry;
 use crate::fault::InputFault;
 use crate::late::greatest_watermark;
-use crate::reading::{drafts_of, sources_from};
+use crate::reading::sources_read;
 use logical_plan::Plan;
 use plain_data::Items;
 use std::alloc::Global;
@@ -44,13 +44,11 @@ impl Input {
     /// # Errors
     ///
     /// The first fault in the order of [`InputFault`], each over the whole document before the next.
-    #[tactic(auto, unfolding(crate::specs::Answer::input_of_bytes))]
     pub fn read(alloc: Global, plan: &Plan, bytes: &[u8]) -> Result<Input, InputFault>
         ensures reads { Gives (λ i. i) result (input_of_bytes plan.now bytes.now) }
         ensures belongs { IfOk result (λ i. BelongsTo plan.now i) }
     {
-        let drafts = drafts_of(alloc, bytes)?;
-        let sources = sources_from(alloc, plan, &drafts)?;
+        let sources = sources_read(alloc, plan, bytes)?;
         Ok(Input {
             columns: plan.columns(),
             time: plan.window().time,

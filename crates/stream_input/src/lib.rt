@@ -7,6 +7,7 @@
 #![tactic(auto)]
 
 mod building;
+mod cells;
 mod check;
 mod count;
 mod draft;
@@ -17,6 +18,7 @@ mod late;
 pub mod laws;
 mod reading;
 mod sources;
+mod tokens;
 
 pub use entry::Entry;
 pub use fault::InputFault;

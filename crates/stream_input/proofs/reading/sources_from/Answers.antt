@@ -1,14 +1,23 @@
 use Rattle.std.proofs.Common.{sym, ◌∙◌}
 use Rattle.stream_input.specs.Draft.{draft_text}
-use Rattle.stream_input.proofs.Sound.{sources_sound, partitions_few}
+use Rattle.stream_input.specs.Fit.{AreOf}
 use Rattle.stream_input.proofs.reading.sources_from.Goals as goal
 
-pub first_late-requires-clause-sound : goal.first_late-requires-clause-sound
-first_late-requires-clause-sound c =
-    rw (c.columns-columns.ensures.says, c.window.ensures.says, c.as_slice.ensures, c.in_ok-sources.ensures)
-    (sources_sound c.args.plan.now (draft_text c.args.drafts.now) (sym c.has_times.ensures ∙ c.if-not-has_times.false))
+are_of : (c : goal.In_ok-sources) → AreOf c.args.plan.now c.in_ok-sources.sources (draft_text c.args.drafts.now)
+are_of c = (
+  record {
+    named = sym c.has_sources.ensures ∙ c.if-not-has_sources.false;
+    counted = sym c.has_partitions.ensures ∙ c.if-not-has_partitions.false;
+    wide = sym c.has_width.ensures ∙ c.if-not-has_width.false;
+    whole = sym c.has_numbers.ensures ∙ c.if-not-has_numbers.false;
+    sized = sym c.has_rows.ensures ∙ c.if-not-has_rows.false;
+    timely = sym c.has_times.ensures ∙ c.if-not-has_times.false;
+  },
+  c.in_ok-sources.ensures,
+)
 
-pub first_late-requires-clause-partitions_few : goal.first_late-requires-clause-partitions_few
-first_late-requires-clause-partitions_few c =
-    rw (c.as_slice.ensures, c.in_ok-sources.ensures)
-    (partitions_few c.args.plan.now (draft_text c.args.drafts.now) c.columns-columns.ensures.sound (sym c.has_partitions.ensures ∙ c.if-not-has_partitions.false))
+pub orderly-requires : goal.orderly-requires
+orderly-requires c = (draft_text c.args.drafts.now, are_of c)
+
+pub returns : goal.returns
+returns c = c.orderly.ensures (draft_text c.args.drafts.now) (are_of c.before)

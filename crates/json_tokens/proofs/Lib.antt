@@ -1,0 +1,5 @@
+pub mod Converted
+pub mod ItemTurns
+pub mod MemberTurns
+mod NumberTexts
+mod RowLists

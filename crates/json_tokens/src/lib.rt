@@ -1,0 +1,21 @@
+//! JSON read token by token, straight into vectors.
+//!
+//! For a large text of a known form, a tree of values in between costs more than the reading itself.
+//! These functions take the tokens of a [`json::Reader`] in the form that is asked for. Their contracts
+//! speak of the next value of the text, as `serde_json` reads it, in the words of `specs/Ahead`.
+//!
+//! Nothing here tells what is wrong with a text of another form: it is a [`Miss`], and a reading by
+//! `serde_json::Value` can tell.
+#![tactic(auto)]
+
+mod miss;
+mod numbers;
+mod rows;
+#[cfg(test)]
+mod tests;
+mod tokens;
+
+pub use miss::Miss;
+pub use numbers::next_whole;
+pub use rows::next_rows;
+pub use tokens::{close_object, end, next_key, next_name, open_list, open_object};

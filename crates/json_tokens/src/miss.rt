@@ -1,0 +1,22 @@
+use std::alloc::{AllocError, AllocFailed};
+
+/// Why a text was not read token by token.
+#[derive(Clone, Copy, Debug, PartialEq, Eq)]
+pub enum Miss {
+    /// The text is no JSON, or of another form.
+    Other,
+    /// An allocation was refused.
+    Memory,
+}
+
+impl From<AllocError> for Miss {
+    fn from(_e: AllocError) -> Miss {
+        Miss::Memory
+    }
+}
+
+impl<T: Drop> From<AllocFailed<T>> for Miss {
+    fn from(_e: AllocFailed<T>) -> Miss {
+        Miss::Memory
+    }
+}

@@ -1,0 +1,75 @@
+//! The tokens around values.
+ghost use Rattle.std.specs.Prelude.{◌≡◌, ◌<◌, ◌∷◌, [], Some, None, IfOk, OnOk, length, option_map};
+ghost use Rattle.json.specs.Token.{begin_array, begin_object};
+ghost use Rattle.json.specs.Json.{read_key};
+
+use crate::miss::Miss;
+use json::{Reader, Token};
+
+/// Passes the bracket that opens a list. `Reader::take_end_array` passes the one that closes it.
+#[inline(always)]
+pub fn open_list(reader: &mut Reader<'_>) -> Result<(), Miss>
+    ensures { OnOk result (reader.old ≡ begin_array ∷ reader.new) }
+{
+    match reader.next() {
+        Some(Token::BeginArray) => Ok(()),
+        _ => Err(Miss::Other),
+    }
+}
+
+/// Passes the brace that opens an object.
+#[inline(always)]
+pub fn open_object(reader: &mut Reader<'_>) -> Result<(), Miss>
+    ensures { OnOk result (reader.old ≡ begin_object ∷ reader.new) }
+{
+    match reader.next() {
+        Some(Token::BeginObject) => Ok(()),
+        _ => Err(Miss::Other),
+    }
+}
+
+/// The name of the next member of an object, or None past the brace that closes it.
+#[inline(always)]
+pub fn next_key<'a>(reader: &mut Reader<'a>) -> Result<Option<&'a str>, Miss>
+    ensures { IfOk result (λ k. read_key reader.old ≡ Some (option_map (λ s. s.now) k, reader.new)) }
+{
+    match reader.next_key() {
+        Ok(key) => Ok(key),
+        Err(_) => Err(Miss::Other),
+    }
+}
+
+/// The name of the next member of an object, which has one.
+#[inline(always)]
+pub fn next_name<'a>(reader: &mut Reader<'a>) -> Result<&'a str, Miss>
+    ensures said { IfOk result (λ name. read_key reader.old ≡ Some (Some name.now, reader.new)) }
+    ensures shorter { OnOk result (length reader.new < length reader.old) }
+{
+    match reader.next_key() {
+        Ok(Some(name)) => Ok(name),
+        _ => Err(Miss::Other),
+    }
+}
+
+/// Passes the brace that closes an object.
+#[inline(always)]
+pub fn close_object(reader: &mut Reader<'_>) -> Result<(), Miss>
+    ensures said { OnOk result (read_key reader.old ≡ Some (None, reader.new)) }
+    ensures shorter { OnOk result (length reader.new < length reader.old) }
+{
+    match reader.next_key() {
+        Ok(None) => Ok(()),
+        _ => Err(Miss::Other),
+    }
+}
+
+/// Nothing but white space is left of the text.
+#[inline(always)]
+pub fn end(reader: &mut Reader<'_>) -> Result<(), Miss>
+    ensures { OnOk result (reader.old ≡ []) }
+{
+    match reader.next() {
+        None => Ok(()),
+        Some(_) => Err(Miss::Other),
+    }
+}

@@ -1,0 +1,49 @@
+-- What is answered of sources that meet the requirements up to the range of times.
+use Rattle.std.proofs.Common.{◌≡◌, ℕ, ◌^◌, true, false, List, Option, Some, None, Ok, Err, option_and_then, length, refl}
+use Rattle.std.specs.Prelude.{nat_le, IsUtf8}
+use Rattle.std.proofs.lemmas.Str.{is_utf8-from_IsUtf8}
+use Rattle.serde_json.specs.Data.{Data}
+use Rattle.serde_json.specs.Read.{read}
+use Rattle.json_parts.specs.Parts.{json_of}
+use Rattle.logical_plan.specs.PlanData.{PlanData}
+use Rattle.stream_input.specs.declared.entry.Entry.{Entry}
+use Rattle.stream_input.specs.declared.fault.InputFault.TheVariants.{TooMany}
+use Rattle.stream_input.specs.InputData.{input_data_of, all_records}
+use Rattle.stream_input.specs.InputText.{InputText, input_text}
+use Rattle.stream_input.specs.Late.{first_late, late_fault}
+use Rattle.stream_input.specs.Requirements.{requirements, late_record, is_few}
+use Rattle.stream_input.specs.Answer.{text_of_bytes, input_or_fault}
+use Rattle.stream_input.specs.Fit.{AreOf}
+
+pub late_said : (plan : PlanData) (sources : List (List (List Entry))) (text : InputText) (place : ℕ × (ℕ × ℕ)) → AreOf plan sources text → first_late plan.window.time sources ≡ Some place
+    → input_or_fault plan text ≡ Err (late_fault place)
+unfolding requirements late_record
+late_said plan sources text place of h = let late = rw of.1 at h in rw (of.0.named, of.0.counted, of.0.wide, of.0.whole, of.0.sized, of.0.timely, late) refl
+
+pub many_said : (plan : PlanData) (sources : List (List (List Entry))) (text : InputText) → AreOf plan sources text → first_late plan.window.time sources ≡ None
+    → nat_le (length (all_records sources)) (2 ^ 40) ≡ false → input_or_fault plan text ≡ Err TooMany
+unfolding requirements late_record is_few
+many_said plan sources text of none h =
+    let late = rw of.1 at none in
+    let many = rw of.1 at h in
+    rw (of.0.named, of.0.counted, of.0.wide, of.0.whole, of.0.sized, of.0.timely, late, many) refl
+
+pub none_said : (plan : PlanData) (sources : List (List (List Entry))) (text : InputText) → AreOf plan sources text → first_late plan.window.time sources ≡ None
+    → nat_le (length (all_records sources)) (2 ^ 40) ≡ true → input_or_fault plan text ≡ Ok (input_data_of plan.columns plan.window.time sources)
+unfolding requirements late_record is_few
+none_said plan sources text of none h =
+    let late = rw of.1 at none in
+    let few = rw of.1 at h in
+    rw (of.1, of.0.named, of.0.counted, of.0.wide, of.0.whole, of.0.sized, of.0.timely, late, few) refl
+
+pub json_of_text : (bytes : List ℕ) → IsUtf8 bytes → json_of bytes ≡ read bytes
+unfolding json_of
+json_of_text bytes utf8 = rw (is_utf8-from_IsUtf8 bytes utf8) refl
+
+of_data : (o : Option Data) (text : InputText) → option_and_then input_text o ≡ Some text → (d : Data) × (o ≡ Some d) × (input_text d ≡ Some text)
+of_data None text h = absurd (cc)
+of_data (Some d) text h = (d, refl, h)
+
+pub text_said : (bytes : List ℕ) (text : InputText) → option_and_then input_text (json_of bytes) ≡ Some text → text_of_bytes bytes ≡ Ok text
+unfolding text_of_bytes
+text_said bytes text h = let d = of_data (json_of bytes) text h in rw (d.1, d.2) refl

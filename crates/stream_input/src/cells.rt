@@ -1,0 +1,70 @@
+//! Batches of numbers that stand in one list, row after row.
+
+ghost use Rattle.std.specs.Prelude.{◌≡◌, ◌<◌, ◌≤◌, ◌*◌, ℤ, true, List, Option, Some, length, map, IfOk};
+ghost use Rattle.std.specs.List.{range_with_len};
+ghost use Rattle.json_tokens.specs.Rows.{joined};
+ghost use Rattle.stream_input.specs.Fit.{column_in_cells, if_fit};
+ghost use Rattle.stream_input.specs.InputText.{rows};
+ghost use Rattle.stream_input.specs.Said.{record_of};
+ghost use Rattle.stream_input.specs.Requirements.{is_wide, is_whole};
+ghost use Rattle.stream_input.specs.declared.entry.Entry.TheVariants.{Rows};
+
+use crate::check::are_times;
+use columns::Batch;
+use json_tokens::Miss;
+use std::alloc::{AllocError, Global};
+
+/// The most rows of an entry.
+const MOST_ROWS: usize = 4096;
+
+fn column_at(
+    alloc: Global,
+    cells: &[i64],
+    width: usize,
+    count: usize,
+    column: usize,
+) -> Result<Vec<i64>, AllocError>
+    requires column_in { column < width }
+    requires whole { count * width ≤ length cells.now }
+    ensures { IfOk result (λ found. found.items ≡ column_in_cells width count cells.now column) }
+{
+    let mut numbers = Vec::with_capacity(alloc, count)?;
+    for row in 0..count {
+        numbers.push(cells[row * width + column])?;
+    }
+    Ok(numbers)
+}
+
+fn columns_at(
+    alloc: Global,
+    cells: &[i64],
+    width: usize,
+    count: usize,
+) -> Result<Vec<Vec<i64>>, AllocError>
+    requires { count * width ≤ length cells.now }
+    ensures { IfOk result (λ found. map (λ c. c.items) found.items ≡ map (column_in_cells width count cells.now) (range_with_len 0 width)) }
+{
+    let mut found = Vec::with_capacity(alloc, width)?;
+    for column in 0..width {
+        found.push(column_at(alloc, cells, width, count, column)?)?;
+    }
+    Ok(found)
+}
+
+/// The batch of rows of `width` cells each, where it makes an entry that the format allows. The times are
+/// in the column `time`.
+pub fn batch_at(alloc: Global, cells: &[i64], width: usize, time: usize) -> Result<Batch, Miss>
+    requires { time < width }
+    ensures { IfOk result (λ batch. (found : List (List (Option ℤ))) → is_wide width (rows found) ≡ true → is_whole (rows found) ≡ true
+        → joined (map record_of found) ≡ cells.now → if_fit width time (rows found) ≡ Some (Rows batch)) }
+{
+    let count = cells.len() / width;
+    if count < 1 || MOST_ROWS < count {
+        return Err(Miss::Other);
+    }
+    let found = columns_at(alloc, cells, width, count)?;
+    if !are_times(&found[time]) {
+        return Err(Miss::Other);
+    }
+    Ok(Batch::from_columns(found, count))
+}

@@ -1,0 +1,192 @@
+//! An input read token by token, straight into batches.
+//!
+//! What is not read so is a [`Miss`]: a text with a fault, above all. The reading by value tells which.
+
+ghost use Rattle.std.specs.Prelude.{◌≡◌, ◌<◌, ◌==◌, Some, None, length, map, position, bytes_eq, slice_set, option_and_then, IfOk, OnOk};
+ghost use Rattle.std.specs.List.{list_all, zip};
+ghost use Rattle.serde_json.specs.Data.{Members, object};
+ghost use Rattle.serde_json.specs.Read.{of_json, converted, read};
+ghost use Rattle.json.specs.Json.{value};
+ghost use Rattle.json_parts.specs.Parts.{list_text};
+ghost use Rattle.json_tokens.specs.Ahead.{part};
+ghost use Rattle.stream_input.specs.InputText.{input_text};
+ghost use Rattle.stream_input.specs.Fit.{fit_entry, IsSlots, IsRead};
+
+use crate::cells::batch_at;
+use crate::check::is_time;
+use crate::entry::Entry;
+use crate::input::{Partition, Source};
+use json::{Reader, Scratch};
+use json_tokens::{
+    Miss, close_object, end, next_key, next_name, next_rows, next_whole, open_list, open_object,
+};
+use logical_plan::{Plan, SourceSpec};
+use plain_data::Items;
+use std::alloc::Global;
+
+/// The deepest that lists and objects nest in a text.
+const MOST_DEPTH: usize = 127;
+
+fn next_entry(
+    alloc: Global,
+    plan: &Plan,
+    reader: &mut Reader<'_>,
+    cells: &mut Vec<i64>,
+    depth: usize,
+) -> Result<Entry, Miss>
+    ensures said { IfOk result (λ e. part (fit_entry plan.now.columns plan.now.window.time) depth reader.old ≡ Some (e, reader.new)) }
+    ensures shorter { OnOk result (length reader.new < length reader.old) }
+{
+    if depth == 0 {
+        return Err(Miss::Other);
+    }
+    open_object(reader)?;
+    let name = next_name(reader)?;
+    if name == "rows" {
+        let width = plan.columns() as usize;
+        cells.clear();
+        next_rows(reader, cells, width, depth - 1)?;
+        close_object(reader)?;
+        let batch = batch_at(alloc, cells, width, plan.window().time as usize)?;
+        return Ok(Entry::Rows(batch));
+    }
+    if name == "watermark" {
+        let time = next_whole(reader)?;
+        close_object(reader)?;
+        if !is_time(time) {
+            return Err(Miss::Other);
+        }
+        return Ok(Entry::Watermark(time));
+    }
+    Err(Miss::Other)
+}
+
+fn next_partition(
+    alloc: Global,
+    plan: &Plan,
+    reader: &mut Reader<'_>,
+    cells: &mut Vec<i64>,
+    depth: usize,
+) -> Result<Partition, Miss>
+    ensures said { IfOk result (λ es. part (list_text (fit_entry plan.now.columns plan.now.window.time)) depth reader.old ≡ Some (es, reader.new)) }
+    ensures shorter { OnOk result (length reader.new < length reader.old) }
+{
+    if depth == 0 {
+        return Err(Miss::Other);
+    }
+    open_list(reader)?;
+    let mut entries = Vec::new(alloc);
+    'entries: while !reader.take_end_array() {
+        let entry = next_entry(alloc, plan, reader, cells, depth - 1)?;
+        entries.push(entry)?;
+    }
+    Ok(Items::from_vec(entries))
+}
+
+fn next_source(
+    alloc: Global,
+    plan: &Plan,
+    reader: &mut Reader<'_>,
+    cells: &mut Vec<i64>,
+    depth: usize,
+) -> Result<Source, Miss>
+    ensures said { IfOk result (λ ps. part (list_text (list_text (fit_entry plan.now.columns plan.now.window.time))) depth reader.old ≡ Some (ps, reader.new)) }
+    ensures shorter { OnOk result (length reader.new < length reader.old) }
+{
+    if depth == 0 {
+        return Err(Miss::Other);
+    }
+    open_list(reader)?;
+    let mut partitions = Vec::new(alloc);
+    'partitions: while !reader.take_end_array() {
+        let partition = next_partition(alloc, plan, reader, cells, depth - 1)?;
+        partitions.push(partition)?;
+    }
+    Ok(Items::from_vec(partitions))
+}
+
+/// The place of the source with a name.
+fn place_of(specs: &[SourceSpec], name: &str) -> Option<usize>
+    ensures { result ≡ position (λ s. bytes_eq s.uid name.now) specs.now }
+{
+    specs.iter().position(|spec| spec.uid.as_str() == name)
+}
+
+fn empty_slots(alloc: Global, specs: &[SourceSpec]) -> Result<Vec<Option<Source>>, Miss>
+    ensures { IfOk result (λ slots. slots.items ≡ map (λ s. None) specs.now) }
+{
+    let mut slots = Vec::new(alloc);
+    for _spec in specs {
+        slots.push(None)?;
+    }
+    Ok(slots)
+}
+
+fn put(slots: &mut Vec<Option<Source>>, place: usize, source: Source)
+    requires { place < length slots.old.items }
+    ensures { slots.new.items ≡ slice_set slots.old.items place (Some source) }
+{
+    slots[place] = Some(source);
+}
+
+/// For each source of the plan its partitions, where the object has its uid, and no other name.
+fn next_slots(
+    alloc: Global,
+    plan: &Plan,
+    reader: &mut Reader<'_>,
+    cells: &mut Vec<i64>,
+    depth: usize,
+) -> Result<Vec<Option<Source>>, Miss>
+    ensures { IfOk result (λ slots. (ms : Members) × (converted of_json (value depth reader.old) ≡ Some (object ms, reader.new)) × IsSlots plan.now ms slots.items) }
+{
+    if depth == 0 {
+        return Err(Miss::Other);
+    }
+    let specs = plan.sources();
+    let mut slots = empty_slots(alloc, specs)?;
+    open_object(reader)?;
+    'members: while let Some(name) = next_key(reader)? {
+        let Some(place) = place_of(specs, name) else {
+            return Err(Miss::Other);
+        };
+        let source = next_source(alloc, plan, reader, cells, depth - 1)?;
+        put(&mut slots, place, source);
+    }
+    Ok(slots)
+}
+
+fn filled(alloc: Global, slots: Vec<Option<Source>>) -> Result<Vec<Source>, Miss>
+    ensures { IfOk result (λ found. slots.items ≡ map Some found.items) }
+{
+    let mut found = Vec::with_capacity(alloc, slots.len())?;
+    for slot in slots {
+        found.push(slot.ok_or(Miss::Other)?)?;
+    }
+    Ok(found)
+}
+
+fn have_counts(sources: &[Source], specs: &[SourceSpec]) -> bool
+    ensures { result ≡ list_all (λ p. length p.0 == p.1.partitions) (zip sources.now specs.now) }
+{
+    sources
+        .iter()
+        .zip(specs)
+        .all(|(source, spec)| source.len() == spec.partitions as usize)
+}
+
+/// The sources that a text says, in the order of the plan, where it has the form and the ranges that are
+/// asked of it.
+pub fn sources_in(alloc: Global, plan: &Plan, text: &str) -> Result<Items<Source>, Miss>
+    ensures { IfOk result (λ sources. IsRead plan.now (option_and_then input_text (read text.now)) sources) }
+{
+    let mut scratch = Scratch::new(alloc);
+    let mut reader = Reader::new(text, &mut scratch)?;
+    let mut cells = Vec::new(alloc);
+    let slots = next_slots(alloc, plan, &mut reader, &mut cells, MOST_DEPTH)?;
+    end(&mut reader)?;
+    let sources = filled(alloc, slots)?;
+    if !have_counts(&sources, plan.sources()) {
+        return Err(Miss::Other);
+    }
+    Ok(Items::from_vec(sources))
+}
