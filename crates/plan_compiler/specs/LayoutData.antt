@@ -46,3 +46,4 @@ pub record HasTables (l : LayoutData) (places : List TaskPlace) (inputs outputs 
   pub taken : inputs ≡ each_task l.stages (inputs_of l.stages)
   pub given : outputs ≡ each_task l.stages (outputs_of l.stages)
   pub read : partitions ≡ each_task l.stages (partitions_of l.partitions l.stages)
+  pub few : tasks l.stages ≤ 256
