@@ -13,7 +13,7 @@ use Rattle.layout_rules.specs.declared.stage.Edge.{Edge}
 use Rattle.layout_rules.specs.declared.stage.Edge.TheVariants.{Forward, ByGroup, Rebalance}
 use Rattle.layout_rules.specs.declared.stage.Stage.{Stage}
 use Rattle.layout_rules.specs.declared.stage.TaskPlace.{TaskPlace}
-use Rattle.layout_rules.specs.Stages.{role_of, is_window, after, stage_at, tasks, its_stage, place_of, partitions_of}
+use Rattle.layout_rules.specs.Stages.{role_of, is_window, after, stage_at, width, tasks, place_of, partitions_of}
 use Rattle.layout_rules.specs.Layouts.{partition_counts}
 
 -- a space, and the number in decimal
@@ -48,18 +48,26 @@ partitions_line place partitions = codes "partitions" ++ spaced place.stage ++ s
 abbrev pub groups_line : TaskPlace → GroupRange → List ℕ
 groups_line place range = codes "groups" ++ spaced place.stage ++ spaced place.subtask ++ spaced range.first ++ spaced range.last ++ 10 ∷ []
 
--- the lines of stage a, of the edge that leads out of it, and of task t as a source's and as the window's subtask
+-- the lines of stage a, and of the edge that leads out of it
 abbrev pub stage_text : PlanData → List Stage → ℕ → List ℕ
 stage_text p stages a = stage_line p a (stage_at stages a)
 
 abbrev pub edge_text : List Stage → ℕ → List ℕ
 edge_text stages a = option_map_or (edge_line a (after stages a)) (stage_at stages a).edge []
 
-abbrev pub partitions_text : PlanData → List Stage → ℕ → List ℕ
-partitions_text p stages t = if is_source (role_of (its_stage stages t).operators) then partitions_line (place_of stages t) (partitions_of (partition_counts p) stages t) else []
+-- where a task stands, as a source's subtask with these partitions, and as the window's
+abbrev pub partitions_at : List Stage → TaskPlace → List ℕ → List ℕ
+partitions_at stages place partitions = if is_source (role_of (stage_at stages place.stage).operators) then partitions_line place partitions else []
 
-abbrev pub groups_text : PlanData → List Stage → ℕ → List ℕ
-groups_text p stages t = if is_window (role_of (its_stage stages t).operators) then groups_line (place_of stages t) (group_range p.max (its_stage stages t).parallelism (place_of stages t).subtask) else []
+abbrev pub groups_at : ℕ → List Stage → TaskPlace → List ℕ
+groups_at max stages place = if is_window (role_of (stage_at stages place.stage).operators) then groups_line place (group_range max (width stages place.stage) place.subtask) else []
+
+-- the same of task t
+abbrev pub partitions_text : List ℕ → List Stage → ℕ → List ℕ
+partitions_text counts stages t = partitions_at stages (place_of stages t) (partitions_of counts stages t)
+
+abbrev pub groups_text : ℕ → List Stage → ℕ → List ℕ
+groups_text max stages t = groups_at max stages (place_of stages t)
 
 -- what a text says of each number below n, one after the other
 abbrev pub of_each : ℕ → (ℕ → List ℕ) → List ℕ
@@ -67,4 +75,4 @@ of_each n said = flat_map said (range_with_len 0 n)
 
 abbrev pub layout_text : PlanData → List Stage → List ℕ
 layout_text p stages =
-    of_each (length stages) (stage_text p stages) ++ of_each (length stages) (edge_text stages) ++ of_each (tasks stages) (partitions_text p stages) ++ of_each (tasks stages) (groups_text p stages)
+    of_each (length stages) (stage_text p stages) ++ of_each (length stages) (edge_text stages) ++ of_each (tasks stages) (partitions_text (partition_counts p) stages) ++ of_each (tasks stages) (groups_text p.max stages)

@@ -5,4 +5,5 @@ pub mod Group
 pub mod Layout
 pub mod LayoutText
 pub mod Run
+pub mod Subtask
 pub mod Tells
