@@ -4,3 +4,5 @@ pub mod PlanText
 pub mod Refusals
 pub mod Numerals
 pub mod Lines
+pub mod Laid
+pub mod LayoutAnswers

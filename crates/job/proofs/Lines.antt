@@ -4,7 +4,10 @@ use Rattle.std.specs.List.{flat_map, range_with_len}
 use Rattle.std.proofs.lemmas.List.{map-id}
 use Rattle.std.proofs.lemmas.Grind.{flat_map-append}
 use Rattle.std.proofs.lemmas.List.FromFn.{map-range_with_len_more}
-use Rattle.job.specs.LayoutText.{of_each}
+use Rattle.layout_rules.specs.declared.stage.Stage.{Stage}
+use Rattle.layout_rules.specs.declared.stage.TaskPlace.{TaskPlace}
+use Rattle.layout_rules.specs.Stages.{place_of, partitions_of}
+use Rattle.job.specs.LayoutText.{of_each, partitions_at, partitions_text, groups_at, groups_text}
 
 of_each_more : (f : ℕ → List ℕ) (n : ℕ) → of_each (n + 1) f ≡ of_each n f ++ f n
 of_each_more f n =
@@ -14,3 +17,11 @@ of_each_more f n =
 -- one more line
 pub one_more : (f : ℕ → List ℕ) (n : ℕ) (old now next : List ℕ) → next ≡ now ++ f n → now ≡ old ++ of_each n f → next ≡ old ++ of_each (n + 1) f
 one_more f n old now next step so_far = step ∙ ap (λ xs. xs ++ f n) so_far ∙ append_assoc old (of_each n f) (f n) ∙ ap (λ xs. old ++ xs) (sym (of_each_more f n))
+
+-- the lines of a task, from where it stands
+pub partitions_line_is : (counts : List ℕ) (stages ss : List Stage) (t : ℕ) (place : TaskPlace) (partitions : List ℕ) → ss ≡ stages → place ≡ place_of stages t → partitions ≡ partitions_of counts stages t
+    → partitions_at ss place partitions ≡ partitions_text counts stages t
+partitions_line_is counts stages ss t place partitions e f g = ap (λ x. partitions_at x place partitions) e ∙ ap (λ x. partitions_at stages x partitions) f ∙ ap (partitions_at stages (place_of stages t)) g
+
+pub groups_line_is : (max : ℕ) (stages ss : List Stage) (t : ℕ) (place : TaskPlace) → ss ≡ stages → place ≡ place_of stages t → groups_at max ss place ≡ groups_text max stages t
+groups_line_is max stages ss t place e f = ap (λ x. groups_at max x place) e ∙ ap (groups_at max stages) f

@@ -1,15 +1,16 @@
 //! The text of a layout.
 
-ghost use Rattle.std.specs.Prelude.{◌≡◌, true, ◌<◌, ◌≤◌, ◌++◌, ◌∷◌, length, OnOk, string_bytes};
+ghost use Rattle.std.specs.Prelude.{◌≡◌, true, ◌<◌, ◌≤◌, ◌++◌, ◌∷◌, length, IfOk, OnOk, string_bytes};
 ghost use Rattle.std.specs.List.{flat_map};
 ghost use Rattle.dataflow_model.specs.Task.{is_source};
-ghost use Rattle.layout_rules.specs.Stages.{after, role_of, is_window, stage_at, width, sources as leading_sources};
-ghost use Rattle.job.specs.LayoutText.{spaced, name_of, stage_line, edge_name, edge_line, partitions_line, groups_line, stage_text, edge_text, partitions_at, groups_at, of_each};
-ghost use Rattle.job.specs.Subtask.{IsSubtask};
+ghost use Rattle.layout_rules.specs.Stages.{after, role_of, is_window, stage_at, width, sources as leading_sources, tasks as tasks_said, place_of as place_said};
+ghost use Rattle.plan_compiler.specs.LayoutData.{BelongsTo};
+ghost use Rattle.job.specs.LayoutText.{spaced, name_of, stage_line, edge_name, edge_line, partitions_line, groups_line, stage_text, edge_text, partitions_at, groups_at, partitions_text, groups_text, of_each, layout_text};
+ghost use Rattle.job.specs.Subtask.{IsSubtask, WindowHasSubtasks};
 
 use key_groups::{GroupRange, MaxParallelism, Parallelism, range_of};
-use layout_rules::{Edge, Operator, Stage, TaskPlace};
 use logical_plan::Plan;
+use plan_compiler::{Edge, Layout, Operator, Stage, TaskPlace};
 use std::alloc::{AllocError, Global};
 
 /// The uid of an operator; the sink has none.
@@ -94,7 +95,11 @@ fn write_edge(text: &mut String, from: u32, to: u32, edge: Edge) -> Result<(), A
     Ok(())
 }
 
-fn write_partitions(text: &mut String, place: TaskPlace, partitions: &[u32]) -> Result<(), AllocError>
+fn write_partitions(
+    text: &mut String,
+    place: TaskPlace,
+    partitions: &[u32],
+) -> Result<(), AllocError>
     ensures { OnOk result (string_bytes text.new ≡ string_bytes text.old ++ partitions_line place partitions.now) }
 {
     write_head(text, "partitions", place.stage, place.subtask)?;
@@ -213,4 +218,68 @@ fn write_groups_at(
     }
     let par = Parallelism::new(stage.parallelism, max).unwrap();
     write_groups(text, place, range_of(max, par, place.subtask))
+}
+
+/// How many tasks there are.
+#[tactic(auto, using(plan_compiler::proofs::TaskPlaces::place_count))]
+fn task_count(layout: &Layout) -> u32
+    requires { tasks_said layout.now.stages ≤ 256 }
+    ensures { result ≡ tasks_said layout.now.stages }
+{
+    layout.tasks().len() as u32
+}
+
+/// Where a task stands.
+#[tactic(auto, using(plan_compiler::proofs::Ranges::has_place, plan_compiler::proofs::Ranges::at_place))]
+fn place_of(layout: &Layout, task: u32) -> TaskPlace
+    requires { task < tasks_said layout.now.stages }
+    ensures says { result ≡ place_said layout.now.stages task }
+    ensures within { result.stage < length layout.now.stages }
+{
+    layout.tasks()[task as usize]
+}
+
+/// A line for each subtask of a source.
+fn write_source_tasks(text: &mut String, layout: &Layout) -> Result<(), AllocError>
+    requires { tasks_said layout.now.stages ≤ 256 }
+    ensures { OnOk result (string_bytes text.new ≡ string_bytes text.old ++ of_each (tasks_said layout.now.stages) (partitions_text layout.now.partitions layout.now.stages)) }
+{
+    for task in 0..task_count(layout) {
+        let place = place_of(layout, task);
+        write_partitions_at(text, layout.stages(), place, layout.partitions_of(task))?;
+    }
+    Ok(())
+}
+
+/// A line for each subtask of the window.
+fn write_window_tasks(
+    text: &mut String,
+    max: MaxParallelism,
+    layout: &Layout,
+) -> Result<(), AllocError>
+    requires few { tasks_said layout.now.stages ≤ 256 }
+    requires window { WindowHasSubtasks max layout.now.stages }
+    ensures { OnOk result (string_bytes text.new ≡ string_bytes text.old ++ of_each (tasks_said layout.now.stages) (groups_text max layout.now.stages)) }
+{
+    for task in 0..task_count(layout) {
+        let place = place_of(layout, task);
+        write_groups_at(text, max, layout.stages(), place)?;
+    }
+    Ok(())
+}
+
+/// The text of the layout of a plan: its stages, the edges between them, the partitions of each subtask of
+/// a source, and the key groups of each subtask of the window.
+pub fn text_of(alloc: Global, plan: &Plan, layout: &Layout) -> Result<String, AllocError>
+    requires { BelongsTo plan.now layout.now }
+    ensures { IfOk result (λ text. string_bytes text ≡ layout_text plan.now layout.now.stages) }
+{
+    let sources = plan.sources().len() as u32;
+    let max = MaxParallelism::new(plan.max()).unwrap();
+    let mut text = String::new(alloc);
+    write_stages(&mut text, plan, layout.stages())?;
+    write_edges(&mut text, layout.stages(), sources)?;
+    write_source_tasks(&mut text, layout)?;
+    write_window_tasks(&mut text, max, layout)?;
+    Ok(text)
 }

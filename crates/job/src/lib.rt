@@ -5,6 +5,7 @@ mod fault;
 mod filtering;
 mod folding;
 mod group;
+mod layout;
 mod layout_text;
 mod line;
 mod run;
@@ -14,5 +15,6 @@ mod text;
 
 pub use fault::JobFault;
 pub use group::job_group;
+pub use layout::job_layout;
 pub use line::{FaultLine, fault_line, status_of};
 pub use run::job_run;
