@@ -31,3 +31,6 @@ pub fn job_layout<W: Write>(
     let text = text_of(alloc, &plan, &layout)?;
     write_text(out, text.as_str())
 }
+
+#[cfg(test)]
+mod tests;

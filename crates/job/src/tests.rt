@@ -1,5 +1,6 @@
 use crate::{JobFault, fault_line, job_run, status_of};
 use logical_plan::PlanFault;
+use plan_compiler::ScaleFault;
 use std::test::Fail;
 use stream_input::InputFault;
 
@@ -102,6 +103,7 @@ fn lines_and_statuses(rt: HostRuntime) -> Result<(), Fail> {
         (JobFault::Plan(PlanFault::UidTwice), "P9 UidTwice", 3),
         (JobFault::Plan(PlanFault::Panes), "P14 Panes", 3),
         (JobFault::Input(InputFault::TooMany), "I10 TooMany", 3),
+        (JobFault::Scale(ScaleFault::Tasks), "S7 Tasks", 3),
         (JobFault::Cut, "C1 Cut", 2),
         (JobFault::Number, "C2 Number", 2),
         (JobFault::Read, "F1 Read", 3),

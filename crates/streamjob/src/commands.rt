@@ -2,7 +2,7 @@
 
 use crate::files::file;
 use clap::ArgMatches;
-use job::{JobFault, job_group, job_run};
+use job::{JobFault, job_group, job_layout, job_run};
 use std::io::writer;
 use std::rt::Files;
 
@@ -15,6 +15,16 @@ pub fn run<R: Files + Print + AllocGlobal>(rt: &R, words: &ArgMatches<'_>) -> Re
     let plan = file(rt, named(words, "PLAN"))?;
     let input = file(rt, named(words, "INPUT"))?;
     job_run(rt.alloc(), &plan, &input, &mut writer(rt))
+}
+
+/// Prints the layout of a plan at a scale.
+pub fn layout<R: Files + Print + AllocGlobal>(
+    rt: &R,
+    words: &ArgMatches<'_>,
+) -> Result<(), JobFault> {
+    let plan = file(rt, named(words, "PLAN"))?;
+    let scale = file(rt, named(words, "SCALE"))?;
+    job_layout(rt.alloc(), &plan, &scale, &mut writer(rt))
 }
 
 /// Prints the group of a key and its owner.

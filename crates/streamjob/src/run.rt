@@ -18,6 +18,7 @@ fn chosen<R: Files + Print + AllocGlobal>(
 ) -> Result<(), JobFault> {
     match matches.subcommand() {
         Some(("run", words)) => commands::run(rt, words),
+        Some(("layout", words)) => commands::layout(rt, words),
         Some(("group", words)) => commands::group(rt, words),
         _ => Err(JobFault::Number),
     }

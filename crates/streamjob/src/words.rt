@@ -14,7 +14,7 @@ order of START and KEY.";
 
 const STATUSES: &str = "\
 Exit status: 0 done; 2 words that are not understood; 3 a file that cannot be read or written,
-or a plan or input that is refused; 4 no memory. Standard error says what is refused.";
+or a plan, input or scale that is refused; 4 no memory. Standard error says what is refused.";
 
 fn run_words<'a>(alloc: Global) -> Result<Command<'a>, AllocError> {
     Command::new(alloc, "run")
@@ -29,6 +29,28 @@ fn run_words<'a>(alloc: Global) -> Result<Command<'a>, AllocError> {
             alloc,
             "INPUT",
             "JSON file of the records: for each source its partitions, with rows and watermarks",
+        ))
+}
+
+const LAYOUT: &str = "\
+Lines come in this order: `stage S PARALLELISM UID ..` for each stage of chained operators, with
+`(sink)` for the sink; `edge A B forward|rebalance|group` for each edge from stage A to stage B;
+`partitions S I P ..` for subtask I of each source's stage S; `groups S I FIRST LAST` for each
+subtask of the window's stage.";
+
+fn layout_words<'a>(alloc: Global) -> Result<Command<'a>, AllocError> {
+    Command::new(alloc, "layout")
+        .about("Print the stages, edges, partitions and key groups of a plan at a scale")
+        .after_help(LAYOUT)
+        .arg(required(
+            alloc,
+            "PLAN",
+            "JSON file of the job: sources, filters, and one window with its aggregates",
+        ))?
+        .arg(required(
+            alloc,
+            "SCALE",
+            "JSON file of the scale: a ring's capacity and each operator's parallelism",
         ))
 }
 
@@ -51,5 +73,6 @@ pub fn command<'a>(alloc: Global) -> Result<Command<'a>, AllocError> {
         .after_help(STATUSES)
         .subcommand_required(true)
         .subcommand(run_words(alloc)?)?
+        .subcommand(layout_words(alloc)?)?
         .subcommand(group_words(alloc)?)
 }
