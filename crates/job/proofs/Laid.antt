@@ -11,7 +11,7 @@ use Rattle.layout_rules.specs.Rules.{IsCompiled, width_of, stages_of}
 use Rattle.layout_rules.proofs.Rows.{row_is}
 use Rattle.layout_rules.proofs.Once.{compiled_once, compiled_ever}
 use Rattle.layout_rules.proofs.Shapes.{shaped}
-use Rattle.plan_compiler.specs.LayoutData.{LayoutData, IsLayoutOf, BelongsTo}
+use Rattle.plan_compiler.specs.LayoutData.{LayoutData, IsLayoutOf, IsMadeWith}
 use Rattle.plan_compiler.proofs.CompiledTasks.{stages_few}
 use Rattle.job.specs.Subtask.{WindowHasSubtasks}
 
@@ -41,7 +41,7 @@ pub record IsLaid (p : PlanData) (l : LayoutData) : Type 0 where
   pub leading : length p.sources ≡ sources l.stages
   pub window : WindowHasSubtasks p.max l.stages
 
-pub laid : (p : PlanData) (l : LayoutData) → IsPlan p → BelongsTo p l → IsLaid p l
+pub laid : (p : PlanData) (l : LayoutData) → IsPlan p → IsMadeWith p l → IsLaid p l
 laid p l ip (c, ic, h) = record {
   stages_few = stages_few p c l.stages ip ic h.stages;
   tasks_few = rw (stages_made p c l h) ic.tasks_few;
