@@ -110,7 +110,7 @@ module _ (p : PlanData) (e : Entries) (cut : ℕ → ℕ → ℕ) (stops : Bool)
   -- a ring leads to the stage after
   pub rung : (s t : ℕ) → ring stages s t ≡ true → (t < T) × (stage_of stages t ≡ after stages (stage_of stages s)) × (joins (its_stage stages s).edge (subtask_of stages s) (subtask_of stages t) ≡ true) × (stage_of stages s ≤ w) × (s < T)
   rung s t h =
-      let a = both_are (ltb t T) (◌&&◌ (eqb (stage_of stages t) (after stages (stage_of stages s))) (joins (its_stage stages s).edge (subtask_of stages s) (subtask_of stages t))) h in
+      let a = both_are (ltb t T) (eqb (stage_of stages t) (after stages (stage_of stages s)) && joins (its_stage stages s).edge (subtask_of stages s) (subtask_of stages t)) h in
       let b = both_are (eqb (stage_of stages t) (after stages (stage_of stages s))) (joins (its_stage stages s).edge (subtask_of stages s) (subtask_of stages t)) a.1 in
       let l : t < T = ltb-true t T a.0 in
       let q : stage_of stages t ≡ after stages (stage_of stages s) = eqb-true (stage_of stages t) (after stages (stage_of stages s)) b.0 in
@@ -131,7 +131,7 @@ module _ (p : PlanData) (e : Entries) (cut : ℕ → ℕ → ℕ) (stops : Bool)
 
   pub ring_at : (s t : ℕ) → t < T → stage_of stages t ≡ after stages (stage_of stages s) → joins (its_stage stages s).edge (subtask_of stages s) (subtask_of stages t) ≡ true → ring stages s t ≡ true
   ring_at s t l q j =
-      both_true (ltb t T) (◌&&◌ (eqb (stage_of stages t) (after stages (stage_of stages s))) (joins (its_stage stages s).edge (subtask_of stages s) (subtask_of stages t))) (lt-ltb t T l)
+      both_true (ltb t T) (eqb (stage_of stages t) (after stages (stage_of stages s)) && joins (its_stage stages s).edge (subtask_of stages s) (subtask_of stages t)) (lt-ltb t T l)
       (both_true (eqb (stage_of stages t) (after stages (stage_of stages s))) (joins (its_stage stages s).edge (subtask_of stages s) (subtask_of stages t)) (eq-eqb (stage_of stages t) (after stages (stage_of stages s)) q) j)
 
   -- a ring between subtasks i and j of two stages
@@ -233,11 +233,11 @@ module _ (p : PlanData) (e : Entries) (cut : ℕ → ℕ → ℕ) (stops : Bool)
       (ring_between w (subtask_of stages t) (suc w) 0 (omega arith) (omega (arith, st.1, y)) q (omega (arith, o)) (λ d. omega (arith, d, o, st.1, y)))))
 
   -- the filters after a stage
-  pub after_stage : (b : ℕ) (r : Record) → S ≤ b → b < suc (suc w) → kept_by p (drop b stages) r ≡ ◌&&◌ (kept p (stage_at stages b).operators r) (kept_by p (drop (after stages b) stages) r)
+  pub after_stage : (b : ℕ) (r : Record) → S ≤ b → b < suc (suc w) → kept_by p (drop b stages) r ≡ (kept p (stage_at stages b).operators r && kept_by p (drop (after stages b) stages) r)
   after_stage b r l m =
       let z = sh.size in
       let q : suc b ≡ after stages b = omega (arith, l) in
-      ap (λ ss. kept_by p ss r) (drop_step stages b (omega (arith, m, z))) ∙ ap (λ n. ◌&&◌ (kept p (stage_at stages b).operators r) (kept_by p (drop n stages) r)) q
+      ap (λ ss. kept_by p ss r) (drop_step stages b (omega (arith, m, z))) ∙ ap (λ n. (kept p (stage_at stages b).operators r && kept_by p (drop n stages) r)) q
 
   pub at_end : (r : Record) → kept_by p (drop w stages) r ≡ true
   at_end r =
@@ -267,7 +267,7 @@ module _ (p : PlanData) (e : Entries) (cut : ℕ → ℕ → ℕ) (stops : Bool)
       let ow : owner_of p (width stages w) (at p.window.key r) ≡ j = subst (λ d. Owns p.window.key d j r) te o in
       omega (arith, ow, none, all, x.2)
 
-  pub source_at : (t : ℕ) (r : Record) → (L.task t).role ≡ Source → t < L.before → ◌&&◌ ((L.task t).keeps r) (L.rest t r) ≡ L.pass r
+  pub source_at : (t : ℕ) (r : Record) → (L.task t).role ≡ Source → t < L.before → ((L.task t).keeps r && L.rest t r) ≡ L.pass r
   source_at t r h l =
       let ea = early t l in
       let a = stage_of stages t in
@@ -281,8 +281,8 @@ module _ (p : PlanData) (e : Entries) (cut : ℕ → ℕ → ℕ) (stops : Bool)
         | inr m ↦ (
             let z : a ≡ 0 = omega (arith, al, m) in
             let y : after stages a ≡ 1 = omega (arith, q, m, al) in
-            ap (λ n. ◌&&◌ (kept p (stage_at stages n).operators r) (kept_by p (drop (after stages a) stages) r)) z
-            ∙ ap (λ n. ◌&&◌ (kept p (stage_at stages 0).operators r) (kept_by p (drop n stages) r)) y
+            ap (λ n. (kept p (stage_at stages n).operators r && kept_by p (drop (after stages a) stages) r)) z
+            ∙ ap (λ n. (kept p (stage_at stages 0).operators r && kept_by p (drop n stages) r)) y
             ∙ sym (ap (λ ss. kept_by p ss r) (drop_step stages 0 (omega (arith, sz)))) ∙ sh.all r)
       ]
 

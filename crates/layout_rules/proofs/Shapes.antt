@@ -133,22 +133,22 @@ length_operators (s ∷ ss) = ap suc (length_operators ss)
 -- all filters
 abbrev kept_groups : PlanData → List (List Operator) → Record → Bool
 kept_groups p [] r = true
-kept_groups p (g ∷ gs) r = ◌&&◌ (kept p g r) (kept_groups p gs r)
+kept_groups p (g ∷ gs) r = (kept p g r && kept_groups p gs r)
 
-kept_cons : (p : PlanData) (o : Operator) (os : List Operator) (r : Record) → kept p (o ∷ os) r ≡ ◌&&◌ (kept p (o ∷ []) r) (kept p os r)
+kept_cons : (p : PlanData) (o : Operator) (os : List Operator) (r : Record) → kept p (o ∷ os) r ≡ (kept p (o ∷ []) r && kept p os r)
 kept_cons p (Source x) os r = refl
 kept_cons p (Filter f) os r = ap (λ b. b && kept p os r) (sym (and-true (passes (take 1 (drop f p.filters)) r)))
 kept_cons p Window os r = refl
 kept_cons p Sink os r = refl
 
-onto_kept : (p : PlanData) (o : Operator) (gs : List (List Operator)) (r : Record) → kept_groups p (onto_first o gs) r ≡ ◌&&◌ (kept p (o ∷ []) r) (kept_groups p gs r)
+onto_kept : (p : PlanData) (o : Operator) (gs : List (List Operator)) (r : Record) → kept_groups p (onto_first o gs) r ≡ (kept p (o ∷ []) r && kept_groups p gs r)
 onto_kept p o [] r = refl
 onto_kept p o (g ∷ gs) r = ap (λ b. b && kept_groups p gs r) (kept_cons p o g r) ∙ and_assoc (kept p (o ∷ []) r) (kept p g r) (kept_groups p gs r)
 
 groups_kept : (p : PlanData) (c : ScaleData) (o : Operator) (os : List Operator) (r : Record) → kept_groups p (groups p c o os) r ≡ kept p (o ∷ os) r
 groups_kept p c o [] r = and-true (kept p (o ∷ []) r)
 groups_kept p c o (o' ∷ os) r =
-    let z : ◌&&◌ (kept p (o ∷ []) r) (kept_groups p (groups p c o' os) r) ≡ kept p (o ∷ o' ∷ os) r = ap (◌&&◌ (kept p (o ∷ []) r)) (groups_kept p c o' os r) ∙ sym (kept_cons p o (o' ∷ os) r) in
+    let z : (kept p (o ∷ []) r && kept_groups p (groups p c o' os) r) ≡ kept p (o ∷ o' ∷ os) r = ap (λ b. kept p (o ∷ []) r && b) (groups_kept p c o' os r) ∙ sym (kept_cons p o (o' ∷ os) r) in
     elim (cases_Bool (follows p c o o')) [
       | inl e ↦ rw e (onto_kept p o (groups p c o' os) r ∙ z)
       | inr e ↦ rw e z
@@ -160,7 +160,7 @@ stages_kept p c (o ∷ os) r = groups_kept p c o os r
 
 kept_map : (p : PlanData) (ss : List Stage) (r : Record) → kept_by p ss r ≡ kept_groups p (map (λ s. s.operators) ss) r
 kept_map p [] r = refl
-kept_map p (s ∷ ss) r = ap (◌&&◌ (kept p s.operators r)) (kept_map p ss r)
+kept_map p (s ∷ ss) r = ap (λ b. kept p s.operators r && b) (kept_map p ss r)
 
 -- one filter and those after it
 passes_step : (fs : List FilterSpec) (k n : ℕ) (r : Record) → passes (take (suc n) (drop k fs)) r ≡ (passes (take 1 (drop k fs)) r && passes (take n (drop (suc k) fs)) r)

@@ -1,5 +1,5 @@
 -- The tasks of a compiled layout are few.
-use Rattle.std.proofs.Common.{◌≡◌, ℕ, zero, suc, ◌+◌, ◌<◌, ◌≤◌, List, length, sym, ap, ◌∙◌, arith}
+use Rattle.std.proofs.Common.{◌≡◌, ℕ, zero, suc, ◌<◌, ◌≤◌, List, length, sym, ap, ◌∙◌, arith}
 use Rattle.logical_plan.specs.PlanData.{PlanData, IsPlan}
 use Rattle.layout_rules.specs.declared.stage.Stage.{Stage}
 use Rattle.layout_rules.specs.declared.stage.TaskPlace.{TaskPlace}
@@ -17,7 +17,7 @@ rows_few : (f : ℕ → ℕ) (n : ℕ) → ((a : ℕ) → a < n → 0 < f a) →
 rows_few f zero h = omega arith
 rows_few f (suc n) h = omega (arith, rows_few f n (λ a l. h a (omega (arith, l))), h n (omega arith))
 
-compiled_few : (p : PlanData) (c : ScaleData) (ss : List Stage) → IsPlan p → IsScale p c → IsCompiled p c ss → tasks ss ≤ 256
+pub compiled_few : (p : PlanData) (c : ScaleData) (ss : List Stage) → IsPlan p → IsScale p c → IsCompiled p c ss → tasks ss ≤ 256
 compiled_few p c ss ip sc h =
     let e : tasks ss ≡ tasks (stages_of p c) = ap tasks (compiled_once p c ss (stages_of p c) h (compiled_ever p c)) in
     let z = sc.tasks_few in

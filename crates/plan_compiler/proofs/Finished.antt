@@ -1,15 +1,15 @@
 -- The stages that are made are those of the plan at its scale.
-use Rattle.std.proofs.Common.{◌≡◌, ℕ, suc, ◌<◌, ◌≤◌, max, List, [], length, map, get_or, Option, Some, None, refl, sym, ap, ◌∙◌, arith}
+use Rattle.std.proofs.Common.{◌≡◌, ℕ, suc, ◌<◌, max, List, [], length, map, get_or, Some, None, sym, ap, ◌∙◌, arith}
 use Rattle.std.proofs.lemmas.List.{ext_get_or}
 use Rattle.std.proofs.lemmas.List.FromFn.{length-map-range_with_len, get_or-map-range_with_len}
 use Rattle.std.proofs.lemmas.Option.{slice_get-get_or, slice_get_past}
-use Rattle.std.specs.List.{range_with_len, slice_get}
+use Rattle.std.specs.List.{range_with_len}
 use Rattle.std.specs.Option.{option_map}
 use Rattle.logical_plan.specs.PlanData.{PlanData, IsPlan}
 use Rattle.layout_rules.specs.declared.stage.Operator.{Operator}
 use Rattle.layout_rules.specs.declared.stage.Stage.{Stage}
 use Rattle.layout_rules.specs.ScaleData.{ScaleData}
-use Rattle.layout_rules.specs.Stages.{stage_from, stage_at, width, sources, after, edge_into}
+use Rattle.layout_rules.specs.Stages.{stage_from, stage_at, after, edge_into}
 use Rattle.layout_rules.specs.Rules.{in_order, in_stages, width_of, opened, IsCompiled, stages_of}
 use Rattle.layout_rules.specs.Scale.{IsScale}
 use Rattle.layout_rules.proofs.Shapes.{shaped, operators_at, length_operators}

@@ -1,5 +1,5 @@
 -- Operators in stages, from the front on.
-use Rattle.std.proofs.Common.{◌≡◌, ℕ, zero, suc, ◌+◌, List, [], ◌∷◌, ◌++◌, true, false, map, length, append_assoc, append-nil, take, drop, get_or, ◌-◌, ◌<◌, refl, sym, ap, subst, ◌∙◌, arith}
+use Rattle.std.proofs.Common.{◌≡◌, ℕ, zero, suc, ◌+◌, List, [], ◌∷◌, ◌++◌, true, false, map, length, append_assoc, append-nil, take, drop, get_or, ◌-◌, ◌<◌, refl, sym, ap, ◌∙◌, arith}
 use Rattle.std.proofs.Math.Seq.{take-length}
 use Rattle.std.proofs.lemmas.Bool.{false≢true}
 use Rattle.std.specs.List.{range_with_len}

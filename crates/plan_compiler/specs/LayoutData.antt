@@ -26,8 +26,8 @@ pub record IsLayoutOf (p : PlanData) (c : ScaleData) (l : LayoutData) : Type 0 w
   pub ring : l.ring ≡ c.ring
 
 -- the layout was made with the plan, at some scale
-abbrev pub BelongsTo : PlanData → LayoutData → Type 0
-BelongsTo p l = (c : ScaleData) × IsScale p c × IsLayoutOf p c l
+abbrev pub IsMadeWith : PlanData → LayoutData → Type 0
+IsMadeWith p l = (c : ScaleData) × IsScale p c × IsLayoutOf p c l
 
 -- what f has for each task, in order
 abbrev pub each_task : {X : Type 0} → List Stage → (ℕ → X) → List X
@@ -46,3 +46,4 @@ pub record HasTables (l : LayoutData) (places : List TaskPlace) (inputs outputs 
   pub taken : inputs ≡ each_task l.stages (inputs_of l.stages)
   pub given : outputs ≡ each_task l.stages (outputs_of l.stages)
   pub read : partitions ≡ each_task l.stages (partitions_of l.partitions l.stages)
+  pub few : tasks l.stages ≤ 256

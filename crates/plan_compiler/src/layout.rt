@@ -39,7 +39,7 @@ impl Model for Layout {
 }
 
 impl Layout {
-    ghost use Rattle.std.specs.Prelude.{◌≡◌, ◌<◌};
+    ghost use Rattle.std.specs.Prelude.{◌≡◌, ◌<◌, ◌≤◌, length};
     ghost use Rattle.layout_rules.specs.Stages.{tasks as task_count, place_of, inputs_of as inputs_said, outputs_of as outputs_said, partitions_of as partitions_said};
     ghost use Rattle.plan_compiler.specs.LayoutData.{layout_data_of, HasTables, each_task};
 
@@ -71,9 +71,12 @@ impl Layout {
         self.stages.as_slice()
     }
 
-    /// The place of each task.
+    /// The place of each task: at most 256.
+    #[tactic(auto, using(crate::proofs::TaskPlaces::place_count))]
     pub fn tasks(&self) -> &[TaskPlace]
-        ensures { result.now ≡ each_task self.now.stages (place_of self.now.stages) }
+        ensures says { result.now ≡ each_task self.now.stages (place_of self.now.stages) }
+        ensures counted { length result.now ≡ task_count self.now.stages }
+        ensures few { length result.now ≤ 256 }
     {
         self.tasks.as_slice()
     }

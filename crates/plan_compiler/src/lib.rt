@@ -22,4 +22,6 @@ pub use layout_rules::{Edge, FilterScale, Operator, Stage, TaskPlace};
 pub use scale::Scale;
 
 #[cfg(test)]
+mod layout_tests;
+#[cfg(test)]
 mod tests;

@@ -1,4 +1,4 @@
-use Rattle.std.proofs.Common.{◌≡◌, length, sym, ap, subst, refl, ◌∙◌}
+use Rattle.std.proofs.Common.{length, sym, ap, subst, refl}
 use Rattle.layout_rules.specs.Rules.{IsCompiled}
 use Rattle.plan_compiler.proofs.CompiledTasks.{stages_few, has_tasks}
 use Rattle.plan_compiler.proofs.compiling.compile.Goals as goal

@@ -1,4 +1,4 @@
-use Rattle.std.proofs.Common.{◌≡◌, map, length}
+use Rattle.std.proofs.Common.{◌≡◌, map}
 use Rattle.std.specs.List.{range_with_len}
 use Rattle.plan_compiler.specs.Compiling.{finished}
 use Rattle.plan_compiler.proofs.stages.finished.Given as goal

@@ -1,6 +1,6 @@
-use Rattle.std.proofs.Common.{◌∷◌, [], ◌++◌, ap, sym, ◌∙◌, arith}
+use Rattle.std.proofs.Common.{◌++◌, ap, sym, ◌∙◌}
 use Rattle.layout_rules.specs.Rules.{in_stages}
-use Rattle.plan_compiler.proofs.Staged.{begun, after_first, stage_goes_on, stage_ends}
+use Rattle.plan_compiler.proofs.Staged.{begun, after_first, stage_goes_on}
 use Rattle.plan_compiler.proofs.stages.in_stages.Goals as goal
 
 pub loop-rest-preserved : goal.loop-rest-preserved

@@ -1,4 +1,4 @@
-use Rattle.std.proofs.Common.{◌≡◌, length, ap, ◌∙◌, arith, Fits-lit}
+use Rattle.std.proofs.Common.{ap, ◌∙◌, arith}
 use Rattle.layout_rules.specs.Stages.{tasks}
 use Rattle.plan_compiler.proofs.TaskPlaces.{place_count}
 use Rattle.plan_compiler.proofs.rings.Tasks.count.Goals as goal

@@ -1,4 +1,4 @@
-use Rattle.std.proofs.Common.{◌≡◌, ◌<◌, length, sym, ap, subst, ◌∙◌, arith}
+use Rattle.std.proofs.Common.{◌<◌, sym, ap, subst, ◌∙◌, arith}
 use Rattle.layout_rules.specs.Stages.{tasks, place_of}
 use Rattle.plan_compiler.proofs.TaskPlaces.{place_count, place_at, stage_within}
 use Rattle.plan_compiler.proofs.rings.Tasks.place.Goals as goal

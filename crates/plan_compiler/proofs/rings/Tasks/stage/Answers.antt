@@ -1,4 +1,4 @@
-use Rattle.std.proofs.Common.{◌≡◌, ◌<◌, length, sym, ap, subst, ◌∙◌, arith}
+use Rattle.std.proofs.Common.{◌<◌, sym, ap, subst, ◌∙◌, arith}
 use Rattle.layout_rules.specs.Stages.{tasks, its_stage}
 use Rattle.plan_compiler.proofs.TaskPlaces.{place_count, stage_within, stage_at_place, stage_wide}
 use Rattle.plan_compiler.proofs.rings.Tasks.stage.Goals as goal
