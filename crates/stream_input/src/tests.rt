@@ -1,37 +1,126 @@
+use crate::tokens::sources_in;
 use crate::{Entry, Input, InputFault};
+use columns::Batch;
 use logical_plan::Plan;
+use std::alloc::{AllocError, Global};
 use std::test::Fail;
 
 const PLAN: &str =
     r#"{"columns":3,"maxParallelism":128,"time":0,"key":1,"sources":[{"uid":"s","partitions":2}],"window":{"uid":"w","size":10,"slide":10,"offset":0,"aggregates":[{"fn":"count"},{"fn":"sum","column":2}]}}"#;
 
+const PAIR: &str =
+    r#"{"columns":3,"maxParallelism":128,"time":0,"key":1,"sources":[{"uid":"s","partitions":1},{"uid":"a","partitions":1}],"window":{"uid":"w","size":10,"slide":10,"offset":0,"aggregates":[{"fn":"count"}]}}"#;
+
 const INPUT: &str =
     r#"{"s":[[{"rows":[[1,1,5],[12,1,7]]},{"watermark":9},{"rows":[[15,0,-3]]}],[{"rows":[[3,0,4]]},{"watermark":11},{"rows":[[13,1,2]]}]]}"#;
 
-#[test]
-fn an_input(rt: HostRuntime) -> Result<(), Fail> {
-    let plan = Plan::read(rt.alloc(), PLAN.as_bytes())?;
-    let input = Input::read(rt.alloc(), &plan, INPUT.as_bytes())?;
-    let sources = input.sources();
-    assert_eq!(rt; sources.len(), 1);
-    assert_eq!(rt; sources[0].len(), 2);
-    assert_eq!(rt; input.entries(0, 1), 3);
-    assert_eq!(rt; input.watermark_at(0, 1, 1), i64::MIN);
-    assert_eq!(rt; input.watermark_at(0, 1, 2), 11);
-    assert_eq!(rt; input.watermark_at(0, 1, 3), i64::MAX);
-    match input.entry(0, 0, 0).ok_or("no entry")? {
-        Entry::Rows(batch) => {
-            assert_eq!(rt; batch.width(), 3);
-            assert_eq!(rt; batch.column(0), [1, 12].as_slice());
-            assert_eq!(rt; batch.column(2), [5, 7].as_slice());
+fn input_of(rt: &impl AllocGlobal, plan: &str, text: &str) -> Result<Input, Fail> {
+    let plan = Plan::read(rt.alloc(), plan.as_bytes())?;
+    Ok(Input::read(rt.alloc(), &plan, text.as_bytes())?)
+}
+
+/// The numbers, column by column, as one number of two digits for each.
+fn digits_of(batch: &Batch) -> i64 {
+    let mut digits = 0_i64;
+    for column in 0..batch.width() {
+        for number in batch.column(column) {
+            digits = digits.wrapping_mul(100).wrapping_add(*number);
         }
-        Entry::Watermark(_) => return Err("no rows".into()),
     }
-    match input.entry(0, 0, 1).ok_or("no entry")? {
-        Entry::Rows(_) => return Err("no watermark".into()),
-        Entry::Watermark(time) => assert_eq!(rt; *time, 9),
+    digits
+}
+
+/// How many rows an entry has, and its numbers.
+fn seen(entry: &Entry) -> (usize, i64) {
+    match entry {
+        Entry::Rows(batch) => (batch.len(), digits_of(batch)),
+        Entry::Watermark(time) => (0, *time),
     }
-    assert!(rt; input.entry(0, 0, 3).is_none());
+}
+
+/// The same of each entry, in order.
+fn all_seen(alloc: Global, input: &Input) -> Result<Vec<(usize, i64)>, AllocError> {
+    let mut found = Vec::new(alloc);
+    for source in input.sources() {
+        for partition in source.as_slice() {
+            for entry in partition.as_slice() {
+                found.push(seen(entry))?;
+            }
+        }
+    }
+    Ok(found)
+}
+
+#[test]
+fn entries(rt: HostRuntime) -> Result<(), Fail> {
+    let input = input_of(&rt, PLAN, INPUT)?;
+    let want = [
+        (2, 11201010507),
+        (0, 9),
+        (1, 149997),
+        (1, 30004),
+        (0, 11),
+        (1, 130102),
+    ];
+    assert_eq!(rt; all_seen(rt.alloc(), &input)?.as_slice(), want.as_slice());
+    Ok(())
+}
+
+#[test]
+fn sources_in_the_order_of_the_plan(rt: HostRuntime) -> Result<(), Fail> {
+    let text = r#"{"a":[[{"watermark":7}]],"s":[[{"rows":[[1,2,3]]}]]}"#;
+    let input = input_of(&rt, PAIR, text)?;
+    assert_eq!(rt;
+        all_seen(rt.alloc(), &input)?.as_slice(),
+        [(1, 10203), (0, 7)].as_slice()
+    );
+    Ok(())
+}
+
+#[test]
+fn the_last_of_members_with_one_name(rt: HostRuntime) -> Result<(), Fail> {
+    for text in [
+        r#"{"s":[[{"watermark":7}],[]],"s":[[{"watermark":8}],[]]}"#,
+        r#"{"s":7,"s":[[{"watermark":8}],[]]}"#,
+    ] {
+        let input = input_of(&rt, PLAN, text)?;
+        assert_eq!(rt;
+            all_seen(rt.alloc(), &input)?.as_slice(),
+            [(0, 8)].as_slice()
+        );
+    }
+    Ok(())
+}
+
+fn seen_at(input: &Input, n: u64) -> Option<(usize, i64)> {
+    let sources = input.sources();
+    if sources.len() != 1 || sources[0].len() != 2 {
+        return None;
+    }
+    input.entry(0, 1, n).map(seen)
+}
+
+fn watermark(input: &Input, n: u64) -> Option<i64> {
+    let sources = input.sources();
+    if sources.len() != 1 || sources[0].len() != 2 || input.entries(0, 1) < n {
+        return None;
+    }
+    Some(input.watermark_at(0, 1, n))
+}
+
+#[test]
+fn places_in_a_partition(rt: HostRuntime) -> Result<(), Fail> {
+    let input = input_of(&rt, PLAN, INPUT)?;
+    assert_eq!(rt; seen_at(&input, 1), Some((0, 11)));
+    assert_eq!(rt; seen_at(&input, 3), None);
+    for (n, want) in [
+        (1, Some(i64::MIN)),
+        (2, Some(11)),
+        (3, Some(i64::MAX)),
+        (4, None),
+    ] {
+        assert_eq!(rt; watermark(&input, n), want);
+    }
     Ok(())
 }
 
@@ -69,6 +158,7 @@ fn refusals_of_entries(rt: HostRuntime) -> Result<(), Fail> {
         (r#"{"rows":[[1,1]]}"#, InputFault::Width),
         (r#"{"rows":[[1,1,1,1]]}"#, InputFault::Width),
         (r#"{"rows":[[1,1,1.5]]}"#, InputFault::Number),
+        (r#"{"rows":[[1,1,-0]]}"#, InputFault::Number),
         (r#"{"rows":[[1,1,"1"]]}"#, InputFault::Number),
         (r#"{"watermark":1.5}"#, InputFault::Number),
         (r#"{"rows":[]}"#, InputFault::Rows),
@@ -126,10 +216,50 @@ fn times_at_the_limits(rt: HostRuntime) -> Result<(), Fail> {
 #[test]
 fn entries_of_many_rows(rt: HostRuntime) -> Result<(), Fail> {
     let plan = Plan::read(rt.alloc(), PLAN.as_bytes())?;
-    for (count, want) in [(4095, None), (4096, Some(InputFault::Rows))] {
+    for (count, want) in [(0, None), (4095, None), (4096, Some(InputFault::Rows))] {
         let rows = ",[1,1,1]".repeat(rt.alloc(), count)?;
         let text = format!(in rt.alloc(); "{{\"s\":[[{{\"rows\":[[1,1,1]{rows}]}}],[]]}}")?;
         assert_eq!(rt; fault(&rt, &plan, text.as_str()), want);
+        assert_eq!(rt; is_taken(&rt, &plan, text.as_str()), want.is_none());
+    }
+    Ok(())
+}
+
+fn is_taken(rt: &impl AllocGlobal, plan: &Plan, text: &str) -> bool {
+    sources_in(rt.alloc(), plan, text).is_ok()
+}
+
+#[test]
+fn read_token_by_token(rt: HostRuntime) -> Result<(), Fail> {
+    let plan = Plan::read(rt.alloc(), PLAN.as_bytes())?;
+    for text in [
+        INPUT,
+        r#" { "s" : [ [ ] , [ ] ] } "#,
+        r#"{"s":[[{"watermark":7}],[]],"s":[[],[]]}"#,
+    ] {
+        assert!(rt; is_taken(&rt, &plan, text));
+    }
+    for text in [
+        r#"{"s":7,"s":[[],[]]}"#,
+        r#"{"s":[[],[]],"t":[]}"#,
+        r#"{"s":[[{"rows":[[1,1,-0]]}],[]]}"#,
+        r#"{"s":[[{"rows":[]}],[]]}"#,
+        r#"{"s":[[],[]]}x"#,
+        "{}",
+    ] {
+        assert!(rt; !is_taken(&rt, &plan, text));
+    }
+    Ok(())
+}
+
+#[test]
+fn nested_lists(rt: HostRuntime) -> Result<(), Fail> {
+    let plan = Plan::read(rt.alloc(), PLAN.as_bytes())?;
+    for (depth, want) in [(126, InputFault::Member), (127, InputFault::NotJson)] {
+        let open = "[".repeat(rt.alloc(), depth)?;
+        let close = "]".repeat(rt.alloc(), depth)?;
+        let text = format!(in rt.alloc(); "{{\"s\":{open}{close}}}")?;
+        assert_eq!(rt; fault(&rt, &plan, text.as_str()), Some(want));
     }
     Ok(())
 }
