@@ -23,7 +23,7 @@ use Rattle.logical_plan.specs.PlanData.{PlanData, IsPlan, IsWindow}
 use Rattle.logical_plan.specs.Windows.{passes, is_start, is_window_of}
 use Rattle.logical_plan.specs.Rows.{keeps}
 use Rattle.logical_plan.specs.PlanRecord.{short_bytes, number_bytes, ascending, listed, uid_bytes, cmp_code, filter_condition, having_condition, condition_cmp, condition_bytes, aggregate_bytes, head_bytes, span_bytes, plan_record}
-use Rattle.logical_plan.specs.Alike.{HasValues, EqualRecords}
+use Rattle.logical_plan.specs.Alike.{EqualRecords}
 use Rattle.logical_plan.proofs.Starts.{lifted, natural, remainder}
 use Rattle.logical_plan.proofs.Bytes.{always, is_i64, cons_split, short_tells, number_tells, listed_tells, uid_tells, condition_tells, aggregate_tells}
 use Rattle.logical_plan.proofs.Members.{all_ascending, any_ascending, conditions_apart, uids_apart}
@@ -113,17 +113,17 @@ all_always : {X : Type 0} (xs : List X) → list_all always xs ≡ true
 all_always [] = refl
 all_always (x ∷ xs) = all_always xs
 
-filters_fit : (p : PlanData) → HasValues p → list_all (λ c. is_i64 c.value) (ascending condition_cmp (map filter_condition p.filters)) ≡ true
-filters_fit p values =
+filters_fit : (p : PlanData) → IsPlan p → list_all (λ c. is_i64 c.value) (ascending condition_cmp (map filter_condition p.filters)) ≡ true
+filters_fit p sound =
     all_ascending condition_cmp conditions_apart (λ c. is_i64 c.value) (map filter_condition p.filters)
     ∙ list_all-map (λ c. is_i64 c.value) filter_condition p.filters
-    ∙ list_all-from_AllPass (λ f. is_i64 f.value) p.filters (λ k d lt. fits _ (values.filters k d lt))
+    ∙ list_all-from_AllPass (λ f. is_i64 f.value) p.filters (λ k d lt. fits _ (sound.filter_values k d lt))
 
-having_fit : (p : PlanData) → HasValues p → list_all (λ c. is_i64 c.value) (ascending condition_cmp (map having_condition p.window.having)) ≡ true
-having_fit p values =
+having_fit : (p : PlanData) → IsPlan p → list_all (λ c. is_i64 c.value) (ascending condition_cmp (map having_condition p.window.having)) ≡ true
+having_fit p sound =
     all_ascending condition_cmp conditions_apart (λ c. is_i64 c.value) (map having_condition p.window.having)
     ∙ list_all-map (λ c. is_i64 c.value) having_condition p.window.having
-    ∙ list_all-from_AllPass (λ h. is_i64 h.value) p.window.having (λ k d lt. fits _ (values.having k d lt))
+    ∙ list_all-from_AllPass (λ h. is_i64 h.value) p.window.having (λ k d lt. fits _ (sound.having_values k d lt))
 
 -- ---- the parts of a record
 
@@ -177,7 +177,7 @@ nested a b c d f g = simp (append_assoc, append-nil)
 
 pub equal_records : EqualRecords
 unfolding plan_record
-equal_records p q sp sq vp vq e =
+equal_records p q sp sq e =
     let uids = λ (r : PlanData). ascending (slice_cmp nat_cmp) (map (λ s. s.uid) r.sources) in
     let filters = λ (r : PlanData). ascending condition_cmp (map filter_condition r.filters) in
     let having = λ (r : PlanData). ascending condition_cmp (map having_condition r.window.having) in
@@ -185,9 +185,9 @@ equal_records p q sp sq vp vq e =
     let head = head_tells p q _ _ sp sq (sym (parts p) ∙ e ∙ parts q) in
     let span = span_tells p.window q.window _ _ sp.window sq.window head.rest in
     let sources = listed_tells always uid_bytes uid_tells (uids p) (uids q) _ _ (all_always (uids p)) (all_always (uids q)) span.rest in
-    let passing = listed_tells (λ c. is_i64 c.value) condition_bytes condition_tells (filters p) (filters q) _ _ (filters_fit p vp) (filters_fit q vq) sources.1 in
+    let passing = listed_tells (λ c. is_i64 c.value) condition_bytes condition_tells (filters p) (filters q) _ _ (filters_fit p sp) (filters_fit q sq) sources.1 in
     let aggregates = listed_tells always aggregate_bytes aggregate_tells p.window.aggregates q.window.aggregates _ _ (all_always p.window.aggregates) (all_always q.window.aggregates) passing.1 in
-    let kept = listed_tells (λ c. is_i64 c.value) condition_bytes condition_tells (having p) (having q) [] [] (having_fit p vp) (having_fit q vq) aggregates.1 in
+    let kept = listed_tells (λ c. is_i64 c.value) condition_bytes condition_tells (having p) (having q) [] [] (having_fit p sp) (having_fit q sq) aggregates.1 in
     record {
       columns = head.columns;
       max = head.max;

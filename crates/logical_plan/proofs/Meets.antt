@@ -1,5 +1,6 @@
 -- A text that meets every requirement is a plan's.
-use Rattle.std.proofs.Common.{◌≡◌, ℕ, ◌^◌, ◌<◌, ◌≤◌, ℤ, pos, negsuc, neg_ℤ, ◌*ℤ◌, ◌≤ℤ◌, ◌<ℤ◌, Bool, true, false, cond, ◌&&◌, List, map, length, get_or, ◌++◌, [], ◌∷◌, Option, None, Some, refl, ap, sym, ◌∙◌, arith}
+use Rattle.std.proofs.Common.{FitsSigned, ◌≡◌, ℕ, ◌^◌, ◌<◌, ◌≤◌, ℤ, pos, negsuc, neg_ℤ, ◌*ℤ◌, ◌≤ℤ◌, ◌<ℤ◌, Bool, true, false, cond, ◌&&◌, List, map, length, get_or, ◌++◌, [], ◌∷◌, Option, None, Some, refl, ap, sym, ◌∙◌, arith}
+use Rattle.std.specs.Int.{w64}
 use Rattle.std.specs.Prelude.{unsigned_abs, int_lt, int_le, nat_le}
 use Rattle.std.specs.List.{All, list_all}
 use Rattle.std.proofs.lemmas.Bool.{leb-true}
@@ -148,8 +149,8 @@ window_meets t m =
       panes = le_from _ _ m.panes;
     }
 
-pub is_plan : (t : PlanText) → Meets t → IsPlan (plan_data t)
-is_plan t m =
+pub is_plan : (t : PlanText) → Meets t → All (λ f. FitsSigned w64 f.value) (map filter_data t.filters) → All (λ h. FitsSigned w64 h.value) (map having_data t.window.having) → IsPlan (plan_data t)
+is_plan t m filter_values having_values =
     let columns = within 1 16 t.columns m.columns in
     let max = within 1 32768 t.max m.max in
     let sources = nat_within 1 8 (length t.sources) m.sources in
@@ -170,10 +171,12 @@ is_plan t m =
       named = rw (same_uids t) (AllPass-from_list_all is_uid (text_uids t) m.uids);
       distinct = rw (same_uids t) m.distinct;
       filters_few = rw length-map (leb-true _ _ m.filters);
+      filter_values = filter_values;
       window = window_meets t m;
       aggregated = rw length-map aggregates.0;
       aggregates_few = rw length-map aggregates.1;
       having_few = rw length-map (leb-true _ _ m.having);
+      having_values = having_values;
       having_places = rw (length-map t.window.aggregates aggregate_data) (all_map (λ h. is_place (pos (length t.window.aggregates)) h.aggregate) having_data (λ h. h.aggregate < length t.window.aggregates) t.window.having (λ h e. place_within (pos (length t.window.aggregates)) h.aggregate e) m.places);
     }
 

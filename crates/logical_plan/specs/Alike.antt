@@ -1,17 +1,11 @@
 -- Plans that count, keep and group alike.
-use Rattle.std.specs.Prelude.{◌≡◌, ℕ, ℤ, FitsSigned, List, map, bytes_eq}
-use Rattle.std.specs.Int.{w64}
-use Rattle.std.specs.List.{All, list_any}
+use Rattle.std.specs.Prelude.{◌≡◌, ℕ, ℤ, List, map, bytes_eq}
+use Rattle.std.specs.List.{list_any}
 use Rattle.plain_data.specs.Record.{Record}
 use Rattle.logical_plan.specs.PlanData.{PlanData, IsPlan}
 use Rattle.logical_plan.specs.PlanRecord.{plan_record}
 use Rattle.logical_plan.specs.Windows.{passes, is_window_of}
 use Rattle.logical_plan.specs.Rows.{keeps}
-
--- each condition's value is an i64
-pub record HasValues (p : PlanData) : Type 0 where
-  pub filters : All (λ f. FitsSigned w64 f.value) p.filters
-  pub having : All (λ h. FitsSigned w64 h.value) p.window.having
 
 pub record IsAlike (p q : PlanData) : Type 0 where
   pub columns : p.columns ≡ q.columns
@@ -26,4 +20,4 @@ pub record IsAlike (p q : PlanData) : Type 0 where
 
 -- plans with equal records are alike
 abbrev pub EqualRecords : Type 0
-EqualRecords = (p q : PlanData) → IsPlan p → IsPlan q → HasValues p → HasValues q → plan_record p ≡ plan_record q → IsAlike p q
+EqualRecords = (p q : PlanData) → IsPlan p → IsPlan q → plan_record p ≡ plan_record q → IsAlike p q

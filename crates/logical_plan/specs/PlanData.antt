@@ -1,5 +1,6 @@
 -- A plan as contracts see it.
-use Rattle.std.specs.Prelude.{◌≡◌, ℕ, pos, neg_ℤ, ◌*ℤ◌, ◌^◌, ◌<◌, ◌≤◌, ◌≤ℤ◌, ◌<ℤ◌, true, List, [], ◌∷◌, ◌++◌, map, length}
+use Rattle.std.specs.Prelude.{◌≡◌, ℕ, pos, neg_ℤ, ◌*ℤ◌, ◌^◌, ◌<◌, ◌≤◌, ◌≤ℤ◌, ◌<ℤ◌, FitsSigned, true, List, [], ◌∷◌, ◌++◌, map, length}
+use Rattle.std.specs.Int.{w64}
 use Rattle.std.specs.List.{All}
 use Rattle.logical_plan.specs.Uids.{is_uid, are_distinct}
 use Rattle.logical_plan.specs.declared.spec.SourceSpec.{SourceSpec}
@@ -56,8 +57,10 @@ pub record IsPlan (p : PlanData) : Type 0 where
   pub named : All (λ uid. is_uid uid ≡ true) (uids p)
   pub distinct : are_distinct (uids p) ≡ true
   pub filters_few : length p.filters ≤ 32
+  pub filter_values : All (λ f. FitsSigned w64 f.value) p.filters
   pub window : IsWindow p.window
   pub aggregated : 1 ≤ length p.window.aggregates
   pub aggregates_few : length p.window.aggregates ≤ 8
   pub having_few : length p.window.having ≤ 32
+  pub having_values : All (λ h. FitsSigned w64 h.value) p.window.having
   pub having_places : All (λ h. h.aggregate < length p.window.aggregates) p.window.having

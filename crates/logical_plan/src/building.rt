@@ -1,7 +1,8 @@
 //! From a text that meets every requirement to its plan.
 
-ghost use Rattle.std.specs.Prelude.{◌≡◌, ◌<◌, true, None, map, pos, unsigned_abs, IfOk};
-ghost use Rattle.std.specs.List.{list_all};
+ghost use Rattle.std.specs.Prelude.{◌≡◌, ◌<◌, FitsSigned, true, None, map, pos, unsigned_abs, IfOk};
+ghost use Rattle.std.specs.Int.{w64};
+ghost use Rattle.std.specs.List.{All, list_all};
 ghost use Rattle.logical_plan.specs.Places.{texts};
 ghost use Rattle.logical_plan.specs.Requirements.{is_within, is_place, is_aggregate_of, requirements, first_unmet, text_uids};
 ghost use Rattle.logical_plan.specs.Answer.{source_data, filter_data, aggregate_data, having_data, window_data, plan_data};
@@ -47,7 +48,8 @@ fn source_specs(alloc: Global, sources: Items<SourceText>) -> Result<Items<Sourc
 fn filter_spec(filter: FilterText, columns: i64) -> FilterSpec
     requires columns { is_within (pos 1) (pos 16) columns ≡ true }
     requires column { is_place columns filter.column ≡ true }
-    ensures { result ≡ filter_data filter }
+    ensures says { result ≡ filter_data filter }
+    ensures fits { FitsSigned w64 result.value }
 {
     let FilterText {
         uid,
@@ -70,7 +72,8 @@ fn filter_specs(
 ) -> Result<Items<FilterSpec>, AllocError>
     requires columns { is_within (pos 1) (pos 16) columns ≡ true }
     requires within { list_all (λ f. is_place columns f.column) filters ≡ true }
-    ensures { IfOk result (λ specs. specs ≡ map filter_data filters) }
+    ensures says { IfOk result (λ specs. specs ≡ map filter_data filters) }
+    ensures fit { IfOk result (λ specs. All (λ f. FitsSigned w64 f.value) specs) }
 {
     let mut specs = Vec::new(alloc);
     for filter in filters.into_vec() {
@@ -110,7 +113,8 @@ fn aggregate_specs(
 
 fn having_spec(having: HavingText) -> Having
     requires { is_place (pos 8) having.aggregate ≡ true }
-    ensures { result ≡ having_data having }
+    ensures says { result ≡ having_data having }
+    ensures fits { FitsSigned w64 result.value }
 {
     Having {
         aggregate: having.aggregate as u32,
@@ -121,7 +125,8 @@ fn having_spec(having: HavingText) -> Having
 
 fn having_specs(alloc: Global, having: &[HavingText]) -> Result<Items<Having>, AllocError>
     requires { list_all (λ h. is_place (pos 8) h.aggregate) having.now ≡ true }
-    ensures { IfOk result (λ specs. specs ≡ map having_data having.now) }
+    ensures says { IfOk result (λ specs. specs ≡ map having_data having.now) }
+    ensures fit { IfOk result (λ specs. All (λ h. FitsSigned w64 h.value) specs) }
 {
     let mut specs = Vec::new(alloc);
     for condition in having {
@@ -140,7 +145,8 @@ fn window_spec(
     requires columns { is_within (pos 1) (pos 16) columns ≡ true }
     requires aggregates { list_all (is_aggregate_of columns) window.aggregates ≡ true }
     requires having { list_all (λ h. is_place (pos 8) h.aggregate) window.having ≡ true }
-    ensures { IfOk result (λ spec. spec ≡ window_data time key window) }
+    ensures says { IfOk result (λ spec. spec ≡ window_data time key window) }
+    ensures fit { IfOk result (λ spec. All (λ h. FitsSigned w64 h.value) spec.having) }
 {
     let WindowText {
         uid,

@@ -1,7 +1,10 @@
-use Rattle.std.proofs.Common.{◌≡◌, map, rules, arith, refl, ap, sym, ◌∙◌}
+use Rattle.std.proofs.Common.{◌≡◌, map, rules, arith, refl, ap, sym, subst, ◌∙◌, FitsSigned}
 use Rattle.std.specs.Prelude.{unsigned_abs}
+use Rattle.std.specs.Int.{w64}
+use Rattle.std.specs.List.{All}
+use Rattle.logical_plan.specs.declared.spec.WindowSpec.{WindowSpec}
 use Rattle.logical_plan.specs.PlanData.{plan_data_of, uids}
-use Rattle.logical_plan.specs.Answer.{source_data, filter_data, window_data, plan_data}
+use Rattle.logical_plan.specs.Answer.{source_data, filter_data, having_data, window_data, plan_data}
 use Rattle.logical_plan.proofs.Meets.{meets, is_plan, same_uids, is_small, is_small_place, having_places}
 use Rattle.logical_plan.proofs.building.plan_of.Goals as goal
 
@@ -57,7 +60,12 @@ built c =
     rw (columns, max, sources, filters, window, time, key) refl
 
 pub new-requires-clause-sound : goal.new-requires-clause-sound
-new-requires-clause-sound c = rw (built c) (is_plan c.args.text (meets c.args.text c.requires.met))
+new-requires-clause-sound c =
+    let filters : c.in_ok-filters.filters ≡ map filter_data c.args.text.filters = search rules in
+    let having : c.in_ok-window.window.having ≡ map having_data c.args.text.window.having = ap (λ (w : WindowSpec). w.having) c.in_ok-window.ensures.says in
+    let filters_fit = subst (All (λ f. FitsSigned w64 f.value)) filters c.in_ok-filters.ensures.fit in
+    let having_fit = subst (All (λ h. FitsSigned w64 h.value)) having c.in_ok-window.ensures.fit in
+    rw (built c) (is_plan c.args.text (meets c.args.text c.requires.met) filters_fit having_fit)
 
 pub new-requires-clause-places : goal.new-requires-clause-places
 new-requires-clause-places c = c.requires.places ∙ sym (ap uids (built c) ∙ same_uids c.args.text)
