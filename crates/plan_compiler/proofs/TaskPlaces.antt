@@ -1,5 +1,5 @@
 -- The places of tasks, one after another.
-use Rattle.std.proofs.Common.{◌≡◌, ℕ, zero, suc, ◌+◌, ◌<◌, ◌≤◌, List, [], ◌∷◌, ◌++◌, length, map, get_or, None, append-nil, append_assoc, refl, sym, ap, ◌∙◌, arith}
+use Rattle.std.proofs.Common.{◌≡◌, ℕ, zero, suc, ◌+◌, ◌<◌, ◌≤◌, List, [], ◌∷◌, ◌++◌, length, map, get_or, None, append-nil, append_assoc, refl, sym, ap, subst, ◌∙◌, arith}
 use Rattle.std.proofs.lemmas.List.{get_or_default}
 use Rattle.std.proofs.lemmas.List.FromFn.{length-map-range_with_len, map-range_with_len_more, get_or-map-range_with_len}
 use Rattle.std.specs.List.{range_with_len}
@@ -69,3 +69,7 @@ stage_at_place stages places t d e l =
 
 pub stage_wide : (stages : List Stage) (t : ℕ) → t < tasks stages → 0 < (its_stage stages t).parallelism
 stage_wide stages t l = let r = row_is (width stages) (length stages) t l in omega (arith, r.1, r.2)
+
+-- a task of stages is one of them as a value's fields show them
+pub task_seen : (seen stages : List Stage) (t : ℕ) → seen ≡ stages → t < tasks stages → t < tasks seen
+task_seen seen stages t e l = subst (λ ss. t < tasks ss) (sym e) l
