@@ -221,9 +221,7 @@ fn write_groups_at(
 }
 
 /// How many tasks there are.
-#[tactic(auto, using(plan_compiler::proofs::TaskPlaces::place_count))]
 fn task_count(layout: &Layout) -> u32
-    requires { tasks_said layout.now.stages ≤ 256 }
     ensures { result ≡ tasks_said layout.now.stages }
 {
     layout.tasks().len() as u32
@@ -241,7 +239,6 @@ fn place_of(layout: &Layout, task: u32) -> TaskPlace
 
 /// A line for each subtask of a source.
 fn write_source_tasks(text: &mut String, layout: &Layout) -> Result<(), AllocError>
-    requires { tasks_said layout.now.stages ≤ 256 }
     ensures { OnOk result (string_bytes text.new ≡ string_bytes text.old ++ of_each (tasks_said layout.now.stages) (partitions_text layout.now.partitions layout.now.stages)) }
 {
     for task in 0..task_count(layout) {
@@ -257,8 +254,7 @@ fn write_window_tasks(
     max: MaxParallelism,
     layout: &Layout,
 ) -> Result<(), AllocError>
-    requires few { tasks_said layout.now.stages ≤ 256 }
-    requires window { WindowHasSubtasks max layout.now.stages }
+    requires { WindowHasSubtasks max layout.now.stages }
     ensures { OnOk result (string_bytes text.new ≡ string_bytes text.old ++ of_each (tasks_said layout.now.stages) (groups_text max layout.now.stages)) }
 {
     for task in 0..task_count(layout) {
