@@ -6,12 +6,12 @@ use Rattle.layout_rules.specs.declared.stage.Operator.{Operator}
 use Rattle.layout_rules.specs.declared.stage.Operator.TheVariants.{Source, Filter, Window, Sink}
 use Rattle.layout_rules.specs.declared.stage.Stage.{Stage}
 use Rattle.layout_rules.specs.Scale.{ScaleData, IsScale, IsParallelism}
-use Rattle.layout_rules.specs.Stages.{sources, role_of, is_window, stage_at, width, tasks, stage_of}
+use Rattle.layout_rules.specs.Stages.{sources, role_of, is_window, stage_at, width, stage_of}
 use Rattle.layout_rules.specs.Rules.{IsCompiled, width_of, stages_of}
 use Rattle.layout_rules.proofs.Rows.{row_is}
 use Rattle.layout_rules.proofs.Once.{compiled_once, compiled_ever}
 use Rattle.layout_rules.proofs.Shapes.{shaped}
-use Rattle.plan_compiler.specs.LayoutData.{LayoutData, IsLayoutOf, BelongsTo}
+use Rattle.plan_compiler.specs.LayoutData.{LayoutData, IsLayoutOf, IsMadeWith}
 use Rattle.plan_compiler.proofs.CompiledTasks.{stages_few}
 use Rattle.job.specs.Subtask.{WindowHasSubtasks}
 
@@ -37,14 +37,12 @@ stages_made p c l h = compiled_once p c l.stages (stages_of p c) h.stages (compi
 -- what printing a layout asks for
 pub record IsLaid (p : PlanData) (l : LayoutData) : Type 0 where
   pub stages_few : length l.stages ≤ 256
-  pub tasks_few : tasks l.stages ≤ 256
   pub leading : length p.sources ≡ sources l.stages
   pub window : WindowHasSubtasks p.max l.stages
 
-pub laid : (p : PlanData) (l : LayoutData) → IsPlan p → BelongsTo p l → IsLaid p l
+pub laid : (p : PlanData) (l : LayoutData) → IsPlan p → IsMadeWith p l → IsLaid p l
 laid p l ip (c, ic, h) = record {
   stages_few = stages_few p c l.stages ip ic h.stages;
-  tasks_few = rw (stages_made p c l h) ic.tasks_few;
   leading = sym (shaped p c l.stages ip ic h.stages).all_sources;
   window = window_subtasks p c l.stages ic h.stages;
 }

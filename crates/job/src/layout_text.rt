@@ -4,7 +4,7 @@ ghost use Rattle.std.specs.Prelude.{◌≡◌, true, ◌<◌, ◌≤◌, ◌++�
 ghost use Rattle.std.specs.List.{flat_map};
 ghost use Rattle.dataflow_model.specs.Task.{is_source};
 ghost use Rattle.layout_rules.specs.Stages.{after, role_of, is_window, stage_at, width, sources as leading_sources, tasks as tasks_said, place_of as place_said};
-ghost use Rattle.plan_compiler.specs.LayoutData.{BelongsTo};
+ghost use Rattle.plan_compiler.specs.LayoutData.{IsMadeWith};
 ghost use Rattle.job.specs.LayoutText.{spaced, name_of, stage_line, edge_name, edge_line, partitions_line, groups_line, stage_text, edge_text, partitions_at, groups_at, partitions_text, groups_text, of_each, layout_text};
 ghost use Rattle.job.specs.Subtask.{IsSubtask, WindowHasSubtasks};
 
@@ -221,9 +221,7 @@ fn write_groups_at(
 }
 
 /// How many tasks there are.
-#[tactic(auto, using(plan_compiler::proofs::TaskPlaces::place_count))]
 fn task_count(layout: &Layout) -> u32
-    requires { tasks_said layout.now.stages ≤ 256 }
     ensures { result ≡ tasks_said layout.now.stages }
 {
     layout.tasks().len() as u32
@@ -241,7 +239,6 @@ fn place_of(layout: &Layout, task: u32) -> TaskPlace
 
 /// A line for each subtask of a source.
 fn write_source_tasks(text: &mut String, layout: &Layout) -> Result<(), AllocError>
-    requires { tasks_said layout.now.stages ≤ 256 }
     ensures { OnOk result (string_bytes text.new ≡ string_bytes text.old ++ of_each (tasks_said layout.now.stages) (partitions_text layout.now.partitions layout.now.stages)) }
 {
     for task in 0..task_count(layout) {
@@ -257,8 +254,7 @@ fn write_window_tasks(
     max: MaxParallelism,
     layout: &Layout,
 ) -> Result<(), AllocError>
-    requires few { tasks_said layout.now.stages ≤ 256 }
-    requires window { WindowHasSubtasks max layout.now.stages }
+    requires { WindowHasSubtasks max layout.now.stages }
     ensures { OnOk result (string_bytes text.new ≡ string_bytes text.old ++ of_each (tasks_said layout.now.stages) (groups_text max layout.now.stages)) }
 {
     for task in 0..task_count(layout) {
@@ -271,7 +267,7 @@ fn write_window_tasks(
 /// The text of the layout of a plan: its stages, the edges between them, the partitions of each subtask of
 /// a source, and the key groups of each subtask of the window.
 pub fn text_of(alloc: Global, plan: &Plan, layout: &Layout) -> Result<String, AllocError>
-    requires { BelongsTo plan.now layout.now }
+    requires { IsMadeWith plan.now layout.now }
     ensures { IfOk result (λ text. string_bytes text ≡ layout_text plan.now layout.now.stages) }
 {
     let sources = plan.sources().len() as u32;

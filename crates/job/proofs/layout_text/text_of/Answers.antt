@@ -10,11 +10,7 @@ write_edges-requires c =
     let known = laid c.args.plan.now c.args.layout.now c.sources.ensures.sound c.requires in
     record { few = rw c.stages-2.ensures known.stages_few; leading = rw (c.stages-2.ensures, c.sources.ensures.says) known.leading }
 
-pub write_source_tasks-requires : goal.write_source_tasks-requires
-write_source_tasks-requires c = (laid c.args.plan.now c.args.layout.now c.sources.ensures.sound c.requires).tasks_few
-
 pub write_window_tasks-requires : goal.write_window_tasks-requires
 write_window_tasks-requires c =
-    let known = laid c.args.plan.now c.args.layout.now c.sources.ensures.sound c.requires in
     let max = groups_are _ _ _ _ c.new.ensures c.unwrap-max.ensures ∙ c.max.ensures.says in
-    record { few = known.tasks_few; window = rw max known.window }
+    rw max (laid c.args.plan.now c.args.layout.now c.sources.ensures.sound c.requires).window
