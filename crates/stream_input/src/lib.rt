@@ -4,6 +4,9 @@
 //! where a partition is a list of entries and an entry is `{"rows":[[..],..]}` or `{"watermark":n}`.
 //! What a text says is defined in `specs/InputText` and `specs/Said`, what it must meet in
 //! `specs/Requirements`.
+//!
+//! `tokens` reads a text that meets it in one pass, straight into batches. Any other goes through
+//! `draft`, `check` and `building`, which tell the fault.
 #![tactic(auto)]
 
 mod building;
