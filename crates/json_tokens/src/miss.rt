@@ -1,3 +1,6 @@
+ghost use Rattle.std.specs.Prelude.{◌≡◌};
+ghost use Rattle.json_tokens.specs.declared.miss.Miss.TheVariants.{Memory};
+
 use std::alloc::{AllocError, AllocFailed};
 
 /// Why a text was not read token by token.
@@ -10,12 +13,16 @@ pub enum Miss {
 }
 
 impl From<AllocError> for Miss {
+    ghost from_gives = { λ _ e. e ≡ Memory };
+
     fn from(_e: AllocError) -> Miss {
         Miss::Memory
     }
 }
 
 impl<T: Drop> From<AllocFailed<T>> for Miss {
+    ghost from_gives = { λ _ e. e ≡ Memory };
+
     fn from(_e: AllocFailed<T>) -> Miss {
         Miss::Memory
     }

@@ -1,6 +1,6 @@
 //! The tokens around values.
-ghost use Rattle.std.specs.Prelude.{◌≡◌, ◌<◌, ◌∷◌, [], Some, None, IfOk, OnOk, length, option_map};
-ghost use Rattle.json.specs.Token.{begin_array, begin_object};
+ghost use Rattle.std.specs.Prelude.{◌≡◌, ◌≢◌, ◌<◌, ◌∷◌, [], ℕ, List, Some, None, IfOk, OnOk, OnErr, length, option_map};
+ghost use Rattle.json.specs.Token.{Token as SpecToken, begin_array, begin_object};
 ghost use Rattle.json.specs.Json.{read_key};
 
 use crate::miss::Miss;
@@ -9,7 +9,8 @@ use json::{Reader, Token};
 /// Passes the bracket that opens a list. `Reader::take_end_array` passes the one that closes it.
 #[inline(always)]
 pub fn open_list(reader: &mut Reader<'_>) -> Result<(), Miss>
-    ensures { OnOk result (reader.old ≡ begin_array ∷ reader.new) }
+    ensures passed { OnOk result (reader.old ≡ begin_array ∷ reader.new) }
+    ensures refused { OnErr result ((ts : List SpecToken) → reader.old ≢ begin_array ∷ ts) }
 {
     match reader.next() {
         Some(Token::BeginArray) => Ok(()),
@@ -20,7 +21,8 @@ pub fn open_list(reader: &mut Reader<'_>) -> Result<(), Miss>
 /// Passes the brace that opens an object.
 #[inline(always)]
 pub fn open_object(reader: &mut Reader<'_>) -> Result<(), Miss>
-    ensures { OnOk result (reader.old ≡ begin_object ∷ reader.new) }
+    ensures passed { OnOk result (reader.old ≡ begin_object ∷ reader.new) }
+    ensures refused { OnErr result ((ts : List SpecToken) → reader.old ≢ begin_object ∷ ts) }
 {
     match reader.next() {
         Some(Token::BeginObject) => Ok(()),
@@ -31,7 +33,8 @@ pub fn open_object(reader: &mut Reader<'_>) -> Result<(), Miss>
 /// The name of the next member of an object, or None past the brace that closes it.
 #[inline(always)]
 pub fn next_key<'a>(reader: &mut Reader<'a>) -> Result<Option<&'a str>, Miss>
-    ensures { IfOk result (λ k. read_key reader.old ≡ Some (option_map (λ s. s.now) k, reader.new)) }
+    ensures said { IfOk result (λ k. read_key reader.old ≡ Some (option_map (λ s. s.now) k, reader.new)) }
+    ensures refused { OnErr result (read_key reader.old ≡ None) }
 {
     match reader.next_key() {
         Ok(key) => Ok(key),
@@ -44,6 +47,7 @@ pub fn next_key<'a>(reader: &mut Reader<'a>) -> Result<Option<&'a str>, Miss>
 pub fn next_name<'a>(reader: &mut Reader<'a>) -> Result<&'a str, Miss>
     ensures said { IfOk result (λ name. read_key reader.old ≡ Some (Some name.now, reader.new)) }
     ensures shorter { OnOk result (length reader.new < length reader.old) }
+    ensures refused { OnErr result ((name : List ℕ) → (ts : List SpecToken) → read_key reader.old ≢ Some (Some name, ts)) }
 {
     match reader.next_key() {
         Ok(Some(name)) => Ok(name),
@@ -56,6 +60,7 @@ pub fn next_name<'a>(reader: &mut Reader<'a>) -> Result<&'a str, Miss>
 pub fn close_object(reader: &mut Reader<'_>) -> Result<(), Miss>
     ensures said { OnOk result (read_key reader.old ≡ Some (None, reader.new)) }
     ensures shorter { OnOk result (length reader.new < length reader.old) }
+    ensures refused { OnErr result ((ts : List SpecToken) → read_key reader.old ≢ Some (None, ts)) }
 {
     match reader.next_key() {
         Ok(None) => Ok(()),
@@ -66,7 +71,8 @@ pub fn close_object(reader: &mut Reader<'_>) -> Result<(), Miss>
 /// Nothing but white space is left of the text.
 #[inline(always)]
 pub fn end(reader: &mut Reader<'_>) -> Result<(), Miss>
-    ensures { OnOk result (reader.old ≡ []) }
+    ensures passed { OnOk result (reader.old ≡ []) }
+    ensures refused { OnErr result (reader.old ≢ []) }
 {
     match reader.next() {
         None => Ok(()),

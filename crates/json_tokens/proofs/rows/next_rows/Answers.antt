@@ -9,5 +9,5 @@ pub returns-clause-said : goal.returns-clause-said
 returns-clause-said c =
     let f = row_text c.args.width in
     let told = c.in_ok-rows_onto.ensures.said in
-    let opened = ap (part (list_text f) c.args.depth) c.in_ok-open_list.ensures ∙ list_opens f c.args.depth c.open_list.new.reader (omega arith) ∙ told.1 in
+    let opened = ap (part (list_text f) c.args.depth) c.in_ok-open_list.ensures.passed ∙ list_opens f c.args.depth c.open_list.new.reader (omega arith) ∙ told.1 in
     (told.0, opened, told.2)

@@ -23,7 +23,7 @@ returns-then-eq-clause-said c =
     let cells : c.deref.result.now ≡ joined rs = c.deref.ensures.value ∙ told.2 ∙ ap (λ xs. xs ++ joined rs) c.clear.ensures.items in
     let fits : (found : List (List (Option ℤ))) → is_wide columns (rows found) ≡ true → is_whole (rows found) ≡ true → rs ≡ map record_of found → if_fit columns time (rows found) ≡ Some (Rows c.in_ok-batch.batch) =
     λ found wide every are. rw (width, c.window.ensures.says) at (c.in_ok-batch.ensures found (rw width wide) every (sym (cells ∙ ap joined are))) in
-    ap (part (fit_entry columns time) c.args.depth) c.in_ok-open_object.ensures
+    ap (part (fit_entry columns time) c.args.depth) c.in_ok-open_object.ensures.passed
     ∙ one_member (list_text (row_text columns)) (fit_entry columns time) c.args.depth k _ _ _ _ rs (Rows c.in_ok-batch.batch) (omega arith) c.in_ok-name.ensures.said (rw width at told.1)
     c.in_ok-close_object.ensures.said c.in_ok-name.ensures.shorter c.in_ok-next_rows.ensures.shorter (rows_fit columns time k rs (Rows c.in_ok-batch.batch) same fits)
 
@@ -36,6 +36,6 @@ returns-then-eq-2-clause-said c =
     let same : bytes_eq k (codes "watermark") ≡ true = search rules in
     let timely : is_time z ≡ true = rw (to_z-of_z {w = w64} {z = z} c.in_ok-time.ensures.fits) at (sym c.is_time.ensures ∙ c.if-not-is_time.false) in
     rw (to_z-of_z {w = w64} {z = z} c.in_ok-time.ensures.fits)
-    (ap (part (fit_entry columns time) c.args.depth) c.in_ok-open_object.ensures
+    (ap (part (fit_entry columns time) c.args.depth) c.in_ok-open_object.ensures.passed
     ∙ one_member whole (fit_entry columns time) c.args.depth k _ _ _ _ z (Watermark z) (omega arith) c.in_ok-name.ensures.said (c.in_ok-time.ensures.said _) c.in_ok-close_object-2.ensures.said c.in_ok-name.ensures.shorter
     c.in_ok-time.ensures.shorter (watermark_fit columns time k z same timely))

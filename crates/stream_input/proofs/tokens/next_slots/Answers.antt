@@ -40,4 +40,4 @@ returns c =
     let l = c.members in
     let r = c.next_key.new.reader in
     let named : read_key l.reader ≡ Some (None, r) = grind arith in
-    (l.invariant.0, ap (λ ts. converted of_json (value c.args.depth ts)) c.in_ok-open_object.ensures ∙ members_over c.args.depth c.open_object.new.reader l.reader r l.invariant.0 (omega arith) l.invariant.1 named, l.invariant.2)
+    (l.invariant.0, ap (λ ts. converted of_json (value c.args.depth ts)) c.in_ok-open_object.ensures.passed ∙ members_over c.args.depth c.open_object.new.reader l.reader r l.invariant.0 (omega arith) l.invariant.1 named, l.invariant.2)

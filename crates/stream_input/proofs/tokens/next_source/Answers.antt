@@ -30,5 +30,5 @@ returns-clause-said c =
     let l = c.partitions in
     let start = c.open_list.new.reader in
     rw c.from_vec.ensures
-    (ap (part (list_text f) c.args.depth) c.in_ok-open_list.ensures ∙ list_opens f c.args.depth start (omega arith)
+    (ap (part (list_text f) c.args.depth) c.in_ok-open_list.ensures.passed ∙ list_opens f c.args.depth start (omega arith)
     ∙ items_over f (c.args.depth - 1) start l.reader c.take_end_array.new.self l.partitions.items l.invariant (grind arith))
