@@ -16,7 +16,7 @@ use Rattle.stream_input.specs.Said.{number_of, record_of}
 use Rattle.stream_input.specs.Requirements.{is_wide, is_whole, is_time, is_timely}
 use Rattle.stream_input.specs.Fit.{column_in_cells, is_fit, if_fit}
 use Rattle.stream_input.proofs.Drafts.{list_all_map}
-use Rattle.stream_input.proofs.Tables.{table_is}
+use Rattle.stream_input.proofs.Tables.{count_of, column_among, table_is}
 
 abbrev IsEven : ℕ → List Record → Type 0
 IsEven width records = All (λ r. length r ≡ width) records
@@ -56,14 +56,6 @@ even_records : (width : ℕ) (found : List (List (Option ℤ))) → is_wide widt
 even_records width found wide =
     All-map (λ (r : Record). length r ≡ width) record_of found
     (λ k d h. length-map (get_or found k d) number_of ∙ eqb-true (length (get_or found k d)) width (AllPass-from_list_all (λ row. length row == width) found wide k d h))
-
-pub count_of : (columns : List (Vec ℤ Global)) (f : ℕ → List ℤ) (width : ℕ) → map (λ c. c.items) columns ≡ map f (range_with_len 0 width) → length columns ≡ width
-count_of columns f width are = sym (length-map columns (λ (c : Vec ℤ Global). c.items)) ∙ ap (length {A = List ℤ}) are ∙ length-map-range_with_len f 0 width
-
-column_among : (columns : List (Vec ℤ Global)) (f : ℕ → List ℤ) (width k : ℕ) (d : Vec ℤ Global) → map (λ c. c.items) columns ≡ map f (range_with_len 0 width) → k < length columns → (get_or columns k d).items ≡ f k
-column_among columns f width k d are k_in =
-    let in_width : k < width = rw (← count_of columns f width are) k_in in
-    sym (get_or-map (λ (c : Vec ℤ Global). c.items) columns k d [] k_in) ∙ ap (λ l. get_or l k []) are ∙ get_or-map-range_with_len f 0 width k k [] in_width (omega arith)
 
 pub columns_even : (columns : List (Vec ℤ Global)) (width count : ℕ) (cells : List ℤ) → map (λ c. c.items) columns ≡ map (column_in_cells width count cells) (range_with_len 0 width)
     → All (λ c. length c.items ≡ count) columns

@@ -11,17 +11,11 @@ use Rattle.stream_input.specs.declared.entry.Entry.{Entry}
 use Rattle.stream_input.specs.InputText.{EntryText, entry_text}
 use Rattle.stream_input.specs.Said.{number_of, record_of, entry_of}
 use Rattle.stream_input.specs.Fit.{is_fit, if_fit, fit_entry}
+use Rattle.stream_input.proofs.Slots.{and_then_parts, same_some}
 
 -- where `strict` says x, `wide` says what x is built of, and that is good
 abbrev pub Refines : {X T : Type 0} → (Data → Option X) → (Data → Option T) → (T → Bool) → (T → X) → Type 0
 Refines {X = X} {T = T} strict wide good build = (d : Data) (x : X) → strict d ≡ Some x → (t : T) × (wide d ≡ Some t) × (x ≡ build t) × (good t ≡ true)
-
-and_then_parts : {A B : Type 0} (g : A → Option B) (o : Option A) (b : B) → option_and_then g o ≡ Some b → (a : A) × (o ≡ Some a) × (g a ≡ Some b)
-and_then_parts g None b e = absurd (cc)
-and_then_parts g (Some a) b e = (a, refl, e)
-
-same_some : {A : Type 0} (a b : A) → Some a ≡ Some b → a ≡ b
-same_some a b e = cc
 
 module _ {X T : Type 0} (strict : Data → Option X) (wide : Data → Option T) (good : T → Bool) (build : T → X) (refines : Refines strict wide good build) where
   each_refines : (ds : List Data) (xs : List X) → each strict ds ≡ Some xs → (ts : List T) × (each wide ds ≡ Some ts) × (xs ≡ map build ts) × (list_all good ts ≡ true)

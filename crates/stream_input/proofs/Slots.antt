@@ -18,11 +18,11 @@ pub put_pair : {X : Type 0} → List ℕ → X → List (List ℕ × X) → List
 put_pair k x [] = (k, x) ∷ []
 put_pair k x (p ∷ ps) = match_ordering (slice_cmp nat_cmp k p.0) ((k, x) ∷ p ∷ ps) ((p.0, x) ∷ ps) (p ∷ put_pair k x ps)
 
-and_then_parts : {A B : Type 0} (g : A → Option B) (o : Option A) (b : B) → option_and_then g o ≡ Some b → (a : A) × (o ≡ Some a) × (g a ≡ Some b)
+pub and_then_parts : {A B : Type 0} (g : A → Option B) (o : Option A) (b : B) → option_and_then g o ≡ Some b → (a : A) × (o ≡ Some a) × (g a ≡ Some b)
 and_then_parts g None b e = absurd (cc)
 and_then_parts g (Some a) b e = (a, refl, e)
 
-same_some : {A : Type 0} (a b : A) → Some a ≡ Some b → a ≡ b
+pub same_some : {A : Type 0} (a b : A) → Some a ≡ Some b → a ≡ b
 same_some a b e = cc
 
 module _ {X : Type 0} (f : Data → Option X) where

@@ -19,19 +19,21 @@ use Rattle.stream_input.specs.Said.{number_of, record_of, partitions_under}
 use Rattle.stream_input.specs.Requirements.{every_entry}
 use Rattle.stream_input.proofs.Drafts.{list_all_map, wide_rows}
 
+-- columns of which the k-th has the numbers f k
+pub count_of : (columns : List (Vec ℤ Global)) (f : ℕ → List ℤ) (width : ℕ) → map (λ c. c.items) columns ≡ map f (range_with_len 0 width) → length columns ≡ width
+count_of columns f width are = sym (length-map columns (λ (c : Vec ℤ Global). c.items)) ∙ ap (length {A = List ℤ}) are ∙ length-map-range_with_len f 0 width
+
+pub column_among : (columns : List (Vec ℤ Global)) (f : ℕ → List ℤ) (width k : ℕ) (d : Vec ℤ Global) → map (λ c. c.items) columns ≡ map f (range_with_len 0 width) → k < length columns → (get_or columns k d).items ≡ f k
+column_among columns f width k d are k_in =
+    let in_width : k < width = rw (← count_of columns f width are) k_in in
+    sym (get_or-map (λ (c : Vec ℤ Global). c.items) columns k d [] k_in) ∙ ap (λ l. get_or l k []) are ∙ get_or-map-range_with_len f 0 width k k [] in_width (omega arith)
+
 -- each column of records is as long as there are records
-pub columns_are : (columns : List (Vec ℤ Global)) (records : List (List ℤ)) (width : ℕ)
+columns_are : (columns : List (Vec ℤ Global)) (records : List (List ℤ)) (width : ℕ)
     → map (λ c. c.items) columns ≡ map (λ c. column_of c records) (range_with_len 0 width)
     → (length columns ≡ width) × All (λ column. length column.items ≡ length records) columns
 columns_are columns records width are =
-    let count : length columns ≡ width =
-    sym (length-map columns (λ (c : Vec ℤ Global). c.items)) ∙ ap (length {A = List ℤ}) are ∙ length-map-range_with_len (λ c. column_of c records) 0 width in (
-      count,
-      λ k d k_in.
-          let in_width : k < width = rw (← count) k_in in
-          ap (length {A = ℤ}) (sym (get_or-map (λ (c : Vec ℤ Global). c.items) columns k d [] k_in) ∙ ap (λ l. get_or l k []) are ∙ get_or-map-range_with_len (λ c. column_of c records) 0 width k k [] in_width (omega arith))
-          ∙ length-map records (at k),
-    )
+    (count_of columns (λ c. column_of c records) width are, λ k d h. ap (length {A = ℤ}) (column_among columns (λ c. column_of c records) width k d are h) ∙ length-map records (at k))
 
 -- the table of the columns of records
 pub table_is : (columns : List (Vec ℤ Global)) (records : List (List ℤ)) (count width : ℕ) → length records ≡ count

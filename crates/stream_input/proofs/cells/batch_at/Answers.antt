@@ -2,7 +2,8 @@ use Rattle.std.proofs.Common.{◌≡◌, ◌/◌, true, get_or, length, ℤ, Vec
 use Rattle.std.specs.List.{list_all}
 use Rattle.stream_input.specs.Requirements.{is_time}
 use Rattle.stream_input.specs.Fit.{column_in_cells}
-use Rattle.stream_input.proofs.FitRows.{count_of, columns_even, fit_batch}
+use Rattle.stream_input.proofs.FitRows.{columns_even, fit_batch}
+use Rattle.stream_input.proofs.Tables.{count_of}
 use Rattle.stream_input.proofs.cells.batch_at.Goals as goal
 
 pub index-requires : goal.index-requires
