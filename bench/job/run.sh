@@ -54,10 +54,14 @@ fi
 
 for records in ${sizes:-1000000}; do
   "$folder/generate" "$folder/plan.json" "$folder/input.json" "records=$records" $shape
+  set --
+  if [ "$records" -le 1000000 ]; then
+    set -- ${sqlite:+sqlite "$sqlite"} ${pandas:+pandas "$pandas"} ${miller:+miller "$miller"}
+  fi
   echo
   echo "$records records$shape, $(wc -c <"$folder/input.json") bytes"
   python3 "$here/compare.py" "${RUNS:-3}" \
     plain "$folder/plain $words" \
     streamjob "$program run $folder/plan.json $folder/input.json" \
-    ${sqlite:+sqlite "$sqlite"} ${pandas:+pandas "$pandas"} ${miller:+miller "$miller"}
+    "$@"
 done
