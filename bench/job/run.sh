@@ -1,6 +1,7 @@
 #!/bin/sh
 # Runs the same job with streamjob, with a plain Rust program and with what of SQLite, pandas and Miller
-# the machine has, compares their answers byte for byte, and prints what each took.
+# the machine has, compares their answers byte for byte, and prints what each took. Above 1,000,000 records
+# only the first two run.
 #
 # Words are numbers of records (1000000 where there are none), and name=number for the generator, as
 # keys=10. RUNS is how often each program runs (3), and STREAMJOB another program to run.
