@@ -122,18 +122,6 @@ fires_next w t rows row e left rest all so_far is due same =
     ∙ sym (ap (λ b. rows ++ map (λ x. row_at w x.0 x.1.total) (cond b (e ∷ filter (λ x. is_due w t x.0.start) rest) (filter (λ x. is_due w t x.0.start) rest))) due)
     ∙ ap (λ l. rows ++ rows_due w t l) (sym is) ∙ so_far
 
--- a window that stays
-pub stays_next : (w : WindowSpec) (t : ℤ) (rows : List Row) (e : Place × AccData) (left rest all : List (Place × AccData))
-    → rows ++ rows_due w t left ≡ rows_due w t all → left ≡ e ∷ rest → is_due w t e.0.start ≡ false
-    → rows ++ rows_due w t rest ≡ rows_due w t all
-stays_next w t rows e left rest all so_far is due =
-    sym (ap (λ b. rows ++ map (λ x. row_at w x.0 x.1.total) (cond b (e ∷ filter (λ x. is_due w t x.0.start) rest) (filter (λ x. is_due w t x.0.start) rest))) due)
-    ∙ ap (λ l. rows ++ rows_due w t l) (sym is) ∙ so_far
-
--- a place where nothing stands
-pub none_next : (es : List (Place × AccData)) (p : Place) (left rest : List Place) → left ≡ p ∷ rest → acc_at es p ≡ None → entries_at es left ≡ entries_at es rest
-none_next es p left rest is none = ap (entries_at es) is ∙ ap (λ o. with_entry p o (entries_at es rest)) none
-
 -- a place with an entry
 pub some_next : (es : List (Place × AccData)) (p : Place) (a : AccData) (left rest : List Place) → left ≡ p ∷ rest → acc_at es p ≡ Some a → entries_at es left ≡ (p, a) ∷ entries_at es rest
 some_next es p a left rest is some = ap (entries_at es) is ∙ ap (λ o. with_entry p o (entries_at es rest)) some

@@ -1,53 +1,24 @@
 -- The entries of the windows in the order of their places.
-use Rattle.std.proofs.Common.{◌≡◌, suc, get_or, ℤ, ◌+◌, Bool, true, false, cond, ◌&&◌, ◌||◌, List, [], ◌∷◌, refl, sym, ap, subst, ◌∙◌, arith, Option, Some, None, if◌then◌else◌}
-use Rattle.std.specs.List.{AllByRecursion, IsDistinct, list_any}
-use Rattle.std.specs.List.Sorted.{IsPermutation, IsSorted, IsStrictlySortedBy}
+use Rattle.std.proofs.Common.{◌≡◌, ℤ, Bool, true, false, cond, ◌&&◌, ◌||◌, List, [], ◌∷◌, refl, sym, ap, ◌∙◌, arith, Option, Some, None, if◌then◌else◌}
+use Rattle.std.specs.List.{AllByRecursion, list_any}
+use Rattle.std.specs.List.Sorted.{IsStrictlySortedBy}
 use Rattle.std.specs.Map.{keys_of}
-use Rattle.std.specs.Ordering.{int_eq, int_cmp, is_lt, ordering_then}
+use Rattle.std.specs.Ordering.{int_eq, is_eq}
 use Rattle.std.specs.declared.cmp.Ordering.TheVariants.{Less}
 use Rattle.std.proofs.lemmas.Int.{ints}
-use Rattle.std.proofs.lemmas.List.Sorted.{list_any-IsPermutation}
-use Rattle.std.proofs.lemmas.Map.Keys.{IsDistinct-IsPermutation, IsDistinct-head, IsDistinct-tail}
 use Rattle.logical_plan.specs.declared.spec.Place.{Place}
 use Rattle.logical_plan.specs.Rows.{place_cmp}
 use Rattle.aggregates.specs.Kinds.{AccData}
-use Rattle.window_state.specs.Windows.{is_place, acc_at}
+use Rattle.window_state.specs.Windows.{is_place, acc_at, AreOrdered}
 use Rattle.window_state.specs.Parts.{with_entry, entries_at}
 use Rattle.window_state.proofs.Updates.{place_from_test}
-
--- ---- each place once
-
-up : (a b c d : ℤ) → is_lt (ordering_then (int_cmp b a) (int_cmp d c)) ≡ false → (int_eq a b && int_eq c d) ≡ false → ordering_then (int_cmp a b) (int_cmp c d) ≡ Less
-up a b c d h k = grind (arith, ints)
-
-chain : (a b c x y z : ℤ) → ordering_then (int_cmp a b) (int_cmp x y) ≡ Less → ordering_then (int_cmp b c) (int_cmp y z) ≡ Less → ordering_then (int_cmp a c) (int_cmp x z) ≡ Less
-chain a b c x y z h k = grind (arith, ints)
-
-above : (p q : Place) (ps : List Place) → place_cmp p q ≡ Less → AllByRecursion (λ x. place_cmp q x ≡ Less) ps → AllByRecursion (λ x. place_cmp p x ≡ Less) ps
-above p q [] h k = tt
-above p q (x ∷ ps) h k = (chain p.start q.start x.start p.key q.key x.key h k.0, above p q ps h k.1)
-
-sorted_tail : (p q : Place) (ps : List Place) → IsSorted place_cmp (p ∷ q ∷ ps) → IsSorted place_cmp (q ∷ ps)
-sorted_tail p q ps h k d low high = let e : suc k + 1 ≡ suc (k + 1) = omega arith in subst (λ n. is_lt (place_cmp (get_or (p ∷ q ∷ ps) n d) (get_or (q ∷ ps) k d)) ≡ false) e (h (suc k) d (omega arith) (omega arith))
-
-pub strict : (ps : List Place) → IsSorted place_cmp ps → IsDistinct is_place ps → IsStrictlySortedBy place_cmp ps
-unfolding IsStrictlySortedBy
-strict [] sorted distinct = tt
-strict (p ∷ []) sorted distinct = (tt, tt)
-strict (p ∷ q ∷ ps) sorted distinct =
-    let later = strict (q ∷ ps) (sorted_tail p q ps sorted) (IsDistinct-tail is_place p (q ∷ ps) distinct) in
-    let apart = IsDistinct-head is_place p (q ∷ ps) distinct in
-    let first : place_cmp p q ≡ Less = up p.start q.start p.key q.key (sorted 0 p (omega arith) (omega arith)) apart.0 in
-    ((first, above p q ps first later.0), later)
+use Rattle.window_state.proofs.Entries.{tied}
 
 pub flips : (p q : Place) → is_place p q ≡ is_place q p
 flips p q = flip p.start q.start p.key q.key
   where
     flip : (a b c d : ℤ) → (int_eq a b && int_eq c d) ≡ (int_eq b a && int_eq d c)
     flip a b c d = grind (arith, ints)
-
-pub places_strict : (es : List (Place × AccData)) (ps : List Place) → IsPermutation (keys_of es) ps → IsSorted place_cmp ps → IsDistinct is_place (keys_of es) → IsStrictlySortedBy place_cmp ps
-places_strict es ps same sorted distinct = strict ps sorted (IsDistinct-IsPermutation is_place flips (keys_of es) ps same distinct)
 
 -- ---- the entries at some places
 
@@ -94,17 +65,17 @@ found_among es (p ∷ ps) q = by_case (is_place q p) refl (found_among es ps q)
         skipped (acc_at es p) (entries_at es ps) other ∙ later
         ∙ sym (ap (λ b. if b || list_any (is_place q) ps then acc_at es q else None) other)
 
-not_among : (es : List (Place × AccData)) (q : Place) → list_any (is_place q) (keys_of es) ≡ false → acc_at es q ≡ None
-not_among [] q h = refl
-not_among (e ∷ es) q h = by_case (is_place q e.0) h (not_among es q)
-  where
-    by_case : (b : Bool) → (b || list_any (is_place q) (keys_of es)) ≡ false → (list_any (is_place q) (keys_of es) ≡ false → acc_at es q ≡ None) → cond b (Some e.1) (acc_at es q) ≡ None
-    by_case true k later = absurd cc
-    by_case false k later = later k
+any_place : (ps : List Place) (q : Place) → list_any (λ p. is_eq (place_cmp q p)) ps ≡ list_any (is_place q) ps
+any_place [] q = refl
+any_place (p ∷ ps) q = λ i. tied q p i || any_place ps q i
 
-pub found_at : (es : List (Place × AccData)) (ps : List Place) (q : Place) → IsPermutation (keys_of es) ps → acc_at (entries_at es ps) q ≡ acc_at es q
-found_at es ps q same = found_among es ps q ∙ by_case (list_any (is_place q) ps) refl
+pub found_at : (es : List (Place × AccData)) (ps : List Place) (q : Place) → AreOrdered ps es → acc_at (entries_at es ps) q ≡ acc_at es q
+found_at es ps q order = found_among es ps q ∙ by_case (acc_at es q) refl
   where
-    by_case : (b : Bool) → list_any (is_place q) ps ≡ b → (if b then acc_at es q else None) ≡ acc_at es q
-    by_case true e = refl
-    by_case false e = sym (not_among es q (list_any-IsPermutation (is_place q) (keys_of es) ps same ∙ e))
+    either_none : (b : Bool) → (let none : Option AccData = None in cond b none none ≡ none)
+    either_none true = refl
+    either_none false = refl
+
+    by_case : (o : Option AccData) → acc_at es q ≡ o → (if list_any (is_place q) ps then acc_at es q else None) ≡ acc_at es q
+    by_case None e = ap (λ o. if list_any (is_place q) ps then o else None) e ∙ either_none (list_any (is_place q) ps) ∙ sym e
+    by_case (Some a) e = ap (λ b. if b then acc_at es q else None) (sym (any_place ps q) ∙ order.covered q a e)

@@ -1,12 +1,14 @@
 -- The windows of a state as a function of a place, and what every state's windows meet.
-use Rattle.std.specs.Prelude.{◌≡◌, ℕ, ℤ, pos, neg_ℤ, ◌+◌, ◌^◌, ◌≤◌, ◌<◌, ◌<ℤ◌, length, map, List, Option, Some, option_map, Bool, ◌&&◌}
+use Rattle.std.specs.Prelude.{◌≡◌, ℕ, ℤ, pos, neg_ℤ, ◌+◌, ◌^◌, ◌≤◌, ◌<◌, ◌<ℤ◌, length, map, List, Option, Some, true, option_map, Bool, ◌&&◌}
 use Rattle.std.specs.Map.{keys_of, lookup}
-use Rattle.std.specs.Ordering.{int_eq}
-use Rattle.std.specs.List.{All, IsDistinct}
+use Rattle.std.specs.Ordering.{int_eq, is_eq}
+use Rattle.std.specs.List.{All, IsDistinct, list_any}
+use Rattle.std.specs.List.Sorted.{IsStrictlySortedBy}
 use Rattle.logical_plan.specs.declared.spec.WindowSpec.{WindowSpec}
 use Rattle.logical_plan.specs.declared.spec.Place.{Place}
 use Rattle.logical_plan.specs.PlanData.{IsWindow, has_column}
 use Rattle.logical_plan.specs.Aggregates.{Aggregated}
+use Rattle.logical_plan.specs.Rows.{place_cmp}
 use Rattle.aggregates.specs.Kinds.{AccData, kind_of}
 
 -- p is the place q
@@ -31,6 +33,11 @@ pub record AreWindows (w : WindowSpec) (es : List (Place × AccData)) : Type 0 w
   pub distinct : IsDistinct is_place (keys_of es)
   pub kinds : (q : Place) (a : AccData) → acc_at es q ≡ Some a → a.kinds ≡ map kind_of w.aggregates
   pub starts : (q : Place) (a : AccData) → acc_at es q ≡ Some a → IsStart q.start
+
+-- the places ascend, and each window's is one of them
+pub record AreOrdered (places : List Place) (es : List (Place × AccData)) : Type 0 where
+  pub ordered : IsStrictlySortedBy place_cmp places
+  pub covered : (q : Place) (a : AccData) → acc_at es q ≡ Some a → list_any (λ p. is_eq (place_cmp q p)) places ≡ true
 
 -- each window can take so many records more
 abbrev pub HasRoom : ℕ → List (Place × AccData) → Type 0

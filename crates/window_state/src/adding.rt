@@ -1,24 +1,58 @@
 //! Records brought into windows.
 
-ghost use Rattle.std.specs.Prelude.{◌≡◌, ℕ, ◌+◌, pos, ◌-ℤ◌, ◌-◌, ◌^◌, ◌<◌, ◌≤◌, [], ◌∷◌, length, slice_index_or, OnOk, if◌then◌else◌};
+ghost use Rattle.std.specs.Prelude.{◌≡◌, ℕ, ◌+◌, pos, ◌-ℤ◌, ◌-◌, ◌^◌, ◌<◌, ◌≤◌, [], ◌∷◌, length, slice_index_or, Some, OnOk, OnErr, if◌then◌else◌};
 ghost use Rattle.std.specs.Int.{int_rem_euclid};
-ghost use Rattle.std.specs.List.{All};
+ghost use Rattle.std.specs.List.{All, IsDistinct};
+ghost use Rattle.std.specs.Map.{keys_of};
+ghost use Rattle.logical_plan.specs.declared.spec.WindowSpec.{WindowSpec as WindowSpecValue};
 ghost use Rattle.plain_data.specs.Record.{at};
 ghost use Rattle.logical_plan.specs.declared.spec.Place.{Place as PlaceValue};
 ghost use Rattle.logical_plan.specs.Windows.{IsTime};
 ghost use Rattle.logical_plan.specs.Rows.{aggregate_at};
 ghost use Rattle.logical_plan.specs.Aggregates.{aggregate_of, merge};
 ghost use Rattle.aggregates.specs.Kinds.{AccData};
-ghost use Rattle.window_state.specs.Windows.{AreWindows, CanAggregate, HasRoom, IsStart, acc_at, total_at, is_place};
+ghost use Rattle.window_state.specs.Windows.{AreWindows, AreOrdered, CanAggregate, HasRoom, IsStart, acc_at, total_at, is_place};
 
 use aggregates::Acc;
 use columns::Batch;
 use indexmap::IndexMap;
 use logical_plan::{Place, WindowSpec};
-use std::alloc::AllocError;
+use std::alloc::{AllocError, Global};
+use std::collections::BTreeSet;
 
-/// The open windows: what stands at each place, in no order.
-pub(crate) type Windows = IndexMap<Place, Acc>;
+/// The open windows: what stands at each place, and the places in order. A place at which nothing stands
+/// is left where memory ran out before its accumulator was in.
+#[derive(Drop)]
+pub(crate) struct Windows {
+    pub accs: IndexMap<Place, Acc>,
+    pub places: BTreeSet<Place>,
+}
+
+/// No windows.
+pub(crate) fn no_windows(alloc: Global) -> Windows
+    ensures none { result.accs.entries ≡ [] }
+    ensures windows { (w : WindowSpecValue) → AreWindows w result.accs.entries }
+    ensures order { AreOrdered result.places.keys result.accs.entries }
+{
+    Windows {
+        accs: IndexMap::new(alloc),
+        places: BTreeSet::new(alloc),
+    }
+}
+
+/// Puts an accumulator at a place. Where no memory is to be had, what stands at the places is as it was.
+pub(crate) fn put_at(windows: &mut Windows, place: Place, acc: Acc) -> Result<(), AllocError>
+    requires distinct { IsDistinct is_place (keys_of windows.old.accs.entries) }
+    requires order { AreOrdered windows.old.places.keys windows.old.accs.entries }
+    ensures order { AreOrdered windows.new.places.keys windows.new.accs.entries }
+    ensures distinct { IsDistinct is_place (keys_of windows.new.accs.entries) }
+    ensures put { OnOk result ((q : PlaceValue) → acc_at windows.new.accs.entries q ≡ (if is_place place q then Some acc else acc_at windows.old.accs.entries q)) }
+    ensures err { OnErr result (windows.new.accs.entries ≡ windows.old.accs.entries) }
+{
+    windows.places.insert(place)?;
+    windows.accs.insert(place, acc)?;
+    Ok(())
+}
 
 /// Brings a record in at one place.
 pub(crate) fn add_at(
@@ -31,18 +65,18 @@ pub(crate) fn add_at(
     requires row_in { row < length batch.now.rows }
     requires window { CanAggregate batch.now.width w.now }
     requires start { IsStart place.start }
-    requires windows { AreWindows w.now windows.old.entries }
-    requires room { (a : AccData) → acc_at windows.old.entries place ≡ Some a → a.total.count < 2 ^ 41 }
-    ensures windows { AreWindows w.now windows.new.entries }
-    ensures added { OnOk result ((q : PlaceValue) → total_at windows.new.entries q
-        ≡ (if is_place place q then merge w.now.aggregates (total_at windows.old.entries q) (aggregate_of w.now.aggregates (slice_index_or batch.now.rows row [] ∷ []))
-        else total_at windows.old.entries q)) }
+    requires windows { AreWindows w.now windows.old.accs.entries }
+    requires order { AreOrdered windows.old.places.keys windows.old.accs.entries }
+    requires room { (a : AccData) → acc_at windows.old.accs.entries place ≡ Some a → a.total.count < 2 ^ 41 }
+    ensures windows { AreWindows w.now windows.new.accs.entries }
+    ensures order { AreOrdered windows.new.places.keys windows.new.accs.entries }
+    ensures added { OnOk result ((q : PlaceValue) → total_at windows.new.accs.entries q
+        ≡ (if is_place place q then merge w.now.aggregates (total_at windows.old.accs.entries q) (aggregate_of w.now.aggregates (slice_index_or batch.now.rows row [] ∷ []))
+        else total_at windows.old.accs.entries q)) }
 {
-    match windows.get_mut(&place) {
+    match windows.accs.get_mut(&place) {
         Some(acc) => acc.add(w, batch, row),
-        None => {
-            windows.insert(place, Acc::first(w, batch, row))?;
-        }
+        None => put_at(windows, place, Acc::first(w, batch, row))?,
     }
     Ok(())
 }
@@ -59,11 +93,13 @@ fn add_from(
     requires window { CanAggregate batch.now.width w.now }
     requires time { IsTime (at w.now.time (slice_index_or batch.now.rows row [])) }
     requires rest { int_rem_euclid (at w.now.time (slice_index_or batch.now.rows row []) -ℤ w.now.offset) w.now.slide ≡ pos first }
-    requires windows { AreWindows w.now windows.old.entries }
-    requires room { HasRoom 1 windows.old.entries }
-    ensures windows { AreWindows w.now windows.new.entries }
-    ensures added { OnOk result ((q : PlaceValue) → total_at windows.new.entries q
-        ≡ merge w.now.aggregates (total_at windows.old.entries q) (aggregate_at w.now (slice_index_or batch.now.rows row [] ∷ []) q)) }
+    requires windows { AreWindows w.now windows.old.accs.entries }
+    requires order { AreOrdered windows.old.places.keys windows.old.accs.entries }
+    requires room { HasRoom 1 windows.old.accs.entries }
+    ensures windows { AreWindows w.now windows.new.accs.entries }
+    ensures order { AreOrdered windows.new.places.keys windows.new.accs.entries }
+    ensures added { OnOk result ((q : PlaceValue) → total_at windows.new.accs.entries q
+        ≡ merge w.now.aggregates (total_at windows.old.accs.entries q) (aggregate_at w.now (slice_index_or batch.now.rows row [] ∷ []) q)) }
 {
     let time = batch.value(row, w.time as usize);
     let key = batch.value(row, w.key as usize);
@@ -88,11 +124,13 @@ fn add_record(
     requires row_in { row < length batch.now.rows }
     requires window { CanAggregate batch.now.width w.now }
     requires time { IsTime (at w.now.time (slice_index_or batch.now.rows row [])) }
-    requires windows { AreWindows w.now windows.old.entries }
-    requires room { HasRoom 1 windows.old.entries }
-    ensures windows { AreWindows w.now windows.new.entries }
-    ensures added { OnOk result ((q : PlaceValue) → total_at windows.new.entries q
-        ≡ merge w.now.aggregates (total_at windows.old.entries q) (aggregate_at w.now (slice_index_or batch.now.rows row [] ∷ []) q)) }
+    requires windows { AreWindows w.now windows.old.accs.entries }
+    requires order { AreOrdered windows.old.places.keys windows.old.accs.entries }
+    requires room { HasRoom 1 windows.old.accs.entries }
+    ensures windows { AreWindows w.now windows.new.accs.entries }
+    ensures order { AreOrdered windows.new.places.keys windows.new.accs.entries }
+    ensures added { OnOk result ((q : PlaceValue) → total_at windows.new.accs.entries q
+        ≡ merge w.now.aggregates (total_at windows.old.accs.entries q) (aggregate_at w.now (slice_index_or batch.now.rows row [] ∷ []) q)) }
 {
     let time = batch.value(row, w.time as usize);
     let first = (time - w.offset).rem_euclid(w.slide) as u64;
@@ -107,11 +145,13 @@ pub(crate) fn add_batch(
 ) -> Result<(), AllocError>
     requires window { CanAggregate batch.now.width w.now }
     requires times { All (λ r. IsTime (at w.now.time r)) batch.now.rows }
-    requires windows { AreWindows w.now windows.old.entries }
-    requires room { HasRoom (length batch.now.rows) windows.old.entries }
-    ensures windows { AreWindows w.now windows.new.entries }
-    ensures added { OnOk result ((q : PlaceValue) → total_at windows.new.entries q
-        ≡ merge w.now.aggregates (total_at windows.old.entries q) (aggregate_at w.now batch.now.rows q)) }
+    requires windows { AreWindows w.now windows.old.accs.entries }
+    requires order { AreOrdered windows.old.places.keys windows.old.accs.entries }
+    requires room { HasRoom (length batch.now.rows) windows.old.accs.entries }
+    ensures windows { AreWindows w.now windows.new.accs.entries }
+    ensures order { AreOrdered windows.new.places.keys windows.new.accs.entries }
+    ensures added { OnOk result ((q : PlaceValue) → total_at windows.new.accs.entries q
+        ≡ merge w.now.aggregates (total_at windows.old.accs.entries q) (aggregate_at w.now batch.now.rows q)) }
 {
     for row in 0..batch.len() {
         add_record(windows, w, batch, row)?;

@@ -3,7 +3,7 @@
 ghost use Rattle.std.specs.Prelude.{◌≡◌, not, filter, IfOk};
 ghost use Rattle.logical_plan.specs.Rows.{is_due as due, row_at};
 ghost use Rattle.aggregates.specs.Kinds.{AccData};
-ghost use Rattle.window_state.specs.Windows.{AreWindows, IsOperator, IsStart};
+ghost use Rattle.window_state.specs.Windows.{AreWindows, AreOrdered, IsOperator, IsStart};
 ghost use Rattle.window_state.specs.Firing.{rows_due};
 ghost use Rattle.window_state.specs.Parts.{entries_at};
 
@@ -36,22 +36,21 @@ fn row_of(alloc: Global, w: &WindowSpec, place: Place, acc: &Acc) -> Result<Row,
     })
 }
 
-/// The rows of the windows at some places that fire by the watermark, in the order of the places.
+/// The rows of the windows that fire by the watermark, in order.
 pub(crate) fn rows_of(
     alloc: Global,
     w: &WindowSpec,
     windows: &Windows,
-    places: &[Place],
     watermark: i64,
 ) -> Result<Vec<Row>, AllocError>
     requires operator { IsOperator w.now }
-    requires windows { AreWindows w.now windows.now.entries }
-    ensures { IfOk result (λ rows. rows.items ≡ rows_due w.now watermark (entries_at windows.now.entries places.now)) }
+    requires windows { AreWindows w.now windows.now.accs.entries }
+    ensures { IfOk result (λ rows. rows.items ≡ rows_due w.now watermark (entries_at windows.now.accs.entries windows.now.places.keys)) }
 {
     let mut rows = Vec::new(alloc);
-    for place in places {
-        if let Some(acc) = windows.get(place) {
-            if is_due(w, watermark, place.start) {
+    for place in &windows.places {
+        if is_due(w, watermark, place.start) {
+            if let Some(acc) = windows.accs.get(place) {
                 rows.push(row_of(alloc, w, *place, acc)?)?;
             }
         }
@@ -61,9 +60,16 @@ pub(crate) fn rows_of(
 
 /// Takes the windows out that fire by the watermark.
 pub(crate) fn remove_due(windows: &mut Windows, w: &WindowSpec, watermark: i64)
-    requires { AreWindows w.now windows.old.entries }
-    ensures windows { AreWindows w.now windows.new.entries }
-    ensures left { windows.new.entries ≡ filter (λ e. not (due w.now watermark e.0.start)) windows.old.entries }
+    requires windows { AreWindows w.now windows.old.accs.entries }
+    requires order { AreOrdered windows.old.places.keys windows.old.accs.entries }
+    ensures windows { AreWindows w.now windows.new.accs.entries }
+    ensures order { AreOrdered windows.new.places.keys windows.new.accs.entries }
+    ensures left { windows.new.accs.entries ≡ filter (λ e. not (due w.now watermark e.0.start)) windows.old.accs.entries }
 {
-    windows.retain(|place, _| !is_due(w, watermark, place.start));
+    windows
+        .accs
+        .retain(|place, _| !is_due(w, watermark, place.start));
+    windows
+        .places
+        .retain(|place| !is_due(w, watermark, place.start));
 }

@@ -11,12 +11,11 @@ ghost use Rattle.window_state.specs.Windows.{IsOperator, CanAggregate};
 ghost use Rattle.window_state.specs.State.{HasRoomFor, fired};
 ghost use Rattle.window_state.specs.Parts.{entries_of, IsPartOf};
 
-use crate::adding::{Windows, add_batch};
+use crate::adding::{Windows, add_batch, no_windows, put_at};
 use crate::fault::StateFault;
 use crate::firing::{remove_due, rows_of};
-use crate::parts::{Part, parts_of, places_of};
+use crate::parts::{Part, parts_of};
 use columns::Batch;
-use indexmap::IndexMap;
 use logical_plan::{Row, WindowSpec};
 use std::alloc::Global;
 use std::marker::Model;
@@ -57,7 +56,7 @@ impl WindowState {
         Ok(WindowState {
             alloc,
             window: window.copy(alloc)?,
-            windows: IndexMap::new(alloc),
+            windows: no_windows(alloc),
             has_failed: false,
         })
     }
@@ -100,8 +99,7 @@ impl WindowState {
         if self.has_failed {
             return Err(StateFault::Failed);
         }
-        let places = places_of(self.alloc, &self.windows)?;
-        let rows = rows_of(self.alloc, &self.window, &self.windows, &places, watermark)?;
+        let rows = rows_of(self.alloc, &self.window, &self.windows, watermark)?;
         remove_due(&mut self.windows, &self.window, watermark);
         Ok(rows)
     }
@@ -115,8 +113,7 @@ impl WindowState {
         if self.has_failed {
             return Err(StateFault::Failed);
         }
-        let places = places_of(alloc, &self.windows)?;
-        Ok(parts_of(alloc, &self.windows, &places)?)
+        Ok(parts_of(alloc, &self.windows)?)
     }
 
     /// The state that holds the parts. Where a place stands twice, the first counts.
@@ -138,12 +135,12 @@ impl WindowState {
         }) }
         ensures fault { IfErr result (λ fault. fault ≡ StateFault.Memory) }
     {
-        let mut windows = IndexMap::new(alloc);
+        let mut windows = no_windows(alloc);
         let mut left = parts.len();
         while left > 0 {
             left -= 1;
             let part = &parts[left];
-            windows.insert(part.place, part.acc)?;
+            put_at(&mut windows, part.place, part.acc)?;
         }
         let window = window.copy(alloc)?;
         let has_failed = false;

@@ -4,5 +4,5 @@ use Rattle.window_state.proofs.state.WindowState.new.Goals as goal
 
 pub returns : goal.returns
 returns c =
-    let none = map_none c.new.result.entries c.new.ensures.empty in
+    let none = map_none c.no_windows.result.accs.entries c.no_windows.ensures.none in
     record { made = λ i. record { window = c.in_ok-copy.ensures i; windows = none i; has_failed = false } }
