@@ -1,5 +1,6 @@
 use crate::{
-    Cell, PartError, flag_or, has_only, list_of, list_or_empty, text, text_of, value_of, whole, whole_or,
+    Cell, PartError, flag_or, has_only, list_of, list_or_empty, text, text_of, value_of, whole,
+    whole_or,
 };
 use std::test::Fail;
 
@@ -13,7 +14,10 @@ fn parts(rt: HostRuntime) -> Result<(), Fail> {
     assert_eq!(rt; whole_or(&value, "z", 5)?, 5);
     assert_eq!(rt; text_of(&value, "b")?, "x");
     assert_eq!(rt; text(alloc, &value, "b")?.as_str(), "x");
-    assert_eq!(rt; (flag_or(&value, "f", true)?, flag_or(&value, "z", true)?), (false, true));
+    assert_eq!(rt;
+        (flag_or(&value, "f", true)?, flag_or(&value, "z", true)?),
+        (false, true)
+    );
     assert!(rt; has_only(&value, &["f", "e", "d", "c", "b", "a"]));
     assert!(rt; !has_only(&value, &["a", "b", "c", "d", "f"]));
     let cells = list_of::<Cell>(alloc, &value, "c")?;
