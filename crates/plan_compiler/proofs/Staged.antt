@@ -1,5 +1,5 @@
 -- Operators in stages, from the front on.
-use Rattle.std.proofs.Common.{◌≡◌, ℕ, zero, suc, ◌+◌, List, [], ◌∷◌, ◌++◌, true, false, map, length, append_assoc, append-nil, take, drop, get_or, ◌-◌, ◌<◌, refl, sym, ap, ◌∙◌, arith}
+use Rattle.std.proofs.Common.{◌≡◌, ℕ, zero, suc, ◌+◌, List, [], ◌∷◌, ◌++◌, true, map, length, append_assoc, take, drop, get_or, ◌-◌, ◌<◌, refl, sym, ap, ◌∙◌, arith}
 use Rattle.std.proofs.Math.Seq.{take-length}
 use Rattle.std.proofs.lemmas.Bool.{false≢true}
 use Rattle.std.specs.List.{range_with_len}
@@ -7,7 +7,7 @@ use Rattle.logical_plan.specs.PlanData.{PlanData}
 use Rattle.layout_rules.specs.declared.stage.Operator.{Operator}
 use Rattle.layout_rules.specs.declared.stage.Operator.TheVariants.{Source, Filter, Window, Sink}
 use Rattle.layout_rules.specs.ScaleData.{ScaleData}
-use Rattle.layout_rules.specs.Rules.{sources_from, filters_from, in_order, onto_first, groups, in_stages}
+use Rattle.layout_rules.specs.Rules.{sources_from, filters_from, in_order, onto_first, in_stages}
 use Rattle.layout_rules.proofs.Groups.{headed}
 use Rattle.plan_compiler.specs.Compiling.{continues}
 
@@ -30,10 +30,6 @@ abbrev pub begun : List Operator → List (List Operator) → List (List Operato
 begun g [] = []
 begun g (h ∷ hs) = (g ++ h) ∷ hs
 
-pub begun_by_none : (gs : List (List Operator)) → begun [] gs ≡ gs
-begun_by_none [] = refl
-begun_by_none (h ∷ hs) = refl
-
 goes_on : (p : PlanData) (c : ScaleData) (done : List (List Operator)) (g : List Operator) (o : Operator) (os : List Operator) → continues p c o os ≡ true
     → done ++ begun (g ++ o ∷ []) (in_stages p c os) ≡ done ++ begun g (in_stages p c (o ∷ os))
 goes_on p c done g o [] e = absurd (false≢true e)
@@ -42,14 +38,6 @@ goes_on p c done g o (o' ∷ os) e =
     ap (λ gs. done ++ begun (g ++ o ∷ []) gs) h.2
     ∙ ap (λ xs. done ++ xs ∷ h.1) (append_assoc g (o ∷ []) (o' ∷ h.0))
     ∙ rw e (ap (λ gs. done ++ begun g (onto_first o gs)) (sym h.2))
-
-ends : (p : PlanData) (c : ScaleData) (done : List (List Operator)) (g : List Operator) (o : Operator) (os : List Operator) → continues p c o os ≡ false
-    → (done ++ (g ++ o ∷ []) ∷ []) ++ begun [] (in_stages p c os) ≡ done ++ begun g (in_stages p c (o ∷ os))
-ends p c done g o [] e = append-nil (done ++ (g ++ o ∷ []) ∷ [])
-ends p c done g o (o' ∷ os) e =
-    ap (λ gs. (done ++ (g ++ o ∷ []) ∷ []) ++ gs) (begun_by_none (groups p c o' os))
-    ∙ append_assoc done ((g ++ o ∷ []) ∷ []) (groups p c o' os)
-    ∙ rw e refl
 
 -- what follows the first element
 abbrev pub after_first : List Operator → List Operator
@@ -64,10 +52,3 @@ stage_goes_on p c done g [] d l e = absurd (omega (arith, l))
 stage_goes_on p c done g (x ∷ xs) d l e =
     let q = after_one x xs in
     ap (λ ys. done ++ begun (g ++ x ∷ []) (in_stages p c ys)) q ∙ goes_on p c done g x xs (ap (continues p c x) (sym q) ∙ e)
-
-pub stage_ends : (p : PlanData) (c : ScaleData) (done : List (List Operator)) (g xs : List Operator) (d : Operator) → 0 < length xs → continues p c (get_or xs 0 d) (after_first xs) ≡ false
-    → (done ++ (g ++ get_or xs 0 d ∷ []) ∷ []) ++ begun [] (in_stages p c (after_first xs)) ≡ done ++ begun g (in_stages p c xs)
-stage_ends p c done g [] d l e = absurd (omega (arith, l))
-stage_ends p c done g (x ∷ xs) d l e =
-    let q = after_one x xs in
-    ap (λ ys. (done ++ (g ++ x ∷ []) ∷ []) ++ begun [] (in_stages p c ys)) q ∙ ends p c done g x xs (ap (continues p c x) (sym q) ∙ e)

@@ -75,7 +75,3 @@ order_kept test m n ps kept h ordered is keeps = record {
       let found = some_kept (test q) (acc_at m q) a (sym (acc_at-filter test m q) ∙ ap (λ es. acc_at es q) (sym is) ∙ there) in
       ap (λ l. has_place l q) keeps ∙ has_kept test ps q found.0 (h.covered q a found.1);
 }
-
-pub order_none : AreOrdered [] []
-unfolding IsStrictlySortedBy
-order_none = record { ordered = tt; covered = λ q a none. absurd cc }

@@ -1,17 +1,13 @@
 -- One place of the windows is written.
-use Rattle.std.proofs.Common.{◌≡◌, ℤ, Bool, true, false, cond, ◌&&◌, List, [], ◌∷◌, map, refl, sym, ap, subst, ◌∙◌, arith, Some, if◌then◌else◌}
-use Rattle.std.specs.Option.{option_map}
+use Rattle.std.proofs.Common.{◌≡◌, ℤ, Bool, true, false, cond, ◌&&◌, List, map, refl, sym, ap, subst, ◌∙◌, arith, Some}
 use Rattle.std.specs.Ordering.{int_eq}
 use Rattle.std.specs.List.{IsDistinct}
 use Rattle.std.specs.Map.{keys_of}
 use Rattle.std.proofs.lemmas.Int.{ints}
-use Rattle.plain_data.specs.Record.{Record}
-use Rattle.logical_plan.specs.declared.spec.Aggregate.{Aggregate}
 use Rattle.logical_plan.specs.declared.spec.WindowSpec.{WindowSpec}
 use Rattle.logical_plan.specs.declared.spec.Place.{Place}
-use Rattle.logical_plan.specs.Aggregates.{aggregate_of, merge}
 use Rattle.aggregates.specs.Kinds.{AccData, kind_of}
-use Rattle.window_state.specs.Windows.{acc_at, total_at, is_place, IsStart, AreWindows}
+use Rattle.window_state.specs.Windows.{acc_at, is_place, IsStart, AreWindows}
 
 same_place : (a b c d : ℤ) → (int_eq a b && int_eq c d) ≡ true → (a ≡ b) × (c ≡ d)
 same_place a b c d h = let e1 : a ≡ b = grind (arith, ints) in let e2 : c ≡ d = grind (arith, ints) in (e1, e2)
@@ -46,13 +42,3 @@ windows_written w p a m n writes_ h kinds start = record {
   kinds = everywhere (λ q b. b.kinds ≡ map kind_of w.aggregates) p a m n writes_ kinds h.kinds;
   starts = everywhere (λ q b. IsStart q.start) p a m n writes_ start h.starts;
 }
-
--- what stands at each place, where a's total is what stood at p with the record brought in
-pub added_written : (ks : List Aggregate) (r : Record) (p : Place) (a : AccData) (m n : List (Place × AccData)) → Writes p a m n → Some a.total ≡ merge ks (total_at m p) (aggregate_of ks (r ∷ []))
-    → (q : Place) → total_at n q ≡ (if is_place p q then merge ks (total_at m q) (aggregate_of ks (r ∷ [])) else total_at m q)
-added_written ks r p a m n w is q = ap (option_map (λ b. b.total)) (w.at q) ∙ by_case (is_place p q) refl
-  where
-    by_case : (t : Bool) → is_place p q ≡ t
-        → option_map (λ b. b.total) (cond t (Some a) (acc_at m q)) ≡ (if t then merge ks (total_at m q) (aggregate_of ks (r ∷ [])) else total_at m q)
-    by_case true e = is ∙ ap (λ x. merge ks (total_at m x) (aggregate_of ks (r ∷ []))) (place_from_test p q e)
-    by_case false e = refl
