@@ -1,6 +1,6 @@
 use crate::{
-    Cell, PartError, flag_or, has_only, list_of, list_or_empty, text, text_of, value_of, whole,
-    whole_or,
+    Cell, OtherForm, PartError, flag_or, has_only, list_of, list_or_empty, text, text_of, value_of,
+    whole, whole_or,
 };
 use std::test::Fail;
 
@@ -36,17 +36,17 @@ fn refusals(rt: HostRuntime) -> Result<(), Fail> {
         assert_eq!(rt; value_of(alloc, bytes).err(), form);
     }
     for name in ["b", "e", "z"] {
-        assert_eq!(rt; whole(&value, name).err(), form, "at {name}");
+        assert_eq!(rt; whole(&value, name).err(), Some(OtherForm), "at {name}");
         assert_eq!(rt;
             list_of::<Cell>(alloc, &value, name).err(),
             form,
             "at {name}"
         );
     }
-    assert_eq!(rt; whole_or(&value, "e", 5).err(), form);
-    assert_eq!(rt; flag_or(&value, "e", true).err(), form);
-    assert_eq!(rt; flag_or(&value, "a", true).err(), form);
-    assert_eq!(rt; text_of(&value, "a").err(), form);
+    assert_eq!(rt; whole_or(&value, "e", 5).err(), Some(OtherForm));
+    assert_eq!(rt; flag_or(&value, "e", true).err(), Some(OtherForm));
+    assert_eq!(rt; flag_or(&value, "a", true).err(), Some(OtherForm));
+    assert_eq!(rt; text_of(&value, "a").err(), Some(OtherForm));
     assert_eq!(rt; list_or_empty::<Cell>(alloc, &value, "e").err(), form);
     assert_eq!(rt; list_of::<Vec<Cell>>(alloc, &value, "c").err(), form);
     Ok(())

@@ -4,8 +4,8 @@
 //! These functions take the tokens of a [`json::Reader`] in the form that is asked for. Their contracts
 //! speak of the next value of the text, as `serde_json` reads it, in the words of `specs/Ahead`.
 //!
-//! Nothing here tells what is wrong with a text of another form: it is a [`Miss`], and a reading by
-//! `serde_json::Value` can tell.
+//! Nothing here tells what is wrong with a text of another form: it is [`OtherForm`](json_parts::OtherForm),
+//! or a [`Miss`] where memory may run out too, and a reading by `serde_json::Value` can tell.
 #![tactic(auto)]
 
 mod miss;

@@ -1,6 +1,7 @@
 ghost use Rattle.std.specs.Prelude.{◌≡◌};
-ghost use Rattle.json_tokens.specs.declared.miss.Miss.TheVariants.{Memory};
+ghost use Rattle.json_tokens.specs.declared.miss.Miss.TheVariants.{Other, Memory};
 
+use json_parts::OtherForm;
 use std::alloc::{AllocError, AllocFailed};
 
 /// Why a text was not read token by token.
@@ -10,6 +11,14 @@ pub enum Miss {
     Other,
     /// An allocation was refused.
     Memory,
+}
+
+impl From<OtherForm> for Miss {
+    ghost from_gives = { λ _ e. e ≡ Other };
+
+    fn from(_e: OtherForm) -> Miss {
+        Miss::Other
+    }
 }
 
 impl From<AllocError> for Miss {

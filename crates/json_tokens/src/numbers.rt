@@ -7,9 +7,9 @@ ghost use Rattle.serde_json.specs.Find.{as_i64};
 ghost use Rattle.json_parts.specs.Parts.{whole as whole_said};
 ghost use Rattle.json_tokens.specs.Ahead.{part};
 
-use crate::miss::Miss;
 use fast_float::Numeral;
 use json::{Reader, Token};
+use json_parts::OtherForm;
 
 #[inline(always)]
 fn has_minus(bytes: &[u8]) -> bool
@@ -67,7 +67,7 @@ fn whole(text: &str) -> Option<i64>
 
 /// The next value, a whole number of 64 bits. Neither `-0` nor `3.0` is one.
 #[inline(always)]
-pub fn next_whole(reader: &mut Reader<'_>) -> Result<i64, Miss>
+pub fn next_whole(reader: &mut Reader<'_>) -> Result<i64, OtherForm>
     ensures said { IfOk result (λ n. (depth : ℕ) → part whole_said depth reader.old ≡ Some (n, reader.new)) }
     ensures shorter { OnOk result (length reader.new < length reader.old) }
     ensures fits { IfOk result (λ n. FitsSigned w64 n) }
@@ -75,8 +75,8 @@ pub fn next_whole(reader: &mut Reader<'_>) -> Result<i64, Miss>
     match reader.next() {
         Some(Token::Number(text)) => match whole(text) {
             Some(n) => Ok(n),
-            None => Err(Miss::Other),
+            None => Err(OtherForm),
         },
-        _ => Err(Miss::Other),
+        _ => Err(OtherForm),
     }
 }

@@ -2,6 +2,7 @@ use crate::{
     Miss, close_object, end, next_key, next_name, next_rows, next_whole, open_list, open_object,
 };
 use json::{Reader, Scratch};
+use json_parts::OtherForm;
 use std::test::Fail;
 
 fn whole_of(rt: &impl AllocGlobal, text: &str) -> Result<i64, Miss> {
@@ -100,6 +101,6 @@ fn keys(rt: HostRuntime) -> Result<(), Fail> {
     assert_eq!(rt; next_key(&mut reader)?, Some("a"));
     assert_eq!(rt; next_whole(&mut reader)?, 1);
     assert_eq!(rt; next_key(&mut reader)?, None);
-    assert_eq!(rt; next_key(&mut reader).err(), Some(Miss::Other));
+    assert_eq!(rt; next_key(&mut reader).err(), Some(OtherForm));
     Ok(())
 }

@@ -198,7 +198,7 @@ fn column_of(value: &Value) -> Result<i64, PartError>
     if !has_only(value, &["fn", "column"]) {
         return Err(PartError::Form);
     }
-    whole(value, "column")
+    Ok(whole(value, "column")?)
 }
 
 #[tactic(auto, unfolding(crate::specs::PlanText::having_text))]
