@@ -1,5 +1,5 @@
 -- What a call that reads texts and writes one answers.
-use Rattle.std.specs.Prelude.{◌≡◌, Result, Ok, Err, IsOk}
+use Rattle.std.specs.Prelude.{◌≡◌, ◌≢◌, ℕ, List, Option, Result, Ok, Err, IsOk, IfErr}
 use Rattle.job.specs.declared.fault.JobFault.{JobFault}
 use Rattle.job.specs.declared.fault.JobFault.TheVariants.{Write, Memory}
 
@@ -13,3 +13,7 @@ Tells writes said (Ok _) = Wrote writes said
 Tells writes said (Err Memory) = Unit {0}
 Tells writes said (Err Write) = IsOk said
 Tells writes said (Err fault) = said ≡ Err fault
+
+-- every refusal but a failed write leaves what the writer held as it was
+abbrev pub KeepsWriter : Result (Unit {0}) JobFault → Option (List ℕ) → Option (List ℕ) → Type 0
+KeepsWriter result old new = IfErr result (λ fault. fault ≢ Write → new ≡ old)

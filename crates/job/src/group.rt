@@ -4,6 +4,7 @@ ghost use Rattle.std.specs.Prelude.{◌≡◌, ◌<◌, ◌≤◌, IfOk, IfSome,
 ghost use Rattle.std.specs.Char.{is_ascii_digit};
 ghost use Rattle.std.specs.List.{list_all};
 ghost use Rattle.job.specs.Group.{are_digits, count_said, without_hyphen, key_said, group_said, group_line, TellsGroup};
+ghost use Rattle.job.specs.Tells.{KeepsWriter};
 
 use crate::fault::JobFault;
 use crate::run::write_text;
@@ -80,7 +81,8 @@ pub fn job_group<W: Write>(
     par: &str,
     out: &mut W,
 ) -> Result<(), JobFault>
-    ensures { TellsGroup (group_said key.now max.now par.now) result (W.contents out.old) (W.contents out.new) }
+    ensures answers { TellsGroup (group_said key.now max.now par.now) result (W.contents out.old) (W.contents out.new) }
+    ensures kept { KeepsWriter result (W.contents out.old) (W.contents out.new) }
 {
     let key = key_of(key).ok_or(JobFault::Number)?;
     let groups = count_of(max, 32768).ok_or(JobFault::Number)?;

@@ -1,6 +1,7 @@
 //! The layout of a plan at a scale.
 
 ghost use Rattle.job.specs.Layout.{TellsLayout, layout_said};
+ghost use Rattle.job.specs.Tells.{KeepsWriter};
 
 use crate::fault::JobFault;
 use crate::layout_text::text_of;
@@ -23,7 +24,8 @@ pub fn job_layout<W: Write>(
     scale: &[u8],
     out: &mut W,
 ) -> Result<(), JobFault>
-    ensures { TellsLayout (layout_said plan.now scale.now) result (W.contents out.old) (W.contents out.new) }
+    ensures answers { TellsLayout (layout_said plan.now scale.now) result (W.contents out.old) (W.contents out.new) }
+    ensures kept { KeepsWriter result (W.contents out.old) (W.contents out.new) }
 {
     let plan = Plan::read(alloc, plan)?;
     let scale = Scale::read(alloc, &plan, scale)?;

@@ -16,5 +16,5 @@ mod text;
 pub use fault::JobFault;
 pub use group::job_group;
 pub use layout::job_layout;
-pub use line::{FaultLine, fault_line, status_of};
+pub use line::{FaultLine, status_of};
 pub use run::job_run;

@@ -1,12 +1,11 @@
 //! What the program says of a fault.
 
-ghost use Rattle.std.specs.Prelude.{◌≡◌, IfOk, string_bytes};
-ghost use Rattle.job.specs.FaultText.{fault_text, plan_text, scale_text, status};
+ghost use Rattle.std.specs.Prelude.{◌≡◌};
+ghost use Rattle.job.specs.FaultText.{plan_text, scale_text, status};
 
 use crate::fault::JobFault;
 use logical_plan::PlanFault;
 use plan_compiler::ScaleFault;
-use std::alloc::{AllocError, Global};
 use std::fmt;
 use stream_input::InputFault;
 
@@ -26,15 +25,7 @@ pub fn status_of(fault: &JobFault) -> u8
 }
 
 /// What the program writes to standard error: the code and name of the fault, with the place of a late
-/// record, or `memory`.
-pub fn fault_line(alloc: Global, fault: &JobFault) -> Result<String, AllocError>
-    ensures { IfOk result (λ line. string_bytes line ≡ fault_text fault.now) }
-{
-    let line = FaultLine(fault);
-    format!(in alloc; "{line}")
-}
-
-/// The code and name of a fault, as the program prints them.
+/// record, or `memory`. Writing it needs no memory.
 #[derive(Clone, Copy)]
 pub struct FaultLine<'a>(pub &'a JobFault);
 

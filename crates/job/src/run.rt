@@ -6,6 +6,7 @@ ghost use Rattle.stream_input.specs.PlanRows.{plan_rows};
 ghost use Rattle.stream_input.specs.Text.{IsTextOf};
 ghost use Rattle.std.specs.Io.KnownBytes.{Appends};
 ghost use Rattle.job.specs.Run.{Answers, run_said};
+ghost use Rattle.job.specs.Tells.{KeepsWriter};
 
 use crate::fault::JobFault;
 use crate::folding::state_of;
@@ -37,7 +38,8 @@ pub fn job_run<W: Write>(
     input: &[u8],
     out: &mut W,
 ) -> Result<(), JobFault>
-    ensures { Answers (run_said plan.now input.now) result (W.contents out.old) (W.contents out.new) }
+    ensures answers { Answers (run_said plan.now input.now) result (W.contents out.old) (W.contents out.new) }
+    ensures kept { KeepsWriter result (W.contents out.old) (W.contents out.new) }
 {
     let plan = Plan::read(alloc, plan)?;
     let input = Input::read(alloc, &plan, input)?;

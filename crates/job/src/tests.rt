@@ -1,8 +1,10 @@
-use crate::{JobFault, fault_line, job_run, status_of};
+use crate::{FaultLine, JobFault, job_run, status_of};
 use logical_plan::PlanFault;
 use plan_compiler::ScaleFault;
 use std::test::Fail;
 use stream_input::InputFault;
+
+mod writers;
 
 const PLAN: &str =
     r#"{"columns":3,"maxParallelism":128,"time":0,"key":1,"sources":[{"uid":"s","partitions":2}],"window":{"uid":"w","size":10,"slide":10,"offset":0,"aggregates":[{"fn":"count"},{"fn":"sum","column":2},{"fn":"least","column":2},{"fn":"greatest","column":2}]}}"#;
@@ -90,7 +92,8 @@ fn refusals_write_nothing(rt: HostRuntime) -> Result<(), Fail> {
         let fault = job_run(rt.alloc(), plan.as_bytes(), input.as_bytes(), &mut out)
             .err()
             .ok_or("accepted")?;
-        assert_eq!(rt; fault_line(rt.alloc(), &fault)?.as_str(), line);
+        let said = format!(in rt.alloc(); "{}", FaultLine(&fault))?;
+        assert_eq!(rt; said.as_str(), line);
         assert_eq!(rt; status_of(&fault), 3);
         assert_eq!(rt; out.len(), 0);
     }
@@ -110,7 +113,8 @@ fn lines_and_statuses(rt: HostRuntime) -> Result<(), Fail> {
         (JobFault::Write, "F2 Write", 3),
         (JobFault::Memory, "memory", 4),
     ] {
-        assert_eq!(rt; fault_line(rt.alloc(), &fault)?.as_str(), line);
+        let said = format!(in rt.alloc(); "{}", FaultLine(&fault))?;
+        assert_eq!(rt; said.as_str(), line);
         assert_eq!(rt; status_of(&fault), status, "at {line}");
     }
     Ok(())

@@ -1,17 +1,24 @@
 //! What each command does.
 
+ghost use Rattle.std.specs.Prelude.{◌≡◌, codes};
+ghost use Rattle.streamjob.specs.Answers.{word, AnswersRun, AnswersLayout, AnswersGroup};
+
 use crate::files::file;
 use clap::ArgMatches;
 use job::{JobFault, job_group, job_layout, job_run};
 use std::io::writer;
 use std::rt::Files;
 
-fn named<'a>(words: &ArgMatches<'a>, name: &str) -> &'a str {
+fn named<'a>(words: &ArgMatches<'a>, name: &str) -> &'a str
+    ensures { result.now ≡ word words.now name.now }
+{
     words.get_str(name).unwrap_or("")
 }
 
 /// Prints the rows of a plan on an input.
-pub fn run<R: Files + Print + AllocGlobal>(rt: &R, words: &ArgMatches<'_>) -> Result<(), JobFault> {
+pub fn run<R: Files + Print + AllocGlobal>(rt: &R, words: &ArgMatches<'_>) -> Result<(), JobFault>
+    ensures { AnswersRun result }
+{
     let plan = file(rt, named(words, "PLAN"))?;
     let input = file(rt, named(words, "INPUT"))?;
     job_run(rt.alloc(), &plan, &input, &mut writer(rt))
@@ -21,14 +28,18 @@ pub fn run<R: Files + Print + AllocGlobal>(rt: &R, words: &ArgMatches<'_>) -> Re
 pub fn layout<R: Files + Print + AllocGlobal>(
     rt: &R,
     words: &ArgMatches<'_>,
-) -> Result<(), JobFault> {
+) -> Result<(), JobFault>
+    ensures { AnswersLayout result }
+{
     let plan = file(rt, named(words, "PLAN"))?;
     let scale = file(rt, named(words, "SCALE"))?;
     job_layout(rt.alloc(), &plan, &scale, &mut writer(rt))
 }
 
 /// Prints the group of a key and its owner.
-pub fn group<R: Print + AllocGlobal>(rt: &R, words: &ArgMatches<'_>) -> Result<(), JobFault> {
+pub fn group<R: Print + AllocGlobal>(rt: &R, words: &ArgMatches<'_>) -> Result<(), JobFault>
+    ensures { AnswersGroup (word words.now (codes "KEY")) (word words.now (codes "MAX")) (word words.now (codes "PAR")) result }
+{
     let key = named(words, "KEY");
     let max = named(words, "MAX");
     let par = named(words, "PAR");

@@ -9,5 +9,5 @@ mod words;
 use std::process::ExitCode;
 
 fn main(rt: HostRuntime) -> ExitCode {
-    ExitCode::from(run::status(&rt))
+    ExitCode::from(run::status(&rt, &run::outcome(&rt)))
 }

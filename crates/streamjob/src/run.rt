@@ -1,21 +1,61 @@
 //! From the words to the status.
 
-ghost use Rattle.std.specs.Prelude.{◌≡◌, ◌⊎◌};
-ghost use Rattle.job.specs.FaultText.{status as status_said};
+ghost use Rattle.std.specs.Prelude.{◌≡◌};
+ghost use Rattle.std.specs.IoError.{error_kind};
+ghost use Rattle.clap.specs.Words.{kind_of};
+ghost use Rattle.job.specs.FaultText.{status as fault_status};
+ghost use Rattle.job.specs.declared.fault.JobFault.TheVariants.{Memory};
+ghost use Rattle.streamjob.specs.Outcome.{AnswersCommand, AnswersProgram};
+ghost use Rattle.streamjob.specs.Status.{status as status_said, words_status, unread_status};
+ghost use Rattle.streamjob.specs.declared.run.Refusal.TheVariants.{Words, Fault};
 
 use crate::commands;
 use crate::words::command;
-use clap::error::ErrorKind;
-use clap::{ArgMatches, Error};
-use job::{JobFault, fault_line, status_of};
+use clap::{ArgMatches, error};
+use job::{FaultLine, JobFault, status_of};
+use std::alloc::AllocError;
 use std::rt::{Env, Files};
 use std::{env, io};
 
+/// Why the program ends with no command done.
+#[derive(Drop)]
+pub enum Refusal {
+    /// The words that it was started with could not be read as text.
+    Unread(io::Error),
+    /// The words are not understood, or ask for help.
+    Words(clap::Error),
+    /// The command has no answer.
+    Fault(JobFault),
+}
+
+impl From<clap::Error> for Refusal {
+    ghost from_gives = { λ error e. e ≡ Words error };
+
+    fn from(error: clap::Error) -> Refusal {
+        Refusal::Words(error)
+    }
+}
+
+impl From<JobFault> for Refusal {
+    ghost from_gives = { λ fault e. e ≡ Fault fault };
+
+    fn from(fault: JobFault) -> Refusal {
+        Refusal::Fault(fault)
+    }
+}
+
+impl From<AllocError> for Refusal {
+    ghost from_gives = { λ _ e. e ≡ Fault Memory };
+
+    fn from(_e: AllocError) -> Refusal {
+        Refusal::Fault(JobFault::Memory)
+    }
+}
+
 /// Runs the command that the words name; clap lets no others through.
-fn chosen<R: Files + Print + AllocGlobal>(
-    rt: &R,
-    matches: &ArgMatches<'_>,
-) -> Result<(), JobFault> {
+fn chosen<R: Files + Print + AllocGlobal>(rt: &R, matches: &ArgMatches<'_>) -> Result<(), JobFault>
+    ensures { AnswersCommand result }
+{
     match matches.subcommand() {
         Some(("run", words)) => commands::run(rt, words),
         Some(("layout", words)) => commands::layout(rt, words),
@@ -24,44 +64,38 @@ fn chosen<R: Files + Print + AllocGlobal>(
     }
 }
 
-/// Says that no memory was to be had, which needs none.
-fn out_of_memory<R: Eprint>(rt: &R) -> u8
-    ensures { result ≡ 4 }
-{
-    let _ = rt.eprintln("memory");
-    4
-}
-
-/// Says what is wrong with the words. Help counts as that, so that standard output has rows alone.
-fn refused<R: Eprint>(rt: &R, error: &Error) -> u8
-    ensures { (result ≡ 2) ⊎ (result ≡ 4) }
-{
-    if error.kind() == ErrorKind::OutOfMemory {
-        return out_of_memory(rt);
-    }
-    let _ = rt.eprint(error);
-    2
-}
-
-/// Says the fault, or that no memory was to be had for its line.
-fn failed<R: Eprint + AllocGlobal>(rt: &R, fault: &JobFault) -> u8
-    ensures { (result ≡ status_said fault.now) ⊎ (result ≡ 4) }
-{
-    let Ok(line) = fault_line(rt.alloc(), fault) else {
-        return out_of_memory(rt);
-    };
-    let _ = rt.eprintln(line.as_str());
-    status_of(fault)
-}
-
 /// The words that the program was started with, its own name first.
 fn words_of<R: Env + AllocGlobal>(rt: &R) -> io::Result<Vec<String>> {
     let words = env::args(rt)?.collect::<Vec<String>>(rt.alloc())?;
     Ok(words)
 }
 
-/// Says why there are no words to read.
-fn unread<R: Eprint + AllocGlobal>(rt: &R, error: &io::Error) -> u8 {
+/// Runs the command that the program's words name.
+pub fn outcome<R: Files + Print + Env + AllocGlobal>(rt: &R) -> Result<(), Refusal>
+    ensures { AnswersProgram result }
+{
+    let words = words_of(rt).map_err(Refusal::Unread)?;
+    let command = command(rt.alloc())?;
+    let matches = command.try_get_matches_from(words.as_slice())?;
+    chosen(rt, &matches)?;
+    Ok(())
+}
+
+/// Says what is wrong with the words. Help counts as that, so that standard output has rows alone.
+fn refused<R: Eprint>(rt: &R, error: &clap::Error) -> u8
+    ensures { result ≡ words_status (kind_of error.now) }
+{
+    if error.kind() == error::ErrorKind::OutOfMemory {
+        return failed(rt, &JobFault::Memory);
+    }
+    let _ = rt.eprint(error);
+    2
+}
+
+/// Says why there are no words.
+fn unread<R: Eprint>(rt: &R, error: &io::Error) -> u8
+    ensures { result ≡ unread_status (error_kind error.now) }
+{
     if error.kind() == io::ErrorKind::OutOfMemory {
         return failed(rt, &JobFault::Memory);
     }
@@ -69,20 +103,22 @@ fn unread<R: Eprint + AllocGlobal>(rt: &R, error: &io::Error) -> u8 {
     2
 }
 
-/// Runs the program, and answers the status to end with.
-pub fn status<R: Files + Print + Eprint + Env + AllocGlobal>(rt: &R) -> u8 {
-    let words = match words_of(rt) {
-        Ok(words) => words,
-        Err(error) => return unread(rt, &error),
-    };
-    let Ok(command) = command(rt.alloc()) else {
-        return failed(rt, &JobFault::Memory);
-    };
-    match command.try_get_matches_from(words.as_slice()) {
-        Err(error) => refused(rt, &error),
-        Ok(matches) => match chosen(rt, &matches) {
-            Ok(()) => 0,
-            Err(fault) => failed(rt, &fault),
-        },
+/// Says the fault, which needs no memory.
+fn failed<R: Eprint>(rt: &R, fault: &JobFault) -> u8
+    ensures { result ≡ fault_status fault.now }
+{
+    let _ = rt.eprintln(FaultLine(fault));
+    status_of(fault)
+}
+
+/// Says why no command is done, and answers the status to end with.
+pub fn status<R: Eprint>(rt: &R, outcome: &Result<(), Refusal>) -> u8
+    ensures { result ≡ status_said outcome.now }
+{
+    match outcome {
+        Ok(()) => 0,
+        Err(Refusal::Unread(error)) => unread(rt, error),
+        Err(Refusal::Words(error)) => refused(rt, error),
+        Err(Refusal::Fault(fault)) => failed(rt, fault),
     }
 }

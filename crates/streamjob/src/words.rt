@@ -1,9 +1,16 @@
 //! The words of the command line.
 
+ghost use Rattle.std.specs.Prelude.{◌≡◌, false, IfOk};
+ghost use Rattle.clap.specs.Words.{app_of, rule_of};
+ghost use Rattle.streamjob.specs.Words.{IsCommand, required_rule, run_shape, layout_shape, group_shape, program};
+
 use clap::{Arg, Command};
 use std::alloc::{AllocError, Global};
 
-fn required<'a>(alloc: Global, name: &'a str, help: &'a str) -> Arg<'a> {
+fn required<'a>(alloc: Global, name: &'a str, help: &'a str) -> Arg<'a>
+    ensures rule { rule_of result ≡ required_rule name.now }
+    ensures local { result.global ≡ false }
+{
     Arg::new(alloc, name).required(true).help(help)
 }
 
@@ -16,7 +23,9 @@ const STATUSES: &str = "\
 Exit status: 0 done; 2 words that are not understood; 3 a file that cannot be read or written,
 or a plan, input or scale that is refused; 4 no memory. Standard error says what is refused.";
 
-fn run_words<'a>(alloc: Global) -> Result<Command<'a>, AllocError> {
+fn run_words<'a>(alloc: Global) -> Result<Command<'a>, AllocError>
+    ensures { IfOk result (λ c. IsCommand run_shape c) }
+{
     Command::new(alloc, "run")
         .about("Run a plan on an input and print its rows")
         .after_help(ROWS)
@@ -38,7 +47,9 @@ Lines come in this order: `stage S PARALLELISM UID ..` for each stage of chained
 `partitions S I P ..` for subtask I of each source's stage S; `groups S I FIRST LAST` for each
 subtask of the window's stage.";
 
-fn layout_words<'a>(alloc: Global) -> Result<Command<'a>, AllocError> {
+fn layout_words<'a>(alloc: Global) -> Result<Command<'a>, AllocError>
+    ensures { IfOk result (λ c. IsCommand layout_shape c) }
+{
     Command::new(alloc, "layout")
         .about("Print the stages, edges, partitions and key groups of a plan at a scale")
         .after_help(LAYOUT)
@@ -54,7 +65,9 @@ fn layout_words<'a>(alloc: Global) -> Result<Command<'a>, AllocError> {
         ))
 }
 
-fn group_words<'a>(alloc: Global) -> Result<Command<'a>, AllocError> {
+fn group_words<'a>(alloc: Global) -> Result<Command<'a>, AllocError>
+    ensures { IfOk result (λ c. IsCommand group_shape c) }
+{
     Command::new(alloc, "group")
         .about("Print the key group of a key and the subtask that owns the group")
         .arg(required(
@@ -67,7 +80,9 @@ fn group_words<'a>(alloc: Global) -> Result<Command<'a>, AllocError> {
 }
 
 /// The command and its subcommands.
-pub fn command<'a>(alloc: Global) -> Result<Command<'a>, AllocError> {
+pub fn command<'a>(alloc: Global) -> Result<Command<'a>, AllocError>
+    ensures { IfOk result (λ c. app_of c ≡ program) }
+{
     Command::new(alloc, "streamjob")
         .about("Count and sum records by key, in windows of event time")
         .after_help(STATUSES)

@@ -1,0 +1,37 @@
+-- What the program's commands answer. Nothing can be said of what files hold and of what standard output takes, and so
+-- these say which answers the texts of two files allow, whatever they are.
+use Rattle.std.specs.Prelude.{◌≡◌, ◌⊎◌, ℕ, List, [], None, Result, Err, unwrap_or}
+use Rattle.std.specs.declared.io.ErrorKind.{ErrorKind}
+use Rattle.std.specs.declared.io.ErrorKind.TheVariants.{OutOfMemory}
+use Rattle.clap.specs.Words.{found_of, first_value}
+use Rattle.clap.specs.declared.parser.matches.ArgMatches.{ArgMatches}
+use Rattle.job.specs.declared.fault.JobFault.{JobFault}
+use Rattle.job.specs.declared.fault.JobFault.TheVariants.{Read, Memory}
+use Rattle.job.specs.Group.{TellsGroup, group_said}
+use Rattle.job.specs.Layout.{TellsLayout, layout_said}
+use Rattle.job.specs.Run.{Answers, run_said}
+
+-- the word of the command line under a name
+abbrev pub word : ArgMatches → List ℕ → List ℕ
+word words name = unwrap_or (first_value (found_of words) name) []
+
+-- the fault of a file that was not read
+abbrev pub read_fault : ErrorKind → JobFault
+read_fault OutOfMemory = Memory
+read_fault _ = Read
+
+-- a file was not read
+abbrev pub CannotRead : Result (Unit {0}) JobFault → Type 0
+CannotRead result = (result ≡ Err Read) ⊎ (result ≡ Err Memory)
+
+-- what `job_run` answers of some plan and input, or that one of them was not read
+abbrev pub AnswersRun : Result (Unit {0}) JobFault → Type 0
+AnswersRun result = CannotRead result ⊎ ((plan : List ℕ) × (input : List ℕ) × Answers (run_said plan input) result None None)
+
+-- what `job_layout` answers of some plan and scale, or that one of them was not read
+abbrev pub AnswersLayout : Result (Unit {0}) JobFault → Type 0
+AnswersLayout result = CannotRead result ⊎ ((plan : List ℕ) × (scale : List ℕ) × TellsLayout (layout_said plan scale) result None None)
+
+-- what `job_group` answers of three words
+abbrev pub AnswersGroup : List ℕ → List ℕ → List ℕ → Result (Unit {0}) JobFault → Type 0
+AnswersGroup key max par result = TellsGroup (group_said key max par) result None None

@@ -1,0 +1,4 @@
+pub mod Answers
+pub mod Outcome
+pub mod Status
+pub mod Words
