@@ -1,14 +1,17 @@
 -- A layout of tasks joined by rings, in the abstract, and how it shares out an input.
-use Rattle.std.specs.Prelude.{◌≡◌, ℕ, ℤ, ◌<◌, ◌≤◌, Bool, true, false, ◌&&◌}
-use Rattle.plain_data.specs.Record.{Record, at}
+use Rattle.std.specs.Prelude.{◌≡◌, ℕ, ℤ, ◌+◌, ◌/◌, ◌%◌, ◌<◌, ◌≤◌, Bool, true, false, ◌&&◌}
+use Rattle.plain_data.specs.Record.{Record}
 use Rattle.dataflow_model.specs.Message.{Message}
-use Rattle.dataflow_model.specs.Task.{Source, Chain, Window, Sink, Task, Owns}
+use Rattle.dataflow_model.specs.Task.{Edge, Whole, Split, Source, Chain, Window, Sink, Task}
 
 -- Tasks below `before` are sources and chains, those from there up to `sink` are windows, and `sink` is the sink
 pub record Layout : Type 0 where
   pub before : ℕ
   pub sink : ℕ
   pub task : ℕ → Task
+  -- of each source: its first task, and how many it has
+  pub first_task : ℕ → ℕ
+  pub parallelism : ℕ → ℕ
   -- whether a ring leads from one task to another
   pub ring : ℕ → ℕ → Bool
   -- the task at the other end of an input or output
@@ -23,8 +26,13 @@ pub record Layout : Type 0 where
   pub pass : Record → Bool
   pub rest : ℕ → Record → Bool
 
--- the laws of a layout, for records whose key stands in this column
-pub record IsLayout (key : ℕ) (l : Layout) : Type 0 where
+-- a keyed edge sends each key to the output at whose end its owner stands; whole batches go to no window
+abbrev pub Sends : Layout → ℕ → Edge → Type 0
+Sends l t Whole = (j : ℕ) → j < (l.task t).outputs → l.to t j < l.before
+Sends l t (Split owner) = (key : ℤ) → (owner key < (l.task t).outputs) × (l.to t (owner key) ≡ l.owner key)
+
+-- the laws of a layout
+pub record IsLayout (l : Layout) : Type 0 where
   pub some_windows : l.before < l.sink
   pub roles_before : (t : ℕ) → t < l.before → ((l.task t).role ≡ Source → ⊥) → (l.task t).role ≡ Chain
   pub roles_window : (t : ℕ) → l.before ≤ t → t < l.sink → (l.task t).role ≡ Window
@@ -44,7 +52,7 @@ pub record IsLayout (key : ℕ) (l : Layout) : Type 0 where
   pub window_only : (t u : ℕ) → l.before ≤ t → t < l.sink → u < l.sink → l.ring t u ≡ false
   -- what leads to one window leads to all, each record to its owner
   pub all_windows : (t u v : ℕ) → l.before ≤ u → u < l.sink → l.before ≤ v → v < l.sink → l.ring t u ≡ true → l.ring t v ≡ true
-  pub owned : (t j : ℕ) (r : Record) → t < l.before → j < (l.task t).outputs → l.before ≤ l.to t j → Owns key (l.task t).edge j r → l.owner (at key r) ≡ l.to t j
+  pub sends : (t : ℕ) → t < l.before → Sends l t (l.task t).edge
   pub owner_window : (k : ℤ) → (l.before ≤ l.owner k) × (l.owner k < l.sink)
   -- filters
   pub filters : (s t : ℕ) (r : Record) → t < l.before → l.ring s t ≡ true → l.rest s r ≡ ((l.task t).keeps r && l.rest t r)
@@ -53,18 +61,59 @@ pub record IsLayout (key : ℕ) (l : Layout) : Type 0 where
 
 -- an input: its partitions are numbered through all sources
 pub record Input : Type 0 where
+  pub sources : ℕ
   pub partitions : ℕ
+  -- the source of a partition and its number there, and the number through all sources of a source's partition
+  pub source : ℕ → ℕ
+  pub number : ℕ → ℕ
+  pub through : ℕ → ℕ → ℕ
   pub entry : ℕ → ℕ → Message
   pub watermark : ℕ → ℕ → ℤ
   pub size : ℕ → ℕ
   pub pass : Record → Bool
 
--- which task and place a partition has in a layout
-pub record Deals (i : Input) (l : Layout) : Type 0 where
-  pub part : ℕ → ℕ → ℕ
-  pub task_of : ℕ → ℕ
-  pub place_of : ℕ → ℕ
+-- the task that reads partition q, and its place there: of n tasks of a source, task i has the partitions i, i + n, i + 2 n and so on
+abbrev pub task_of : Input → Layout → ℕ → ℕ
+task_of i l q = l.first_task (i.source q) + i.number q % l.parallelism (i.source q)
+
+abbrev pub place_of : Input → Layout → ℕ → ℕ
+place_of i l q = i.number q / l.parallelism (i.source q)
+
+-- the partition at place k of task t
+abbrev pub part : Input → Layout → ℕ → ℕ → ℕ
+part i l t k = i.through (l.task t).source ((l.task t).partition k)
+
+-- task t reads source x
+pub record Reads (l : Layout) (x t : ℕ) : Type 0 where
+  pub early : t < l.before
+  pub role : (l.task t).role ≡ Source
+  pub source : (l.task t).source ≡ x
+
+-- partition q is at its place of its task
+pub record IsDealt (i : Input) (l : Layout) (q : ℕ) : Type 0 where
+  pub reads : Reads l (i.source q) (task_of i l q)
+  pub place : place_of i l q < (l.task (task_of i l q)).inputs
+  pub partition : (l.task (task_of i l q)).partition (place_of i l q) ≡ i.number q
+  pub back : part i l (task_of i l q) (place_of i l q) ≡ q
+
+-- place k of task t has a partition of the input, with its entries, and with the limit that the cut has for the partition
+pub record IsPlace (i : Input) (cut : ℕ → ℕ → ℕ) (l : Layout) (t k : ℕ) : Type 0 where
+  pub some : part i l t k < i.partitions
+  pub source : i.source (part i l t k) ≡ (l.task t).source
+  pub number : i.number (part i l t k) ≡ (l.task t).partition k
+  pub task : task_of i l (part i l t k) ≡ t
+  pub place : place_of i l (part i l t k) ≡ k
+  pub entry : (n : ℕ) → (l.task t).entry k n ≡ i.entry (part i l t k) n
+  pub watermark : (n : ℕ) → (l.task t).watermark k n ≡ i.watermark (part i l t k) n
+  pub size : (l.task t).size k ≡ i.size (part i l t k)
+  pub limit : (l.task t).limit k ≡ cut (l.task t).source ((l.task t).partition k)
+
+-- a layout deals each partition of an input to one place of one task; the cut has a count for each source and partition
+pub record Deals (i : Input) (cut : ℕ → ℕ → ℕ) (l : Layout) : Type 0 where
   pub pass : (r : Record) → l.pass r ≡ i.pass r
-  pub dealt : (q : ℕ) → q < i.partitions → (task_of q < l.before) × ((l.task (task_of q)).role ≡ Source) × (place_of q < (l.task (task_of q)).inputs) × (part (task_of q) (place_of q) ≡ q)
-  pub there : (t p : ℕ) → t < l.before → (l.task t).role ≡ Source → p < (l.task t).inputs → (part t p < i.partitions) × (task_of (part t p) ≡ t) × (place_of (part t p) ≡ p)
-  pub entries : (t p n : ℕ) → t < l.before → (l.task t).role ≡ Source → p < (l.task t).inputs → ((l.task t).entry p n ≡ i.entry (part t p) n) × ((l.task t).watermark p n ≡ i.watermark (part t p) n) × ((l.task t).size p ≡ i.size (part t p))
+  -- each source has a task, its tasks follow one another, and no other task reads a source
+  pub some : (x : ℕ) → x < i.sources → 0 < l.parallelism x
+  pub subtask : (x j : ℕ) → x < i.sources → j < l.parallelism x → Reads l x (l.first_task x + j)
+  pub own : (t : ℕ) → t < l.before → (l.task t).role ≡ Source → ((l.task t).source < i.sources) × (l.first_task (l.task t).source ≤ t) × (t < l.first_task (l.task t).source + l.parallelism (l.task t).source)
+  pub dealt : (q : ℕ) → q < i.partitions → IsDealt i l q
+  pub there : (t k : ℕ) → t < l.before → (l.task t).role ≡ Source → k < (l.task t).inputs → IsPlace i cut l t k

@@ -1,6 +1,6 @@
 -- One task: its place in a layout, and the partitions that it reads.
-use Rattle.std.specs.Prelude.{◌≡◌, ℕ, ℤ, Bool, true, false}
-use Rattle.plain_data.specs.Record.{Record, at}
+use Rattle.std.specs.Prelude.{ℕ, ℤ, Bool, true, false}
+use Rattle.plain_data.specs.Record.{Record}
 use Rattle.dataflow_model.specs.Message.{Message}
 
 -- where a task sends its records
@@ -27,6 +27,9 @@ pub record Task : Type 0 where
   pub edge : Edge
   -- what its filters keep
   pub keeps : Record → Bool
+  -- of a source: its number among the sources, and the number there of the partition at each place
+  pub source : ℕ
+  pub partition : ℕ → ℕ
   -- of a source: the entries of its partitions, their watermarks after n entries, where it stops reading
   pub entry : ℕ → ℕ → Message
   pub watermark : ℕ → ℕ → ℤ
@@ -35,8 +38,3 @@ pub record Task : Type 0 where
   pub size : ℕ → ℕ
   -- whether the leg has a cut
   pub stops : Bool
-
--- whether an edge may send a record to output j, where the key stands in this column
-abbrev pub Owns : ℕ → Edge → ℕ → Record → Type 0
-Owns key Whole j r = Unit {0}
-Owns key (Split owner) j r = owner (at key r) ≡ j

@@ -23,4 +23,4 @@ last : (a : ℕ) → suc a ≡ 5 → (stage_at five a).edge ≡ None
 last a e = let z : a ≡ 4 = omega (arith, e) in ap (λ n. (stage_at five n).edge) z
 
 pub five_stages : FiveStages
-five_stages s r f g w = (record { operators = refl; parallelism = widths; edges = edges; no_edge = last }, refl, refl, refl, refl, refl, refl, refl, refl, refl, refl)
+five_stages s r f g w = (record { operators = refl; parallelism = widths; edges = edges; no_edge = last }, refl, refl, refl, refl, refl, refl, refl, refl, refl, refl, λ e cut stops. (refl, refl, refl, refl, refl))

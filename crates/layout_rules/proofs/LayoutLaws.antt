@@ -1,14 +1,14 @@
 -- A compiled layout has the laws of a layout.
-use Rattle.std.proofs.Common.{◌≡◌, ℕ, zero, suc, ◌+◌, ◌-◌, ◌*◌, ◌<◌, ◌≤◌, List, [], ◌∷◌, Bool, true, false, ◌&&◌, eqb, ltb, leb, length, drop, get_or, Some, None, refl, sym, ap, subst, ◌∙◌, inl, inr, arith}
+use Rattle.std.proofs.Common.{◌≡◌, ℕ, ℤ, zero, suc, ◌+◌, ◌-◌, ◌*◌, ◌<◌, ◌≤◌, List, [], ◌∷◌, Bool, true, false, ◌&&◌, eqb, ltb, leb, length, drop, get_or, Some, None, refl, sym, ap, subst, ◌∙◌, inl, inr, arith}
 use Rattle.std.proofs.lemmas.Bool.{cases_eq, cases_Bool, cases_lt, false≢true, eq-eqb, eqb-true, ltb-true, lt-ltb, le-leb}
 use Rattle.std.proofs.lemmas.Nat.{div_below, mul-add-lt, mod_below}
-use Rattle.plain_data.specs.Record.{Record, at}
+use Rattle.plain_data.specs.Record.{Record}
 use Rattle.key_groups.specs.Groups.{key_group, hash_code}
 use Rattle.key_groups.specs.Ranges.{group_owner}
 use Rattle.lane_kernels.specs.Mix.{murmur_hash}
 use Rattle.logical_plan.specs.PlanData.{PlanData}
-use Rattle.dataflow_model.specs.Task.{Split, Role, Source, Chain, Window, Sink, Owns, is_source}
-use Rattle.dataflow_model.specs.Layout.{Layout, IsLayout}
+use Rattle.dataflow_model.specs.Task.{Whole, Split, Role, Source, Chain, Window, Sink, is_source}
+use Rattle.dataflow_model.specs.Layout.{Layout, IsLayout, Sends}
 use Rattle.layout_rules.specs.declared.stage.Edge.TheVariants.{ByGroup}
 use Rattle.layout_rules.specs.declared.stage.Stage.{Stage}
 use Rattle.layout_rules.specs.Places.{first, row_of, count}
@@ -246,26 +246,58 @@ module _ (p : PlanData) (e : Entries) (cut : ℕ → ℕ → ℕ) (stops : Bool)
       let b = sh.kept_sink r in
       ap (λ ss. kept_by p ss r) (drop_step stages w (omega (arith, z))) ∙ rw a (ap (λ ss. kept_by p ss r) (drop_step stages (suc w) (omega (arith, z))) ∙ rw b (ap (λ n. kept_by p (drop n stages) r) (sym z) ∙ over_all p stages r))
 
-  pub owned_at : (t j : ℕ) (r : Record) → t < L.before → j < (L.task t).outputs → L.before ≤ L.to t j → Owns p.window.key (L.task t).edge j r → L.owner (at p.window.key r) ≡ L.to t j
-  owned_at t j r l k m o =
+  pub owner_in : (key : ℤ) → owner_of p (width stages w) key < width stages w
+  owner_in key = owner_below p.max (width stages w) (key_group p.max key) (mod_below (murmur_hash (hash_code key)) p.max sh.grouped) (sh.wide w (omega arith))
+
+  -- an edge into another stage than the window's sends whole batches
+  whole_edge : (s s' : Stage) (n : ℕ) → is_window (role_of s'.operators) ≡ false → task_edge p (Some (edge_into s s')) n ≡ Whole
+  whole_edge s s' n e = rw e (elim (cases_Bool (eqb s.parallelism s'.parallelism)) [ inl d ↦ rw d refl | inr d ↦ rw d refl ])
+
+  -- output d of a task that leads to the window has window task d at its end
+  window_at : (t d : ℕ) → t < F w → after stages (stage_of stages t) ≡ w → d < width stages w → (d < (L.task t).outputs) × (L.to t d ≡ F w + d)
+  window_at t d l q m =
+      let ea = early t l in
+      let u : F w + d < F (suc w) = omega (arith, m) in
+      let none = count_none (ring stages t) 0 (F w) (omega arith) (λ v _ vl. is_false (ring stages t v) (λ z. absurd (let rv = rung t v z in let ev = early v vl in omega (arith, rv.1, ev.0, q)))) in
+      let all = count_all (ring stages t) (F w) (F w + d) (omega arith) (λ v a b. into_window t v (omega (arith, ea.0)) q a (omega (arith, b, u))) in
+      let at : count (ring stages t) (F w + d) ≡ d = omega (arith, none, all) in
+      let h = into_window t (F w + d) (omega (arith, ea.0)) q (omega arith) u in
+      let x = select (ring stages t) T (F w + d) (rung t (F w + d) h).0 h in
+      (omega (arith, x.0, at, outputs_are t), ap (L.to t) (sym at) ∙ x.1)
+
+  -- whole batches lead to a stage before the window's
+  no_window : (t j : ℕ) → t < F w → is_window (role_of (stage_at stages (after stages (stage_of stages t))).operators) ≡ false → j < (L.task t).outputs → L.to t j < F w
+  no_window t j l z k =
+      let ea = early t l in
+      let b = after stages (stage_of stages t) in
       let u = L.to t j in
       let x = selected (ring stages t) T j (omega (arith, k, outputs_are t)) in
-      let h : ring stages t u ≡ true = x.1 in
-      let rg = rung t u h in
-      let ea = early t l in
+      let rg = rung t u x.1 in
       let ru = row u rg.0 in
       let sb = sh.before in
-      let ul : stage_of stages u ≤ w = omega (arith, rg.1, ea.0, sb) in
-      let uu : u < F (suc w) = omega (arith, ru.2, first_up (width stages) (suc (stage_of stages u)) (suc w) (omega (arith, ul))) in
-      let q : after stages (stage_of stages t) ≡ w = rung_window t u h m uu in
-      let none = count_none (ring stages t) 0 (F w) (omega arith) (λ v _ vl. is_false (ring stages t v) (λ z. absurd (let rv = rung t v z in let ev = early v vl in omega (arith, rv.1, ev.0, q)))) in
-      let all = count_all (ring stages t) (F w) u m (λ v a b. into_window t v (omega (arith, ea.0)) q a (omega (arith, b, uu))) in
-      let z : is_window (role_of (stage_at stages w).operators) ≡ true = ap is_window sh.window in
-      let y : edge_into (its_stage stages t) (stage_at stages w) ≡ ByGroup = rw z refl in
-      let ed : (its_stage stages t).edge ≡ Some ByGroup = sh.edges (stage_of stages t) (omega (arith, ea.0)) ∙ ap (λ n. Some (edge_into (its_stage stages t) (stage_at stages n))) q ∙ ap Some y in
-      let te : (L.task t).edge ≡ Split (owner_of p (width stages w)) = ap (λ o. task_edge p o (width stages (after stages (stage_of stages t)))) ed ∙ ap (λ n. Split (owner_of p (width stages n))) q in
-      let ow : owner_of p (width stages w) (at p.window.key r) ≡ j = subst (λ d. Owns p.window.key d j r) te o in
-      omega (arith, ow, none, all, x.2)
+      let ne : b ≡ w → ⊥ = λ q. false≢true (sym z ∙ ap (λ n. is_window (role_of (stage_at stages n).operators)) q ∙ ap is_window sh.window) in
+      let bl : stage_of stages u < w = elim (cases_eq b w) [ inl q ↦ absurd (ne q) | inr n ↦ omega (arith, rg.1, ea.0, sb, n) ] in
+      omega (arith, ru.2, first_up (width stages) (suc (stage_of stages u)) w (omega (arith, bl)))
+
+  pub sends_at : (t : ℕ) → t < L.before → Sends L t (L.task t).edge
+  sends_at t l =
+      let ea = early t l in
+      let sb = sh.before in
+      let b = after stages (stage_of stages t) in
+      let ed : (its_stage stages t).edge ≡ Some (edge_into (its_stage stages t) (stage_at stages b)) = sh.edges (stage_of stages t) (omega (arith, ea.0)) in
+      elim (cases_Bool (is_window (role_of (stage_at stages b).operators))) [
+        | inl z ↦ (
+            let q : b ≡ w = elim (cases_lt b w) [
+              | inl k ↦ absurd (false≢true (sym (ap is_window (sh.chain b (omega arith) k)) ∙ z))
+              | inr k ↦ omega (arith, k, ea.0, sb)
+            ] in
+            let y : edge_into (its_stage stages t) (stage_at stages b) ≡ ByGroup = rw z refl in
+            let te : (L.task t).edge ≡ Split (owner_of p (width stages w)) = ap (λ o. task_edge p o (width stages b)) (ed ∙ ap Some y) ∙ ap (λ n. Split (owner_of p (width stages n))) q in
+            subst (Sends L t) (sym te) (λ key. window_at t (owner_of p (width stages w) key) l q (owner_in key)))
+        | inr z ↦ (
+            let te : (L.task t).edge ≡ Whole = ap (λ o. task_edge p o (width stages b)) ed ∙ whole_edge (its_stage stages t) (stage_at stages b) (width stages b) z in
+            subst (Sends L t) (sym te) (λ j k. no_window t j l z k))
+      ]
 
   pub source_at : (t : ℕ) (r : Record) → (L.task t).role ≡ Source → t < L.before → ((L.task t).keeps r && L.rest t r) ≡ L.pass r
   source_at t r h l =
@@ -286,7 +318,7 @@ module _ (p : PlanData) (e : Entries) (cut : ℕ → ℕ → ℕ) (stops : Bool)
             ∙ sym (ap (λ ss. kept_by p ss r) (drop_step stages 0 (omega (arith, sz)))) ∙ sh.all r)
       ]
 
-  pub is_layout : IsLayout p.window.key L
+  pub is_layout : IsLayout L
   is_layout = record {
     some_windows = (let x = sh.wide w (omega arith) in omega (arith, x));
     roles_before = λ t l ns. (let x = early t l in sh.chain (stage_of stages t) (later_task t x.1 ns) x.0);
@@ -316,11 +348,8 @@ module _ (p : PlanData) (e : Entries) (cut : ℕ → ℕ → ℕ) (stops : Bool)
         (outputs_are t ∙ ap (count (ring stages t)) tasks_are ∙ rw h (let z = count_none (ring stages t) 0 (F (suc w)) (omega arith) (λ k _ m. is_false (ring stages t k) (λ q. absurd (omega (arith, m, out_of_window t k a b q)))) in omega (arith, z)), h));
     window_only = λ t u a b l. is_false (ring stages t u) (λ q. absurd (omega (arith, l, out_of_window t u a b q)));
     all_windows = λ t u v a b c d h. into_window t v (rung t u h).3 (rung_window t u h a b) c d;
-    owned = λ t j r l k m o. owned_at t j r l k m o;
-    owner_window = λ key. (
-        let g = mod_below (murmur_hash (hash_code key)) p.max sh.grouped in
-        let d = owner_below p.max (width stages w) (key_group p.max key) g (sh.wide w (omega arith)) in
-        (omega arith, omega (arith, d)));
+    sends = λ t l. sends_at t l;
+    owner_window = λ key. (let d = owner_in key in (omega arith, omega (arith, d)));
     filters = λ s t r l h. (
         let x = rung s t h in
         let y = row t x.0 in

@@ -1,6 +1,7 @@
 -- Numbers dealt out in rows, and the numbers that pass a test.
-use Rattle.std.proofs.Common.{◌≡◌, ℕ, zero, suc, ◌+◌, ◌<◌, ◌≤◌, [], ◌∷◌, ◌++◌, Bool, true, false, cond, leb, length, get_or, refl, sym, ap, ◌∙◌, inl, inr, arith}
-use Rattle.std.proofs.lemmas.Bool.{cases_eq, cases_Bool, cases_lt, leb-true, leb-false}
+use Rattle.std.proofs.Common.{◌≡◌, ℕ, zero, suc, ◌+◌, ◌-◌, ◌*◌, ◌/◌, ◌%◌, ◌<◌, ◌≤◌, [], ◌∷◌, ◌++◌, Bool, true, false, cond, eqb, leb, length, get_or, refl, sym, ap, ◌∙◌, inl, inr, arith}
+use Rattle.std.proofs.lemmas.Bool.{cases_eq, cases_Bool, cases_lt, leb-true, leb-false, eq-eqb, ne_eqb}
+use Rattle.std.proofs.lemmas.Nat.{mod-mul-add, div-add-mod'}
 use Rattle.std.proofs.lemmas.List.{length-append, get_or_append_left, get_or_at}
 use Rattle.layout_rules.specs.Places.{first, row_of, those, count}
 
@@ -102,3 +103,30 @@ count_all test a (suc n) l h =
       | inl e ↦ rw e refl
       | inr ne ↦ let z = h n (omega arith) (omega arith) in rw z (omega (arith, count_all test a n (omega arith) (λ k x y. h k x (omega arith))))
     ]
+
+-- of the numbers below a * w + j, where j is at most i, a leave i when divided by w
+count_mod : (w i : ℕ) → i < w → (a j : ℕ) → j ≤ i → count (λ k. eqb (k % w) i) (a * w + j) ≡ a
+count_mod w i l zero zero m = let to : 0 * w + 0 ≡ 0 = omega arith in ap (count (λ k. eqb (k % w) i)) to
+count_mod w i l (suc a) zero m =
+    let test : ℕ → Bool = λ k. eqb (k % w) i in
+    let before : count test (a * w + i) ≡ a = count_mod w i l a i (omega arith) in
+    let it : test (a * w + i) ≡ true = eq-eqb ((a * w + i) % w) i (mod-mul-add a w i l) in
+    let one : count test (suc (a * w + i)) ≡ suc a = rw it (omega (arith, before)) in
+    let none : count test (a * w + w) ≡ count test (suc (a * w + i)) = count_none test (suc (a * w + i)) (a * w + w) (omega (arith, l)) (λ k x y. (
+    let at : k % w ≡ (k - a * w) = ap (λ n. n % w) (let z : k ≡ a * w + (k - a * w) = omega (arith, x) in z) ∙ mod-mul-add a w (k - a * w) (omega (arith, x, y)) in
+    ne_eqb (k % w) i (λ q. omega (arith, q, at, x)))) in
+    let to : suc a * w + 0 ≡ a * w + w = omega arith in
+    ap (count test) to ∙ none ∙ one
+count_mod w i l a (suc j) m =
+    let test : ℕ → Bool = λ k. eqb (k % w) i in
+    let e : (a * w + j) % w ≡ j = mod-mul-add a w j (omega (arith, l, m)) in
+    let no : test (a * w + j) ≡ false = ne_eqb ((a * w + j) % w) i (λ q. omega (arith, q, e, m)) in
+    let step : count test (suc (a * w + j)) ≡ a = rw no (omega (arith, count_mod w i l a j (omega (arith, m)))) in
+    let to : a * w + suc j ≡ suc (a * w + j) = omega arith in
+    ap (count test) to ∙ step
+
+-- so a number that leaves i has as many before it as w goes into it
+pub count_div : (w i v : ℕ) → i < w → v % w ≡ i → count (λ k. eqb (k % w) i) v ≡ v / w
+count_div w i v l e =
+    let to : v ≡ v / w * w + i = omega (arith, e, div-add-mod' v w) in
+    ap (count (λ k. eqb (k % w) i)) to ∙ count_mod w i l (v / w) i (omega arith)

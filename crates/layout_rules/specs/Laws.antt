@@ -11,10 +11,10 @@ use Rattle.layout_rules.specs.Rules.{follows, groups, in_stages, IsCompiled, win
 use Rattle.layout_rules.specs.Scale.{ScaleData, IsScale}
 use Rattle.layout_rules.specs.Layouts.{Entries, layout_of, input_of}
 
--- a compiled layout has the laws of a layout, and deals each partition to one task
+-- a compiled layout has the laws of a layout, and deals each partition to one place of one task
 abbrev pub CompiledIsLayout : Type 0
 CompiledIsLayout = (p : PlanData) (c : ScaleData) (e : Entries) (cut : ℕ → ℕ → ℕ) (stops : Bool) (stages : List Stage) → IsPlan p → IsScale p c → IsCompiled p c stages
-    → IsLayout p.window.key (layout_of p e cut stops stages (window_of stages)) × Deals (input_of p e) (layout_of p e cut stops stages (window_of stages))
+    → IsLayout (layout_of p e cut stops stages (window_of stages)) × Deals (input_of p e) cut (layout_of p e cut stops stages (window_of stages))
 
 -- a plan has one list of stages at a scale
 abbrev pub CompiledOnce : Type 0

@@ -63,6 +63,8 @@ task_of p e cut stops stages t =
       outputs = length (outputs_of stages t);
       edge = task_edge p s.edge (width stages (after stages (stage_of stages t)));
       keeps = kept p s.operators;
+      source = x;
+      partition = slice_index mine;
       entry = λ k. e.entry x (slice_index mine k);
       watermark = λ k. e.watermark x (slice_index mine k);
       limit = λ k. cut x (slice_index mine k);
@@ -70,12 +72,14 @@ task_of p e cut stops stages t =
       stops = stops;
     }
 
--- the layout whose window is stage w
+-- the layout whose window is stage w; source x is stage x
 abbrev pub layout_of : PlanData → Entries → (ℕ → ℕ → ℕ) → Bool → List Stage → ℕ → Layout
 layout_of p e cut stops stages w = record {
   before = first (width stages) w;
   sink = first (width stages) (suc w);
   task = task_of p e cut stops stages;
+  first_task = first (width stages);
+  parallelism = width stages;
   ring = ring stages;
   from = λ t i. slice_index (inputs_of stages t) i;
   to = λ s j. slice_index (outputs_of stages s) j;
@@ -86,16 +90,24 @@ layout_of p e cut stops stages w = record {
   rest = λ t. kept_by p (drop (after stages (stage_of stages t)) stages);
 }
 
--- the source of partition q, where partitions are numbered through the sources, and its place there
+-- the source of partition q, where partitions are numbered through the sources, and its number there
 abbrev pub source_at : PlanData → ℕ → ℕ
 source_at p q = row_of (slice_index (partition_counts p)) (length p.sources) q
 
 abbrev pub partition_at : PlanData → ℕ → ℕ
 partition_at p q = q - first (slice_index (partition_counts p)) (source_at p q)
 
+-- the number through all sources of partition k of source x
+abbrev pub through_all : PlanData → ℕ → ℕ → ℕ
+through_all p x k = first (slice_index (partition_counts p)) x + k
+
 abbrev pub input_of : PlanData → Entries → Input
 input_of p e = record {
+  sources = length p.sources;
   partitions = first (slice_index (partition_counts p)) (length p.sources);
+  source = source_at p;
+  number = partition_at p;
+  through = through_all p;
   entry = λ q. e.entry (source_at p q) (partition_at p q);
   watermark = λ q. e.watermark (source_at p q) (partition_at p q);
   size = λ q. e.size (source_at p q) (partition_at p q);

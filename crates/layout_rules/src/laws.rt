@@ -3,8 +3,9 @@
 ghost use Rattle.layout_rules.specs.Laws.{CompiledIsLayout, CompiledOnce, CompiledEver, OneMore, StagesAlike, TasksCounted};
 ghost use Rattle.layout_rules.specs.Example.{FiveStages};
 
-/// The stages of a plan at a scale are a layout: its tasks and rings go together, a record comes to the one
-/// window task that owns its key and through every filter, and each partition is read by one task.
+/// The stages of a plan at a scale are a layout: its tasks and rings go together, each key has an output that
+/// leads to the one window task that owns it, a record comes through every filter, and partition k of a source
+/// with n tasks stands at place k / n of its task k mod n.
 pub fn compiled_is_layout()
     ensures { CompiledIsLayout }
 {}
