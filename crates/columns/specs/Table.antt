@@ -21,7 +21,13 @@ rows_of columns n = map (row_at columns) (range_with_len 0 n)
 abbrev pub rows_in : List (Vec ℤ Global) → List Record
 rows_in rows = map (λ row. row.items) rows
 
--- columns of one length, which is the number of rows, at most 4,096
+-- how many columns a batch may have: 1 to 16
+pub record IsWidth (n : ℕ) : Type 0 where
+  pub some : 1 ≤ n
+  pub narrow : n ≤ 16
+
+-- so many columns, of one length, which is the number of rows, at most 4,096
 pub record AreColumns (columns : List (Vec ℤ Global)) (count : ℕ) : Type 0 where
+  pub width : IsWidth (length columns)
   pub even : All (λ column. length column.items ≡ count) columns
   pub few : count ≤ 4096

@@ -5,7 +5,7 @@
 
 ghost use Rattle.std.specs.Prelude.{[], IsTrue, ◌<◌, ◌↔◌, ◌≡◌, ◌≤◌, length, map, slice_index_or};
 ghost use Rattle.plain_data.specs.Record.{at, column_of};
-ghost use Rattle.columns.specs.Table.{AreColumns, rows_of};
+ghost use Rattle.columns.specs.Table.{AreColumns, IsWidth, rows_of};
 
 mod fault;
 mod parts;
@@ -38,7 +38,7 @@ impl Model for Batch {
 }
 
 impl Batch {
-    /// The batch of columns that have `count` rows each, at most 4,096. No number is copied.
+    /// The batch of 1 to 16 columns that have `count` rows each, at most 4,096. No number is copied.
     pub fn from_columns(columns: Vec<Vec<i64>>, count: usize) -> Batch
         requires { AreColumns columns.items count }
         ensures { result ≡ record {
@@ -64,9 +64,10 @@ impl Batch {
         self.len() == 0
     }
 
-    /// How many columns there are.
+    /// How many columns there are: 1 to 16.
     pub fn width(&self) -> usize
-        ensures { result ≡ self.now.width }
+        ensures says { result ≡ self.now.width }
+        ensures bounded { IsWidth result }
     {
         self.columns.len()
     }

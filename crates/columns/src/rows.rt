@@ -3,7 +3,7 @@ ghost use Rattle.std.specs.Prelude.{IfErr, IfNone, IfOk, OnOk, None, Some, ◌<�
 ghost use Rattle.std.specs.List.{All, position, range_with_len};
 ghost use Rattle.plain_data.specs.Record.{column_of};
 ghost use Rattle.columns.specs.Fault.{first_fault};
-ghost use Rattle.columns.specs.Table.{rows_in};
+ghost use Rattle.columns.specs.Table.{IsWidth, rows_in};
 
 use crate::Batch;
 use crate::fault::BatchFault;
@@ -79,6 +79,7 @@ fn column_at(alloc: Global, rows: &[Vec<i64>], c: usize) -> Result<Vec<i64>, All
 
 // The batch of rows of one width.
 fn batch_of(alloc: Global, rows: &[Vec<i64>], width: usize) -> Result<Batch, AllocError>
+    requires sized { IsWidth width }
     requires even { All (λ row. length row.items ≡ width) rows.now }
     requires few { length rows.now ≤ 4096 }
     ensures { IfOk result (λ batch. batch ≡ record { width = width; rows = rows_in rows.now }) }

@@ -79,6 +79,20 @@ fn parts_have_their_rows(rt: HostRuntime) -> Result<(), Fail> {
 }
 
 #[test]
+fn a_batch_at_its_limits(rt: HostRuntime) -> Result<(), Fail> {
+    let alloc = rt.alloc();
+    let mut rows = Vec::new(alloc);
+    for _ in 0..4096 {
+        rows.push(row(alloc, &[7; 16])?)?;
+    }
+    let batch = Batch::from_rows(alloc, &rows, 16)?;
+    assert!(rt; batch.len() == 4096 && batch.width() == 16);
+    let none = batch.keep(alloc, &[false; 4096])?;
+    assert!(rt; none.is_empty() && none.width() == 16);
+    Ok(())
+}
+
+#[test]
 fn columns_become_a_batch(rt: HostRuntime) -> Result<(), Fail> {
     let alloc = rt.alloc();
     let columns = vec![in alloc; row(alloc, &[1, 2])?, row(alloc, &[3, 4])?]?;

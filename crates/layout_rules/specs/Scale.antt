@@ -2,7 +2,7 @@
 use Rattle.std.specs.Prelude.{◌≡◌, ℕ, ◌≤◌, length}
 use Rattle.std.specs.List.{All}
 use Rattle.logical_plan.specs.PlanData.{PlanData}
-pub use Rattle.layout_rules.specs.ScaleData.{FilterScale, ScaleData, scale_data_of}
+pub use Rattle.layout_rules.specs.ScaleData.{FilterScale, ScaleData, IsRing, scale_data_of}
 use Rattle.layout_rules.specs.Stages.{tasks}
 use Rattle.layout_rules.specs.Rules.{stages_of}
 
@@ -14,8 +14,7 @@ pub record IsParallelism (max n : ℕ) : Type 0 where
 
 -- what every scale that is read by a plan meets: the layout has at most 256 tasks, with the sink's
 pub record IsScale (p : PlanData) (c : ScaleData) : Type 0 where
-  pub ringed : 1 ≤ c.ring
-  pub ring_small : c.ring ≤ 1024
+  pub ring : IsRing c.ring
   pub sources : length c.sources ≡ length p.sources
   pub filters : length c.filters ≡ length p.filters
   pub source_parallelisms : All (IsParallelism p.max) c.sources

@@ -1,6 +1,11 @@
 -- A scale as contracts see it: the rings' capacity, and the operators' parallelism.
-use Rattle.std.specs.Prelude.{ℕ, List}
+use Rattle.std.specs.Prelude.{ℕ, ◌≤◌, List}
 pub use Rattle.layout_rules.specs.declared.stage.FilterScale.{FilterScale}
+
+-- how many messages a ring may hold: 1 to 1,024
+pub record IsRing (n : ℕ) : Type 0 where
+  pub some : 1 ≤ n
+  pub small : n ≤ 1024
 
 -- sources and filters stand in plan order
 pub record ScaleData : Type 0 where

@@ -12,7 +12,7 @@ use Rattle.logical_plan.specs.declared.spec.FilterSpec.{FilterSpec}
 use Rattle.logical_plan.specs.PlanData.{PlanData, IsPlan}
 use Rattle.logical_plan.specs.Requirements.{is_within}
 use Rattle.layout_rules.specs.declared.stage.FilterScale.{FilterScale}
-use Rattle.layout_rules.specs.Scale.{IsParallelism, IsScale}
+use Rattle.layout_rules.specs.Scale.{IsParallelism, IsScale, IsRing}
 use Rattle.layout_rules.specs.ScaleData.{ScaleData}
 use Rattle.layout_rules.specs.Stages.{tasks}
 use Rattle.layout_rules.specs.Rules.{stages_of}
@@ -31,8 +31,8 @@ above_zero : (max : ℕ) (z : ℤ) → is_within (pos 1) (pos (min 64 max)) z �
 above_zero max (pos n) h = record { some = grind (arith, ints); few = grind (arith, ints); grouped = grind (arith, ints) }
 above_zero max (negsuc n) h = absurd (grind (arith, ints))
 
-ring_within : (z : ℤ) → is_within (pos 1) (pos 1024) z ≡ true → (1 ≤ unsigned_abs z) × (unsigned_abs z ≤ 1024)
-ring_within (pos n) h = (grind (arith, ints), grind (arith, ints))
+ring_within : (z : ℤ) → is_within (pos 1) (pos 1024) z ≡ true → IsRing (unsigned_abs z)
+ring_within (pos n) h = record { some = grind (arith, ints); small = grind (arith, ints) }
 ring_within (negsuc n) h = absurd (grind (arith, ints))
 
 under : (plan : PlanData) (text : ScaleText) → IsPlan plan → has_parallelism plan text ≡ true → (uid : List ℕ) → IsParallelism plan.max (parallelism_under uid text.operators)
@@ -84,8 +84,7 @@ is_scale plan text p parallelism ring few =
     let held = ring_within text.ring ring in
     let all = counted plan text p parallelism in
     record {
-      ringed = held.0;
-      ring_small = held.1;
+      ring = held;
       sources = all.fits.sources;
       filters = all.fits.filters;
       source_parallelisms = all.sources;
@@ -141,8 +140,7 @@ single_is_scale plan p =
     let few = p.sources_few in
     let count : task_count (single_scale plan) ≤ 256 = omega arith in
     record {
-      ringed = omega arith;
-      ring_small = omega arith;
+      ring = record { some = omega arith; small = omega arith };
       sources = fits.sources;
       filters = fits.filters;
       source_parallelisms = All-map (IsParallelism plan.max) (λ (s : SourceSpec). 1) plan.sources (λ k d h. one);

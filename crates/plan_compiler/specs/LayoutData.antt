@@ -4,7 +4,7 @@ use Rattle.std.specs.List.{range_with_len}
 use Rattle.logical_plan.specs.PlanData.{PlanData}
 use Rattle.layout_rules.specs.declared.stage.Stage.{Stage}
 use Rattle.layout_rules.specs.declared.stage.TaskPlace.{TaskPlace}
-use Rattle.layout_rules.specs.ScaleData.{ScaleData}
+use Rattle.layout_rules.specs.ScaleData.{ScaleData, IsRing}
 use Rattle.layout_rules.specs.Stages.{sources, tasks, place_of, inputs_of, outputs_of, partitions_of}
 use Rattle.layout_rules.specs.Rules.{IsCompiled}
 use Rattle.layout_rules.specs.Scale.{IsScale}
@@ -40,10 +40,11 @@ pub record HasTasks (stages : List Stage) (opened : ℕ) (places : List TaskPlac
   pub stages_few : length stages ≤ 256
   pub tasks_few : tasks stages ≤ 256
 
--- the tables of a layout
+-- the tables of a layout, and what rings may hold
 pub record HasTables (l : LayoutData) (places : List TaskPlace) (inputs outputs partitions : List (List ℕ)) : Type 0 where
   pub placed : places ≡ each_task l.stages (place_of l.stages)
   pub taken : inputs ≡ each_task l.stages (inputs_of l.stages)
   pub given : outputs ≡ each_task l.stages (outputs_of l.stages)
   pub read : partitions ≡ each_task l.stages (partitions_of l.partitions l.stages)
   pub few : tasks l.stages ≤ 256
+  pub ring : IsRing l.ring

@@ -41,6 +41,7 @@ impl Model for Layout {
 impl Layout {
     ghost use Rattle.std.specs.Prelude.{◌≡◌, ◌<◌, ◌≤◌, length};
     ghost use Rattle.layout_rules.specs.Stages.{tasks as task_count, place_of, inputs_of as inputs_said, outputs_of as outputs_said, partitions_of as partitions_said};
+    ghost use Rattle.layout_rules.specs.ScaleData.{IsRing};
     ghost use Rattle.plan_compiler.specs.LayoutData.{layout_data_of, HasTables, each_task};
 
     pub(crate) fn new(stages: Items<Stage>, counts: Items<u32>, ring: u32, tables: Tables) -> Layout
@@ -108,9 +109,10 @@ impl Layout {
         self.partitions.as_slice()[task as usize].as_slice()
     }
 
-    /// How many messages a ring holds.
+    /// How many messages a ring holds: 1 to 1,024.
     pub fn ring(&self) -> u32
-        ensures { result ≡ self.now.ring }
+        ensures says { result ≡ self.now.ring }
+        ensures bounded { IsRing result }
     {
         self.ring
     }

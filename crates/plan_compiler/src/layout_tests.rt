@@ -109,3 +109,25 @@ fn a_filter_is_chained_where_its_scale_says(rt: HostRuntime) -> Result<(), Fail>
     );
     Ok(())
 }
+
+const NONE_CHAINED: &str =
+    r#"{"ring":4,"operators":{"s":{"parallelism":1},"f":{"parallelism":1,"chain":false},"g":{"parallelism":1,"chain":false},"w":{"parallelism":1}}}"#;
+
+#[test]
+fn the_most_filters_in_stages_of_their_own(rt: HostRuntime) -> Result<(), Fail> {
+    let mut filters = format!(in rt.alloc(); "\"filters\":[")?;
+    let mut operators = format!(in rt.alloc(); "\"operators\":{{")?;
+    for n in 0..30 {
+        let filter = format!(in rt.alloc();
+            "{{\"uid\":\"f{n}\",\"column\":2,\"op\":\"gt\",\"value\":0}},"
+        )?;
+        filters.push_str(filter.as_str())?;
+        let scale = format!(in rt.alloc(); "\"f{n}\":{{\"parallelism\":1,\"chain\":false}},")?;
+        operators.push_str(scale.as_str())?;
+    }
+    let plan = TWO_FILTERS.replacen(rt.alloc(), "\"filters\":[", filters.as_str(), 1)?;
+    let scale = NONE_CHAINED.replacen(rt.alloc(), "\"operators\":{", operators.as_str(), 1)?;
+    let layout = layout_of(&rt, plan.as_str(), scale.as_str())?;
+    assert_eq!(rt; (layout.stages().len(), layout.tasks().len()), (35, 35));
+    Ok(())
+}

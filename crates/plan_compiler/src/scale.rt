@@ -12,16 +12,18 @@ pub struct Scale {
 }
 
 impl Model for Scale {
-    ghost use Rattle.layout_rules.specs.ScaleData.{ScaleData, scale_data_of};
+    ghost use Rattle.layout_rules.specs.ScaleData.{ScaleData, IsRing, scale_data_of};
 
     ghost Value = { ScaleData };
 
     ghost view = { λ s. scale_data_of s.ring s.sources s.filters s.window };
+
+    ghost invariant = { λ s. IsRing s.ring };
 }
 
 impl Scale {
     ghost use Rattle.std.specs.Prelude.{◌≡◌};
-    ghost use Rattle.layout_rules.specs.ScaleData.{scale_data_of};
+    ghost use Rattle.layout_rules.specs.ScaleData.{IsRing, scale_data_of};
 
     pub(crate) fn new(
         ring: u32,
@@ -29,6 +31,7 @@ impl Scale {
         filters: Items<FilterScale>,
         window: u32,
     ) -> Scale
+        requires { IsRing ring }
         ensures { result ≡ scale_data_of ring sources filters window }
     {
         Scale {
@@ -41,7 +44,8 @@ impl Scale {
 
     /// How many messages a ring holds: 1 to 1,024.
     pub fn ring(&self) -> u32
-        ensures { result ≡ self.now.ring }
+        ensures says { result ≡ self.now.ring }
+        ensures bounded { IsRing result }
     {
         self.ring
     }

@@ -94,6 +94,24 @@ fn refusals(rt: HostRuntime) -> Result<(), Fail> {
 }
 
 #[test]
+fn texts_of_faults(rt: HostRuntime) -> Result<(), Fail> {
+    for (fault, want) in [
+        (ScaleFault::NotJson, "S1 NotJson"),
+        (ScaleFault::Member, "S2 Member"),
+        (ScaleFault::UnknownUid, "S3 UnknownUid"),
+        (ScaleFault::MissingUid, "S4 MissingUid"),
+        (ScaleFault::Parallelism, "S5 Parallelism"),
+        (ScaleFault::Ring, "S6 Ring"),
+        (ScaleFault::Tasks, "S7 Tasks"),
+        (ScaleFault::Memory, "S8 Memory"),
+    ] {
+        let text = format!(in rt.alloc(); "{fault}")?;
+        assert_eq!(rt; text.as_str(), want);
+    }
+    Ok(())
+}
+
+#[test]
 fn the_order_of_refusals(rt: HostRuntime) -> Result<(), Fail> {
     let plan = Plan::read(rt.alloc(), PLAN.as_bytes())?;
     for (text, want) in [

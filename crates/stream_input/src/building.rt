@@ -3,6 +3,7 @@
 ghost use Rattle.std.specs.Prelude.{◌≡◌, ◌≤◌, true, length, map, IfOk};
 ghost use Rattle.std.specs.List.{All, range_with_len};
 ghost use Rattle.plain_data.specs.Record.{column_of as column_in};
+ghost use Rattle.columns.specs.Table.{IsWidth};
 ghost use Rattle.stream_input.specs.Draft.{row_draft_text, entry_draft_text, partition_draft_text, draft_text};
 ghost use Rattle.stream_input.specs.Said.{record_of, entry_of as entry_said, sources_of as sources_said};
 ghost use Rattle.stream_input.specs.Requirements.{is_wide, is_sized, has_width, has_rows};
@@ -44,6 +45,7 @@ fn columns_of(
 }
 
 fn batch_of(alloc: Global, columns: usize, rows: &[Vec<Cell>]) -> Result<Batch, AllocError>
+    requires width { IsWidth columns }
     requires wide { All (λ row. length row.items ≡ columns) rows.now }
     requires few { length rows.now ≤ 4096 }
     ensures { IfOk result (λ batch. batch ≡ record { width = columns; rows = map record_of (map row_draft_text rows.now) }) }
@@ -53,6 +55,7 @@ fn batch_of(alloc: Global, columns: usize, rows: &[Vec<Cell>]) -> Result<Batch, 
 }
 
 fn entry_of(alloc: Global, columns: usize, draft: &EntryDraft) -> Result<Entry, AllocError>
+    requires width { IsWidth columns }
     requires wide { is_wide columns (entry_draft_text draft.now) ≡ true }
     requires sized { is_sized (entry_draft_text draft.now) ≡ true }
     ensures { IfOk result (λ entry. entry ≡ entry_said columns (entry_draft_text draft.now)) }
@@ -68,6 +71,7 @@ fn partition_of(
     columns: usize,
     drafts: &[EntryDraft],
 ) -> Result<Partition, AllocError>
+    requires width { IsWidth columns }
     requires wide { All (λ e. is_wide columns (entry_draft_text e) ≡ true) drafts.now }
     requires sized { All (λ e. is_sized (entry_draft_text e) ≡ true) drafts.now }
     ensures { IfOk result (λ found. found ≡ map (entry_said columns) (map entry_draft_text drafts.now)) }
@@ -84,6 +88,7 @@ fn source_of(
     columns: usize,
     drafts: &[Vec<EntryDraft>],
 ) -> Result<Source, AllocError>
+    requires width { IsWidth columns }
     requires wide { All (λ p. All (λ e. is_wide columns (entry_draft_text e) ≡ true) p.items) drafts.now }
     requires sized { All (λ p. All (λ e. is_sized (entry_draft_text e) ≡ true) p.items) drafts.now }
     ensures { IfOk result (λ found. found ≡ map (map (entry_said columns)) (map partition_draft_text drafts.now)) }

@@ -2,6 +2,7 @@
 
 ghost use Rattle.std.specs.Prelude.{◌≡◌, ◌<◌, ◌≤◌, ◌*◌, ℤ, true, List, Option, Some, length, map, IfOk};
 ghost use Rattle.std.specs.List.{range_with_len};
+ghost use Rattle.columns.specs.Table.{IsWidth};
 ghost use Rattle.json_tokens.specs.Rows.{joined};
 ghost use Rattle.stream_input.specs.Fit.{column_in_cells, if_fit};
 ghost use Rattle.stream_input.specs.InputText.{rows};
@@ -54,7 +55,8 @@ fn columns_at(
 /// The batch of rows of `width` cells each, where it makes an entry that the format allows. The times are
 /// in the column `time`.
 pub fn batch_at(alloc: Global, cells: &[i64], width: usize, time: usize) -> Result<Batch, Miss>
-    requires { time < width }
+    requires width { IsWidth width }
+    requires time { time < width }
     ensures { IfOk result (λ batch. (found : List (List (Option ℤ))) → is_wide width (rows found) ≡ true → is_whole (rows found) ≡ true
         → joined (map record_of found) ≡ cells.now → if_fit width time (rows found) ≡ Some (Rows batch)) }
 {

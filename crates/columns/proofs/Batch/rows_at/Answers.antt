@@ -2,7 +2,7 @@ use Rattle.std.proofs.Common.{◌≡◌, ◌<◌, ℤ, Vec, Global, List, [], �
 use Rattle.std.specs.List.{All}
 use Rattle.std.proofs.lemmas.List.{take_all, take_more, length-map, map-append}
 use Rattle.std.proofs.lemmas.List.Elements.{All-map}
-use Rattle.columns.specs.Table.{Table, rows_of}
+use Rattle.columns.specs.Table.{Table, IsWidth, rows_of}
 use Rattle.columns.specs.Parts.{with_rows}
 use Rattle.columns.proofs.Columns.{length-rows_of, map-map}
 use Rattle.columns.proofs.Picked.{picked, rows_of-picked, All-length_items}
@@ -39,7 +39,11 @@ invariant_of-result c =
     let held = λ (column : Vec ℤ Global). column.items in
     let picks = λ (column : Vec ℤ Global). picked places column.items in
     let rest = take c.loop-column.column-index c.deref-column-items.result.now in
+    let cols = c.loop-column.columns.items in
+    let whole : rest ≡ c.self.inside.columns.items = take_all _ _ (omega arith) ∙ c.deref-column-items.ensures.value in
+    let wide : length c.self.inside.columns.items ≡ length cols = ap length (sym whole) ∙ sym (length-map rest picks) ∙ ap length (sym c.loop-column.invariant) ∙ length-map cols held in
     record {
+      width = subst IsWidth wide c.self.invariant.width;
       even =
           All-length_items c.loop-column.columns.items (map picks rest) (length places) c.loop-column.invariant
           (All-map (λ (list : List ℤ). length list ≡ length places) picks rest (λ k d h. length-map places (λ place. get_or (get_or rest k d).items place _)));
