@@ -193,6 +193,7 @@ equal_records p q sp sq e =
       max = head.max;
       time = head.time;
       key = head.key;
+      size = span.size;
       sources = λ uid. same_uids (bytes_eq uid) (map (λ s. s.uid) p.sources) (map (λ s. s.uid) q.sources) sources.0;
       passing = λ r. passes_by p.filters r ∙ same_conditions (meets (λ c. at c r)) (map filter_condition p.filters) (map filter_condition q.filters) passing.0 ∙ sym (passes_by q.filters r);
       windows = same_windows p.window q.window _ _ sp.window span;

@@ -12,6 +12,7 @@ pub record IsAlike (p q : PlanData) : Type 0 where
   pub max : p.max ≡ q.max
   pub time : p.window.time ≡ q.window.time
   pub key : p.window.key ≡ q.window.key
+  pub size : p.window.size ≡ q.window.size
   pub sources : (uid : List ℕ) → list_any (bytes_eq uid) (map (λ s. s.uid) p.sources) ≡ list_any (bytes_eq uid) (map (λ s. s.uid) q.sources)
   pub passing : (r : Record) → passes p.filters r ≡ passes q.filters r
   pub windows : (t s : ℤ) → is_window_of p.window t s ≡ is_window_of q.window t s

@@ -1,4 +1,4 @@
--- The canonical record of a plan: bytes that two plans share where they count, keep and group alike.
+-- The canonical record of a plan: plans with equal records count, keep and group alike.
 -- Partitions, the uids of filters and window, and the order of filters are not in it.
 use Rattle.std.specs.Prelude.{ℕ, ℤ, List, [], ◌∷◌, ◌++◌, map, fold, length}
 use Rattle.std.specs.Int.{w16, w64, to_be_bytes, cast_unsigned, int_rem_euclid}
