@@ -42,7 +42,7 @@ partition_watermark-rises p n k h =
     let step = λ (w : ℤ) (e : Entry). int_max w (watermark_of_entry e) in
     rw (here, there, take-add n k p, fold-append step lowest (take n p) (take k (drop n p))) (le_fold (fold step lowest (take n p)) (take k (drop n p)))
 
-all_in : {X : Type 0} (Q : Record → Type 0) (g : X → List Record) (xs : List X) → ((k : ℕ) (d : X) → k < length xs → All Q (g (get_or xs k d))) → All Q (flat_map g xs)
+pub all_in : {X : Type 0} (Q : Record → Type 0) (g : X → List Record) (xs : List X) → ((k : ℕ) (d : X) → k < length xs → All Q (g (get_or xs k d))) → All Q (flat_map g xs)
 all_in Q g [] h = All-nil Q
 all_in Q g (x ∷ xs) h = All-append Q (g x) (flat_map g xs) (h 0 x (omega arith)) (all_in Q g xs (λ k d k_in. h (suc k) d (omega arith)))
 
@@ -54,7 +54,7 @@ filter_nothing p (x ∷ xs) h = ap (λ b. cond b (x ∷ filter p xs) (filter p x
 past_end : (w : WindowSpec) (s t : ℤ) → (s +ℤ w.size -ℤ pos 1) <ℤ t → is_within w s t ≡ false
 past_end w s t h = grind (arith, ints)
 
-not_at : (a b : Bool) → b ≡ false → (a && b) ≡ false
+pub not_at : (a b : Bool) → b ≡ false → (a && b) ≡ false
 not_at false b e = refl
 not_at true b e = e
 

@@ -1,4 +1,5 @@
 pub mod Cuts
+pub mod Snapshots
 pub mod Due
 pub mod Unique
 pub mod Greatest

@@ -1,16 +1,18 @@
 -- The laws of watermarks, cuts and the plan's rows.
-use Rattle.std.specs.Prelude.{◌≡◌, ◌≢◌, ℕ, ℤ, ◌≤ℤ◌, ◌⊎◌, true, List, length, take, Option}
+use Rattle.std.specs.Prelude.{◌≡◌, ◌≢◌, ℕ, ℤ, ◌≤ℤ◌, ◌⊎◌, true, false, List, length, take, Option, Some, None, if◌then◌else◌}
 use Rattle.std.specs.List.{All, AllByRecursion, list_any}
+use Rattle.std.specs.Option.{option_and_then}
 use Rattle.std.specs.Ordering.{int_eq}
 use Rattle.logical_plan.specs.declared.spec.Place.{Place}
 use Rattle.logical_plan.specs.declared.spec.Row.{Row}
 use Rattle.logical_plan.specs.declared.spec.WindowSpec.{WindowSpec}
-use Rattle.logical_plan.specs.PlanData.{PlanData}
+use Rattle.logical_plan.specs.PlanData.{PlanData, IsPlan}
 use Rattle.logical_plan.specs.Aggregates.{merge}
-use Rattle.logical_plan.specs.Rows.{is_due}
+use Rattle.logical_plan.specs.Rows.{is_due, kept_row}
 use Rattle.stream_input.specs.declared.entry.Entry.{Entry}
-use Rattle.stream_input.specs.Watermarks.{lowest, highest, watermark_of_entry, partition_watermark, merged_watermark, records_before, records_between, full_cut, IsOrderly, IsCut, IsBefore}
-use Rattle.stream_input.specs.PlanRows.{plan_aggregate}
+use Rattle.stream_input.specs.InputData.{InputData, IsInput, BelongsTo}
+use Rattle.stream_input.specs.Watermarks.{lowest, highest, watermark_of_entry, partition_watermark, merged_watermark, records_before, records_between, full_cut, empty_cut, IsOrderly, IsCut, IsBefore}
+use Rattle.stream_input.specs.PlanRows.{plan_aggregate, plan_rows, due_rows, snapshot, carried}
 use Rattle.stream_input.specs.Text.{IsTextOf}
 
 -- short of its end, a partition's watermark is at least each watermark before it, and is one of them or the least i64
@@ -36,6 +38,32 @@ abbrev pub CutsMerge : Type 0
 CutsMerge = (plan : PlanData) (sources : List (List (List Entry))) (b c : List (List ℕ)) (q : Place) → IsBefore b c
     → plan_aggregate plan (records_before sources c) q
     ≡ merge plan.window.aggregates (plan_aggregate plan (records_before sources b) q) (plan_aggregate plan (records_between sources b c) q)
+
+-- at the full cut all of the plan's rows are due
+abbrev pub EndIsDue : Type 0
+EndIsDue = (plan : PlanData) (i : InputData) (q : Place) → IsPlan plan → IsInput i → BelongsTo plan i
+    → due_rows plan i.sources (full_cut i.sources) q ≡ plan_rows plan i.sources q
+
+-- a row that is due at a cut is due at each later one
+abbrev pub DueRowsStay : Type 0
+DueRowsStay = (plan : PlanData) (i : InputData) (b c : List (List ℕ)) (q : Place) (row : Row) → IsInput i → IsBefore b c → IsCut i.sources c
+    → due_rows plan i.sources b q ≡ Some row → due_rows plan i.sources c q ≡ Some row
+
+-- nothing stands in the windows at the empty cut
+abbrev pub NothingAtFirst : Type 0
+NothingAtFirst = (plan : PlanData) (sources : List (List (List Entry))) (q : Place) → snapshot plan sources (empty_cut sources) q ≡ None
+
+-- what is left at a later cut is what was carried there, less what fires
+abbrev pub SnapshotGoesOn : Type 0
+SnapshotGoesOn = (plan : PlanData) (i : InputData) (b c : List (List ℕ)) (q : Place) → IsInput i → IsBefore b c → IsCut i.sources c
+    → snapshot plan i.sources c q ≡ (if is_due plan.window (merged_watermark i.sources c) q.start then None else carried plan i.sources b c q)
+
+-- where nothing was due at the earlier cut, what is due at the later one is the row of what was carried there
+abbrev pub CarriedFires : Type 0
+CarriedFires = (plan : PlanData) (i : InputData) (b c : List (List ℕ)) (q : Place) → IsInput i → IsOrderly plan.window.time i.sources → IsBefore b c → IsCut i.sources c
+    → is_due plan.window (merged_watermark i.sources b) q.start ≡ false
+    → due_rows plan i.sources c q
+    ≡ (if is_due plan.window (merged_watermark i.sources c) q.start then option_and_then (kept_row plan.window q) (carried plan i.sources b c q) else None)
 
 -- rows have one text
 abbrev pub TextIsDetermined : Type 0

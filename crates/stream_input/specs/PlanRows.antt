@@ -7,10 +7,10 @@ use Rattle.logical_plan.specs.declared.spec.Place.{Place}
 use Rattle.logical_plan.specs.declared.spec.Row.{Row}
 use Rattle.logical_plan.specs.PlanData.{PlanData}
 use Rattle.logical_plan.specs.Windows.{passes}
-use Rattle.logical_plan.specs.Aggregates.{Aggregated}
+use Rattle.logical_plan.specs.Aggregates.{Aggregated, merge}
 use Rattle.logical_plan.specs.Rows.{aggregate_at, kept_row, is_due}
 use Rattle.stream_input.specs.declared.entry.Entry.{Entry}
-use Rattle.stream_input.specs.Watermarks.{records_before, full_cut, merged_watermark}
+use Rattle.stream_input.specs.Watermarks.{records_before, records_between, full_cut, merged_watermark}
 
 -- the records that pass the plan's filters
 abbrev pub passing : PlanData → List Record → List Record
@@ -31,3 +31,7 @@ due_rows plan sources cut q = if is_due plan.window (merged_watermark sources cu
 -- what is left in the windows at the cut: what the records before it come to where the window has not fired
 abbrev pub snapshot : PlanData → List (List (List Entry)) → List (List ℕ) → Place → Option Aggregated
 snapshot plan sources cut q = if is_due plan.window (merged_watermark sources cut) q.start then None else plan_aggregate plan (records_before sources cut) q
+
+-- what an earlier cut left in the windows, merged with the records between it and a later one
+abbrev pub carried : PlanData → List (List (List Entry)) → List (List ℕ) → List (List ℕ) → Place → Option Aggregated
+carried plan sources b c q = merge plan.window.aggregates (snapshot plan sources b q) (plan_aggregate plan (records_between sources b c) q)

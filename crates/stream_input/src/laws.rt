@@ -1,6 +1,6 @@
 //! Laws of the definitions, each the contract of a function that does nothing.
 
-ghost use Rattle.stream_input.specs.Laws.{WatermarkIsGreatest, DueIsSettled, DueStays, CutsMerge, TextIsDetermined};
+ghost use Rattle.stream_input.specs.Laws.{WatermarkIsGreatest, DueIsSettled, DueStays, CutsMerge, EndIsDue, DueRowsStay, NothingAtFirst, SnapshotGoesOn, CarriedFires, TextIsDetermined};
 
 /// Short of its end, a partition's watermark is the greatest among its entries so far: it bounds each of
 /// them, and is one of them or the least i64.
@@ -22,6 +22,31 @@ pub fn due_stays()
 /// records between come to.
 pub fn cuts_merge()
     ensures { CutsMerge }
+{}
+
+/// What is due at the full cut is all of the plan's rows.
+pub fn end_is_due()
+    ensures { EndIsDue }
+{}
+
+/// A row that is due at a cut is due at each later one.
+pub fn due_rows_stay()
+    ensures { DueRowsStay }
+{}
+
+/// The snapshot at the empty cut is empty.
+pub fn nothing_at_first()
+    ensures { NothingAtFirst }
+{}
+
+/// The snapshot at a later cut is the one at an earlier cut, merged with the records between, less what fires.
+pub fn snapshot_goes_on()
+    ensures { SnapshotGoesOn }
+{}
+
+/// What fires between two cuts are the rows of the earlier snapshot, merged with the records between.
+pub fn carried_fires()
+    ensures { CarriedFires }
 {}
 
 /// The rows of a plan in the order of start and key, and so their text, are determined.

@@ -1,6 +1,6 @@
 //! From bytes to the sources of an input.
 
-ghost use Rattle.std.specs.Prelude.{option_and_then, IfOk};
+ghost use Rattle.std.specs.Prelude.{◌≡◌, option_and_then, IfOk, IfErr};
 ghost use Rattle.json_parts.specs.Parts.{json_of};
 ghost use Rattle.stream_input.specs.InputData.{input_data_of};
 ghost use Rattle.stream_input.specs.InputText.{InputText, input_text};
@@ -24,11 +24,27 @@ use plain_data::Items;
 use std::alloc::Global;
 
 /// The partitions of each source, in the order of the plan, that the bytes say.
-#[tactic(auto, unfolding(crate::specs::Answer::input_of_bytes))]
 pub fn sources_read(alloc: Global, plan: &Plan, bytes: &[u8]) -> Result<Items<Source>, InputFault>
     ensures { Gives (λ sources. input_data_of plan.now.columns plan.now.window.time sources) result (input_of_bytes plan.now bytes.now) }
 {
-    match read_by_tokens(alloc, plan, bytes) {
+    let quick = read_by_tokens(alloc, plan, bytes);
+    sources_after(alloc, plan, bytes, quick)
+}
+
+/// The same, once the bytes were read token by token: want of memory there ends the reading, and any other
+/// miss is left to the reading by value.
+#[tactic(auto, unfolding(crate::specs::Answer::input_of_bytes))]
+fn sources_after(
+    alloc: Global,
+    plan: &Plan,
+    bytes: &[u8],
+    quick: Result<Items<Source>, Miss>,
+) -> Result<Items<Source>, InputFault>
+    requires { IfOk quick (λ sources. IsRead plan.now (option_and_then input_text (json_of bytes.now)) sources) }
+    ensures ends { IfErr quick (λ miss. miss ≡ Miss.Memory → result ≡ Err InputFault.Memory) }
+    ensures reads { Gives (λ sources. input_data_of plan.now.columns plan.now.window.time sources) result (input_of_bytes plan.now bytes.now) }
+{
+    match quick {
         Ok(sources) => orderly(plan, sources),
         Err(Miss::Memory) => Err(InputFault::Memory),
         Err(Miss::Other) => {

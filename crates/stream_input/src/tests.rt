@@ -178,6 +178,32 @@ fn refusals_of_entries(rt: HostRuntime) -> Result<(), Fail> {
 }
 
 #[test]
+fn texts_of_faults(rt: HostRuntime) -> Result<(), Fail> {
+    let late = InputFault::LateRecord {
+        source: 7,
+        partition: 63,
+        entry: 4294967296,
+    };
+    for (fault, want) in [
+        (InputFault::NotJson, "I1 NotJson"),
+        (InputFault::Member, "I2 Member"),
+        (InputFault::Source, "I3 Source"),
+        (InputFault::Partitions, "I4 Partitions"),
+        (InputFault::Width, "I5 Width"),
+        (InputFault::Number, "I6 Number"),
+        (InputFault::Rows, "I7 Rows"),
+        (InputFault::TimeRange, "I8 TimeRange"),
+        (late, "I9 LateRecord 7 63 4294967296"),
+        (InputFault::TooMany, "I10 TooMany"),
+        (InputFault::Memory, "I11 Memory"),
+    ] {
+        let text = format!(in rt.alloc(); "{fault}")?;
+        assert_eq!(rt; text.as_str(), want);
+    }
+    Ok(())
+}
+
+#[test]
 fn late_records(rt: HostRuntime) -> Result<(), Fail> {
     let plan = Plan::read(rt.alloc(), PLAN.as_bytes())?;
     for (text, want) in [
@@ -213,12 +239,16 @@ fn times_at_the_limits(rt: HostRuntime) -> Result<(), Fail> {
     Ok(())
 }
 
+const ROW: &str = "[1,1,1,1,1,1,1,1,1,1,1,1,1,1,1,1]";
+
 #[test]
-fn entries_of_many_rows(rt: HostRuntime) -> Result<(), Fail> {
-    let plan = Plan::read(rt.alloc(), PLAN.as_bytes())?;
+fn entries_of_many_rows_of_sixteen_columns(rt: HostRuntime) -> Result<(), Fail> {
+    let wide = PLAN.replacen(rt.alloc(), r#""columns":3"#, r#""columns":16"#, 1)?;
+    let plan = Plan::read(rt.alloc(), wide.as_bytes())?;
+    let next = format!(in rt.alloc(); ",{ROW}")?;
     for (count, want) in [(0, None), (4095, None), (4096, Some(InputFault::Rows))] {
-        let rows = ",[1,1,1]".repeat(rt.alloc(), count)?;
-        let text = format!(in rt.alloc(); "{{\"s\":[[{{\"rows\":[[1,1,1]{rows}]}}],[]]}}")?;
+        let rows = next.repeat(rt.alloc(), count)?;
+        let text = format!(in rt.alloc(); "{{\"s\":[[{{\"rows\":[{ROW}{rows}]}}],[]]}}")?;
         assert_eq!(rt; fault(&rt, &plan, text.as_str()), want);
         assert_eq!(rt; is_taken(&rt, &plan, text.as_str()), want.is_none());
     }
@@ -238,6 +268,10 @@ fn read_token_by_token(rt: HostRuntime) -> Result<(), Fail> {
         r#"{"s":[[{"watermark":7}],[]],"s":[[],[]]}"#,
     ] {
         assert!(rt; is_taken(&rt, &plan, text));
+    }
+    let pair = Plan::read(rt.alloc(), PAIR.as_bytes())?;
+    for text in [r#"{"s":[[]],"a":[[]]}"#, r#"{"a":[[]],"s":[[]]}"#] {
+        assert!(rt; is_taken(&rt, &pair, text));
     }
     for text in [
         r#"{"s":7,"s":[[],[]]}"#,
