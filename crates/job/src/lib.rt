@@ -7,6 +7,8 @@ mod folding;
 mod group;
 mod layout;
 mod layout_text;
+#[cfg(test)]
+mod limits;
 mod line;
 mod run;
 #[cfg(test)]
