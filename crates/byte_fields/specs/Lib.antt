@@ -1,0 +1,4 @@
+pub mod Format
+pub mod Lists
+pub mod Fields
+pub mod Reads
