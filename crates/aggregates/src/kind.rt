@@ -1,5 +1,5 @@
-ghost use Rattle.std.specs.Prelude.{◌≡◌};
-ghost use Rattle.aggregates.specs.Kinds.{kind_of};
+ghost use Rattle.std.specs.Prelude.{◌≡◌, ◌≤◌, ◌^◌};
+ghost use Rattle.aggregates.specs.Kinds.{kind_of, is_number, is_i64 as fits_i64};
 
 use logical_plan::Aggregate;
 
@@ -24,4 +24,23 @@ impl Kind {
             Aggregate::Greatest(_) => Kind::Greatest,
         }
     }
+
+    /// Whether so many records, at most 2^40, can come to the number: the count itself, a sum of at most
+    /// 2^63 for each, or a number of 64 bits.
+    pub fn admits(self, count: u64, number: i128) -> bool
+        requires { count ≤ 2 ^ 40 }
+        ensures { result ≡ is_number count self number }
+    {
+        match self {
+            Kind::Count => number == count as i128,
+            Kind::Sum => number.unsigned_abs() <= count as u128 * (1 << 63),
+            Kind::Least | Kind::Greatest => is_i64(number),
+        }
+    }
+}
+
+fn is_i64(number: i128) -> bool
+    ensures { result ≡ fits_i64 number }
+{
+    -(1 << 63) <= number && number <= (1 << 63) - 1
 }

@@ -4,7 +4,7 @@ ghost use Rattle.std.specs.Prelude.{◌≡◌, true, ◌≤◌, ◌<◌, ◌+◌
 ghost use Rattle.std.specs.List.{All};
 ghost use Rattle.logical_plan.specs.PlanData.{has_column};
 ghost use Rattle.logical_plan.specs.Aggregates.{number_of};
-ghost use Rattle.aggregates.specs.Kinds.{merge_by, merge_all, kind_of, is_number as number_is, are_numbers as numbers_are, is_i64 as fits_i64};
+ghost use Rattle.aggregates.specs.Kinds.{merge_by, merge_all, kind_of, are_numbers as numbers_are, is_i64 as fits_i64};
 
 use crate::kind::Kind;
 use columns::Batch;
@@ -81,25 +81,6 @@ pub(crate) fn merge_into(numbers: &mut [i128], kinds: &[Kind], others: &[i128])
     }
 }
 
-/// Whether so many records can come to the number.
-fn is_number(count: u64, kind: Kind, number: i128) -> bool
-    requires { count ≤ 2 ^ 40 }
-    ensures { result ≡ number_is count kind number }
-{
-    match kind {
-        Kind::Count => number == count as i128,
-        Kind::Sum => number.unsigned_abs() <= count as u128 * (1 << 63),
-        Kind::Least => is_i64(number),
-        Kind::Greatest => is_i64(number),
-    }
-}
-
-fn is_i64(number: i128) -> bool
-    ensures { result ≡ fits_i64 number }
-{
-    -(1 << 63) <= number && number <= (1 << 63) - 1
-}
-
 /// Whether there is a number for each kind that so many records can come to.
 pub(crate) fn are_numbers(count: u64, kinds: &[Kind], numbers: &[i128]) -> bool
     requires { count ≤ 2 ^ 40 }
@@ -109,7 +90,7 @@ pub(crate) fn are_numbers(count: u64, kinds: &[Kind], numbers: &[i128]) -> bool
         return false;
     }
     for (i, kind) in kinds.iter().enumerate() {
-        if !is_number(count, *kind, numbers[i]) {
+        if !kind.admits(count, numbers[i]) {
             return false;
         }
     }

@@ -1,0 +1,241 @@
+//! A savepoint put into bytes.
+
+ghost use Rattle.std.specs.Prelude.{◌≡◌, ◌<◌, ◌≤◌, None, ◌++◌, length, OnOk, IfOk};
+ghost use Rattle.std.specs.List.{All, flat_map};
+ghost use Rattle.byte_fields.specs.Fields.{i128_field};
+ghost use Rattle.savepoint_codec.specs.EntriesView.{entry_data};
+ghost use Rattle.savepoint_codec.specs.Fields.{uid_field, partition_field, partitions_field, source_field, sources_field, kind_code, kind_field, kinds_field, place_field, entry_field, entries_field, group_field, groups_field};
+ghost use Rattle.savepoint_codec.specs.Layout.{record_field, window_fields, fields, parts_of, savepoint_bytes};
+ghost use Rattle.savepoint_codec.specs.Writing.{HasShortLists, IsOfKinds, AreOfKinds, IsShort, entry_bytes};
+
+use crate::entries::{Entries, Entry};
+use crate::savepoint::{Contents, SavedGroup, SavedPartition, SavedSource, Savepoint};
+use aggregates::Kind;
+use byte_fields::{put_bytes, put_i64, put_i128, put_u8, put_u16, put_u64};
+use logical_plan::Place;
+use std::alloc::{AllocError, Global};
+
+#[tactic(auto, unfolding(crate::specs::Layout::record_field, byte_fields::specs::Lists::sized))]
+fn put_record(out: &mut Vec<u8>, bytes: &[u8]) -> Result<(), AllocError>
+    requires { length bytes.now < 65536 }
+    ensures { OnOk result (out.new.items ≡ out.old.items ++ record_field.spell bytes.now) }
+{
+    put_u16(out, bytes.len() as u16)?;
+    put_bytes(out, bytes)
+}
+
+#[tactic(auto, unfolding(crate::specs::Fields::uid_field, crate::specs::Fields::few_field, byte_fields::specs::Lists::sized))]
+fn put_uid(out: &mut Vec<u8>, uid: &str) -> Result<(), AllocError>
+    requires { length uid.now < 256 }
+    ensures { OnOk result (out.new.items ≡ out.old.items ++ uid_field.spell uid.now) }
+{
+    put_u8(out, uid.len() as u8)?;
+    put_bytes(out, uid.as_bytes())
+}
+
+#[tactic(auto, unfolding(crate::specs::Fields::partition_field))]
+fn put_partition(out: &mut Vec<u8>, partition: &SavedPartition) -> Result<(), AllocError>
+    ensures { OnOk result (out.new.items ≡ out.old.items ++ partition_field.spell partition.now) }
+{
+    put_u64(out, partition.offset)?;
+    put_i64(out, partition.watermark)
+}
+
+fn put_partition_list(out: &mut Vec<u8>, partitions: &[SavedPartition]) -> Result<(), AllocError>
+    ensures { OnOk result (out.new.items ≡ out.old.items ++ flat_map partition_field.spell partitions.now) }
+{
+    for partition in partitions {
+        put_partition(out, partition)?;
+    }
+    Ok(())
+}
+
+fn put_partitions(out: &mut Vec<u8>, partitions: &[SavedPartition]) -> Result<(), AllocError>
+    requires { length partitions.now < 256 }
+    ensures { OnOk result (out.new.items ≡ out.old.items ++ partitions_field.spell partitions.now) }
+{
+    put_u8(out, partitions.len() as u8)?;
+    put_partition_list(out, partitions)
+}
+
+#[tactic(auto, unfolding(crate::specs::Fields::source_field))]
+fn put_source(out: &mut Vec<u8>, source: &SavedSource) -> Result<(), AllocError>
+    requires { HasShortLists source.now }
+    ensures { OnOk result (out.new.items ≡ out.old.items ++ (source_field None).spell source.now) }
+{
+    put_uid(out, source.uid.as_str())?;
+    put_partitions(out, source.partitions.as_slice())
+}
+
+fn put_source_list(out: &mut Vec<u8>, sources: &[SavedSource]) -> Result<(), AllocError>
+    requires { All HasShortLists sources.now }
+    ensures { OnOk result (out.new.items ≡ out.old.items ++ flat_map (source_field None).spell sources.now) }
+{
+    for source in sources {
+        put_source(out, source)?;
+    }
+    Ok(())
+}
+
+fn put_sources(out: &mut Vec<u8>, sources: &[SavedSource]) -> Result<(), AllocError>
+    requires few { length sources.now < 256 }
+    requires short { All HasShortLists sources.now }
+    ensures { OnOk result (out.new.items ≡ out.old.items ++ sources_field.spell sources.now) }
+{
+    put_u8(out, sources.len() as u8)?;
+    put_source_list(out, sources)
+}
+
+#[tactic(auto, unfolding(crate::specs::Fields::kind_field))]
+fn put_kind(out: &mut Vec<u8>, kind: Kind) -> Result<(), AllocError>
+    ensures { OnOk result (out.new.items ≡ out.old.items ++ kind_field.spell kind) }
+{
+    let code = match kind {
+        Kind::Count => 0,
+        Kind::Sum => 1,
+        Kind::Least => 2,
+        Kind::Greatest => 3,
+    };
+    put_u8(out, code)
+}
+
+fn put_kind_list(out: &mut Vec<u8>, kinds: &[Kind]) -> Result<(), AllocError>
+    ensures { OnOk result (out.new.items ≡ out.old.items ++ flat_map kind_field.spell kinds.now) }
+{
+    for kind in kinds {
+        put_kind(out, *kind)?;
+    }
+    Ok(())
+}
+
+fn put_kinds(out: &mut Vec<u8>, kinds: &[Kind]) -> Result<(), AllocError>
+    requires { length kinds.now < 256 }
+    ensures { OnOk result (out.new.items ≡ out.old.items ++ kinds_field.spell kinds.now) }
+{
+    put_u8(out, kinds.len() as u8)?;
+    put_kind_list(out, kinds)
+}
+
+#[tactic(auto, unfolding(crate::specs::Fields::place_field))]
+fn put_place(out: &mut Vec<u8>, place: Place) -> Result<(), AllocError>
+    ensures { OnOk result (out.new.items ≡ out.old.items ++ place_field.spell place) }
+{
+    put_i64(out, place.start)?;
+    put_i64(out, place.key)
+}
+
+fn put_numbers(out: &mut Vec<u8>, numbers: &[i128]) -> Result<(), AllocError>
+    ensures { OnOk result (out.new.items ≡ out.old.items ++ flat_map i128_field.spell numbers.now) }
+{
+    for number in numbers {
+        put_i128(out, *number)?;
+    }
+    Ok(())
+}
+
+fn put_entry(out: &mut Vec<u8>, entry: Entry<'_>) -> Result<(), AllocError>
+    ensures { OnOk result (out.new.items ≡ out.old.items ++ entry_bytes (entry_data entry.entry)) }
+{
+    put_place(out, entry.place)?;
+    put_u64(out, entry.count)?;
+    put_numbers(out, entry.numbers)
+}
+
+fn put_entry_list(out: &mut Vec<u8>, entries: &Entries) -> Result<(), AllocError>
+    ensures { OnOk result (out.new.items ≡ out.old.items ++ flat_map entry_bytes entries.now.entries) }
+{
+    for i in 0..entries.len() {
+        put_entry(out, entries.entry(i))?;
+    }
+    Ok(())
+}
+
+fn put_entries(out: &mut Vec<u8>, kinds: &[Kind], entries: &Entries) -> Result<(), AllocError>
+    requires { All (IsOfKinds kinds.now) entries.now.entries }
+    ensures { OnOk result (out.new.items ≡ out.old.items ++ (entries_field kinds.now).spell entries.now.entries) }
+{
+    put_u64(out, entries.len() as u64)?;
+    put_entry_list(out, entries)
+}
+
+#[tactic(auto, unfolding(crate::specs::Fields::group_field, crate::specs::Fields::group_number))]
+fn put_group(
+    out: &mut Vec<u8>,
+    max: u16,
+    kinds: &[Kind],
+    group: &SavedGroup,
+) -> Result<(), AllocError>
+    requires { AreOfKinds kinds.now group.now }
+    ensures { OnOk result (out.new.items ≡ out.old.items ++ (group_field max kinds.now None).spell group.now) }
+{
+    put_u16(out, group.group)?;
+    put_entries(out, kinds, &group.entries)
+}
+
+fn put_group_list(
+    out: &mut Vec<u8>,
+    max: u16,
+    kinds: &[Kind],
+    groups: &[SavedGroup],
+) -> Result<(), AllocError>
+    requires { All (AreOfKinds kinds.now) groups.now }
+    ensures { OnOk result (out.new.items ≡ out.old.items ++ flat_map (group_field max kinds.now None).spell groups.now) }
+{
+    for group in groups {
+        put_group(out, max, kinds, group)?;
+    }
+    Ok(())
+}
+
+fn put_groups(
+    out: &mut Vec<u8>,
+    max: u16,
+    kinds: &[Kind],
+    groups: &[SavedGroup],
+) -> Result<(), AllocError>
+    requires few { length groups.now < 65536 }
+    requires kinds { All (AreOfKinds kinds.now) groups.now }
+    ensures { OnOk result (out.new.items ≡ out.old.items ++ (groups_field max kinds.now).spell groups.now) }
+{
+    put_u16(out, groups.len() as u16)?;
+    put_group_list(out, max, kinds, groups)
+}
+
+/// What a savepoint holds of the window operator.
+#[tactic(auto, unfolding(crate::specs::Layout::window_fields))]
+fn put_window(out: &mut Vec<u8>, contents: &Contents) -> Result<(), AllocError>
+    requires { IsShort contents.now }
+    ensures { OnOk result (out.new.items ≡ out.old.items ++ (window_fields contents.now.max).spell (contents.now.window_uid, (contents.now.kinds, contents.now.groups))) }
+{
+    put_uid(out, contents.window_uid.as_str())?;
+    let kinds = contents.kinds.as_slice();
+    put_kinds(out, kinds)?;
+    put_groups(out, contents.max, kinds, contents.groups.as_slice())
+}
+
+#[tactic(auto, unfolding(crate::specs::Layout::fields, crate::specs::Fields::number_field, crate::specs::Fields::max_field))]
+fn put_contents(out: &mut Vec<u8>, contents: &Contents) -> Result<(), AllocError>
+    requires { IsShort contents.now }
+    ensures { OnOk result (out.new.items ≡ out.old.items ++ fields.spell (parts_of contents.now)) }
+{
+    put_u64(out, contents.number)?;
+    put_record(out, contents.plan_record.as_slice())?;
+    put_u16(out, contents.max)?;
+    put_sources(out, contents.sources.as_slice())?;
+    put_window(out, contents)
+}
+
+/// The one spelling of a savepoint.
+///
+/// # Errors
+///
+/// Only where memory runs out.
+#[tactic(auto, unfolding(crate::specs::Layout::savepoint_format))]
+pub fn encode(alloc: Global, savepoint: &Savepoint) -> Result<Vec<u8>, AllocError>
+    ensures { IfOk result (λ bytes. bytes.items ≡ savepoint_bytes savepoint.now) }
+{
+    let mut out = Vec::new(alloc);
+    put_bytes(&mut out, b"WSP1")?;
+    put_contents(&mut out, savepoint.contents())?;
+    Ok(out)
+}

@@ -1,0 +1,114 @@
+ghost use Rattle.std.specs.Prelude.{◌≡◌, ◌+◌, ◌<◌, ◌≤◌, take, drop, ◌++◌, ◌∷◌, [], length, slice_get, Some, OnOk, OnErr};
+
+use logical_plan::Place;
+use std::alloc::{AllocError, Global};
+use std::marker::Model;
+
+/// An entry but for its numbers.
+#[derive(Clone, Copy, Debug)]
+struct Head {
+    place: Place,
+    count: u64,
+}
+
+/// What the records of a place come to: how many there are, and a number for each aggregate.
+#[derive(Clone, Copy, Debug)]
+pub struct Entry<'a> {
+    pub place: Place,
+    pub count: u64,
+    pub numbers: &'a [i128],
+}
+
+/// Entries in order, with as many numbers each. They take as much memory as their bytes in a savepoint.
+#[derive(Debug, Drop)]
+pub struct Entries {
+    width: usize,
+    heads: Vec<Head>,
+    numbers: Vec<i128>,
+}
+
+/// So many numbers from a place on.
+fn part(numbers: &[i128], from: usize, width: usize) -> &[i128]
+    requires { from + width ≤ length numbers.now }
+    ensures { result.now ≡ take width (drop from numbers.now) }
+{
+    &numbers[from..from + width]
+}
+
+impl Model for Entries {
+    ghost use Rattle.savepoint_codec.specs.EntriesData.{EntriesData};
+    ghost use Rattle.savepoint_codec.specs.EntriesView.{entries_view, IsEntriesInside};
+
+    ghost Value = { EntriesData };
+
+    ghost view = { entries_view };
+
+    ghost invariant = { IsEntriesInside };
+}
+
+impl Entries {
+    ghost use Rattle.savepoint_codec.specs.EntriesView.{entry_data};
+
+    /// No entries, each with so many numbers.
+    pub fn new(alloc: Global, width: usize) -> Entries
+        ensures { result ≡ record { width = width; entries = [] } }
+    {
+        Entries {
+            width,
+            heads: Vec::new(alloc),
+            numbers: Vec::new(alloc),
+        }
+    }
+
+    /// Makes room for so many entries more.
+    ///
+    /// # Errors
+    ///
+    /// Only where memory runs out.
+    pub fn reserve(&mut self, additional: usize) -> Result<(), AllocError>
+        ensures { self.new ≡ self.old }
+    {
+        self.heads.reserve_exact(additional)?;
+        self.numbers
+            .reserve_exact(additional.saturating_mul(self.width))
+    }
+
+    /// One entry more, after those that are there.
+    ///
+    /// # Errors
+    ///
+    /// Only where memory runs out; then all is as it was.
+    pub fn push(&mut self, entry: Entry<'_>) -> Result<(), AllocError>
+        requires { length entry.numbers.now ≡ self.old.width }
+        ensures ok { OnOk result (self.new ≡ record self.old { entries = self.old.entries ++ entry_data entry.entry ∷ [] }) }
+        ensures err { OnErr result (self.new ≡ self.old) }
+    {
+        self.heads.reserve(1)?;
+        self.numbers.extend_from_slice(entry.numbers)?;
+        self.heads.push_reserved(Head {
+            place: entry.place,
+            count: entry.count,
+        });
+        Ok(())
+    }
+
+    /// How many entries there are.
+    pub fn len(&self) -> usize
+        ensures { result ≡ length self.now.entries }
+    {
+        self.heads.len()
+    }
+
+    /// Entry i, counted from 0.
+    pub fn entry(&self, i: usize) -> Entry<'_>
+        requires { i < length self.now.entries }
+        ensures { slice_get self.now.entries i ≡ Some (entry_data result) }
+    {
+        let head = self.heads[i];
+        Entry {
+            place: head.place,
+            count: head.count,
+            numbers: part(&self.numbers, i * self.width, self.width),
+        }
+    }
+}

@@ -1,0 +1,249 @@
+//! Reading the key groups of a savepoint, each field from the front of bytes.
+
+ghost use Rattle.std.specs.Prelude.{◌≡◌, ◌<◌, ◌≤◌, ◌^◌, ◌++◌, ◌∷◌, [], Ok, Option, None, length, IfOk, MatchResult};
+ghost use Rattle.std.specs.Option.{option_map};
+ghost use Rattle.byte_fields.specs.Reads.{Reads, Gives, Fails};
+ghost use Rattle.byte_fields.specs.Lists.{chain, last_of};
+ghost use Rattle.savepoint_codec.specs.Reading.{TakesOne, entries_read};
+ghost use Rattle.savepoint_codec.specs.Fields.{number_of_kind, place_field, is_place_after, count_field, numbers_field, entry_field, entry_after, entries_field, group_number, is_number_after, group_field, group_after, groups_field};
+
+use crate::entries::{Entries, Entry};
+use crate::savepoint::SavedGroup;
+use aggregates::Kind;
+use byte_fields::{FieldFault, ReadFault, read_i64, read_i128, read_u16, read_u64};
+use logical_plan::Place;
+use plain_data::Items;
+use std::alloc::Global;
+
+/// The greatest number of aggregates.
+const MOST_KINDS: usize = 8;
+
+#[tactic(auto, unfolding(crate::specs::Fields::place_field))]
+fn read_place(bytes: &[u8]) -> Result<(Place, &[u8]), FieldFault>
+    ensures { Reads (λ x. (x.0, x.1.now)) result (place_field.read bytes.now) }
+{
+    let (start, rest) = read_i64(bytes)?;
+    let (key, rest) = read_i64(rest)?;
+    Ok((Place { start, key }, rest))
+}
+
+/// Whether a place comes after the one before, if there is one.
+fn is_after(last: Option<Place>, place: Place) -> bool
+    ensures { result ≡ is_place_after last place }
+{
+    match last {
+        None => true,
+        Some(last) => {
+            last.start < place.start || last.start == place.start && last.key < place.key
+        }
+    }
+}
+
+#[tactic(auto, unfolding(crate::specs::Fields::count_field))]
+fn read_count(bytes: &[u8]) -> Result<(u64, &[u8]), FieldFault>
+    ensures read { Reads (λ x. (x.0, x.1.now)) result (count_field.read bytes.now) }
+    ensures few { IfOk result (λ x. x.0 ≤ 2 ^ 40) }
+{
+    let (count, rest) = read_u64(bytes)?;
+    if count < 1 || count > 1 << 40 {
+        return Err(FieldFault::Range);
+    }
+    Ok((count, rest))
+}
+
+/// A number that so many records can come to.
+#[tactic(auto, unfolding(crate::specs::Fields::number_of_kind))]
+fn read_number_of(kind: Kind, count: u64, bytes: &[u8]) -> Result<(i128, &[u8]), FieldFault>
+    requires { count ≤ 2 ^ 40 }
+    ensures { Reads (λ x. (x.0, x.1.now)) result ((number_of_kind count kind).read bytes.now) }
+{
+    let (number, rest) = read_i128(bytes)?;
+    if !kind.admits(count, number) {
+        return Err(FieldFault::Range);
+    }
+    Ok((number, rest))
+}
+
+/// A number for each kind.
+fn read_numbers<'a>(
+    kinds: &[Kind],
+    count: u64,
+    bytes: &'a [u8],
+    numbers: &mut [i128],
+) -> Result<&'a [u8], FieldFault>
+    requires few { count ≤ 2 ^ 40 }
+    requires room { length numbers.old ≡ length kinds.now }
+    ensures { Reads (λ rest. (numbers.new, rest.now)) result ((numbers_field kinds.now count).read bytes.now) }
+{
+    let mut rest = bytes;
+    for (i, kind) in kinds.iter().enumerate() {
+        let (number, after) = read_number_of(*kind, count, rest)?;
+        numbers[i] = number;
+        rest = after;
+    }
+    Ok(rest)
+}
+
+/// How many bytes an entry has: its place, its count, and its numbers.
+fn entry_size(width: usize) -> usize
+    requires { width ≤ 8 }
+    ensures { 0 < result }
+{
+    24 + 16 * width
+}
+
+/// An entry after the one before, put behind those that are there. Gives its place.
+#[tactic(auto, unfolding(crate::specs::Fields::entry_field))]
+fn read_entry_onto<'a>(
+    entries: &mut Entries,
+    kinds: &[Kind],
+    last: Option<Place>,
+    bytes: &'a [u8],
+) -> Result<(Place, &'a [u8]), ReadFault>
+    requires width { entries.old.width ≡ length kinds.now }
+    requires few { length kinds.now ≤ 8 }
+    ensures { MatchResult result (λ x. TakesOne entries.old entries.new x.0 x.1.now ((entry_field kinds.now last).read bytes.now))
+        (λ fault. Fails fault ((entry_field kinds.now last).read bytes.now)) }
+{
+    let (place, rest) = read_place(bytes)?;
+    if !is_after(last, place) {
+        return Err(ReadFault::Bytes(FieldFault::Order));
+    }
+    let (count, rest) = read_count(rest)?;
+    let mut numbers = [0; MOST_KINDS];
+    let rest = read_numbers(kinds, count, rest, &mut numbers[..kinds.len()])?;
+    let numbers = &numbers[..kinds.len()];
+    entries.push(Entry {
+        place,
+        count,
+        numbers,
+    })?;
+    Ok((place, rest))
+}
+
+/// So many entries, each after the one before. Room is made for no more than the bytes can hold.
+fn read_entry_list<'a>(
+    alloc: Global,
+    kinds: &[Kind],
+    count: u64,
+    bytes: &'a [u8],
+) -> Result<(Entries, &'a [u8]), ReadFault>
+    requires { length kinds.now ≤ 8 }
+    ensures { Gives (λ x. (x.0, x.1.now)) result (entries_read kinds.now ((chain (entry_after kinds.now) None count).read bytes.now)) }
+{
+    let mut entries = Entries::new(alloc, kinds.len());
+    let most = bytes.len() / entry_size(kinds.len());
+    entries.reserve(count.min(most as u64) as usize)?;
+    let mut last = None;
+    let mut rest = bytes;
+    for _ in 0..count {
+        let (place, after) = read_entry_onto(&mut entries, kinds, last, rest)?;
+        last = Some(place);
+        rest = after;
+    }
+    Ok((entries, rest))
+}
+
+/// The entries of a key group: at least one.
+#[tactic(auto, unfolding(crate::specs::Fields::entries_field, byte_fields::specs::Lists::counted))]
+fn read_entries<'a>(
+    alloc: Global,
+    kinds: &[Kind],
+    bytes: &'a [u8],
+) -> Result<(Entries, &'a [u8]), ReadFault>
+    requires { length kinds.now ≤ 8 }
+    ensures { Gives (λ x. (x.0, x.1.now)) result (entries_read kinds.now ((entries_field kinds.now).read bytes.now)) }
+{
+    let (count, rest) = read_u64(bytes)?;
+    if count == 0 {
+        return Err(ReadFault::Bytes(FieldFault::Order));
+    }
+    read_entry_list(alloc, kinds, count, rest)
+}
+
+/// Whether a number comes after the one before, if there is one.
+fn is_number_above(last: Option<u16>, number: u16) -> bool
+    ensures { result ≡ is_number_after last number }
+{
+    match last {
+        None => true,
+        Some(last) => last < number,
+    }
+}
+
+#[tactic(auto, unfolding(crate::specs::Fields::group_number))]
+fn read_group_number(max: u16, last: Option<u16>, bytes: &[u8]) -> Result<(u16, &[u8]), FieldFault>
+    ensures { Reads (λ x. (x.0, x.1.now)) result ((group_number max last).read bytes.now) }
+{
+    let (group, rest) = read_u16(bytes)?;
+    if group >= max {
+        return Err(FieldFault::Range);
+    }
+    if !is_number_above(last, group) {
+        return Err(FieldFault::Order);
+    }
+    Ok((group, rest))
+}
+
+/// A key group after the one before.
+#[tactic(auto, unfolding(crate::specs::Fields::group_field))]
+fn read_group<'a>(
+    alloc: Global,
+    max: u16,
+    kinds: &[Kind],
+    last: Option<u16>,
+    bytes: &'a [u8],
+) -> Result<(SavedGroup, &'a [u8]), ReadFault>
+    requires { length kinds.now ≤ 8 }
+    ensures { Gives (λ x. (x.0, x.1.now)) result ((group_field max kinds.now last).read bytes.now) }
+{
+    let (group, rest) = read_group_number(max, last, bytes)?;
+    let (entries, rest) = read_entries(alloc, kinds, rest)?;
+    Ok((SavedGroup { group, entries }, rest))
+}
+
+/// The number of the last key group, if there is one.
+fn last_group(groups: &[SavedGroup]) -> Option<u16>
+    ensures { result ≡ option_map (λ g. g.group) (last_of groups.now) }
+{
+    match groups.last() {
+        Some(group) => Some(group.group),
+        None => None,
+    }
+}
+
+fn read_group_list<'a>(
+    alloc: Global,
+    max: u16,
+    kinds: &[Kind],
+    count: u16,
+    bytes: &'a [u8],
+) -> Result<(Vec<SavedGroup>, &'a [u8]), ReadFault>
+    requires { length kinds.now ≤ 8 }
+    ensures { Gives (λ x. (x.0.items, x.1.now)) result ((chain (group_after max kinds.now) None count).read bytes.now) }
+{
+    let mut groups = Vec::new(alloc);
+    let mut rest = bytes;
+    for _ in 0..count {
+        let (group, after) = read_group(alloc, max, kinds, last_group(&groups), rest)?;
+        groups.push(group)?;
+        rest = after;
+    }
+    Ok((groups, rest))
+}
+
+/// The key groups.
+#[tactic(auto, unfolding(crate::specs::Fields::groups_field, byte_fields::specs::Lists::counted))]
+pub(crate) fn read_groups<'a>(
+    alloc: Global,
+    max: u16,
+    kinds: &[Kind],
+    bytes: &'a [u8],
+) -> Result<(Items<SavedGroup>, &'a [u8]), ReadFault>
+    requires { length kinds.now ≤ 8 }
+    ensures { Gives (λ x. (x.0, x.1.now)) result ((groups_field max kinds.now).read bytes.now) }
+{
+    let (count, rest) = read_u16(bytes)?;
+    let (groups, rest) = read_group_list(alloc, max, kinds, count, rest)?;
+    Ok((Items::from_vec(groups), rest))
+}

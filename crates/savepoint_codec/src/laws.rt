@@ -1,0 +1,13 @@
+ghost use Rattle.std.specs.Prelude.{◌≡◌, ℕ, List, [], ◌++◌};
+ghost use Rattle.savepoint_codec.specs.declared.savepoint.Contents.{Contents};
+ghost use Rattle.savepoint_codec.specs.Layout.{IsSavepoint, savepoint_bytes};
+
+/// No savepoint's bytes are a proper prefix of another's.
+pub fn no_prefix()
+    ensures { (a b : Contents) (more : List ℕ) → IsSavepoint a → IsSavepoint b → savepoint_bytes a ++ more ≡ savepoint_bytes b → more ≡ [] }
+{}
+
+/// Savepoints with the same bytes hold the same.
+pub fn one_content()
+    ensures { (a b : Contents) → IsSavepoint a → IsSavepoint b → savepoint_bytes a ≡ savepoint_bytes b → a ≡ b }
+{}

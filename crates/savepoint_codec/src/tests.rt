@@ -1,0 +1,166 @@
+use super::*;
+use std::alloc::Global;
+use std::test::Fail;
+
+/// The savepoint of a job with one source of two partitions, both read up to their second entry, and one
+/// window: one record of key 1 with the value 7 from 10 on.
+const BYTES: [u8; 202] = [
+    0x57, 0x53, 0x50, 0x31, 0x00, 0x00, 0x00, 0x00, 0x00, 0x00, 0x00, 0x01, 0x00, 0x2b, 0x03, 0x00,
+    0x80, 0x00, 0x01, 0x00, 0x00, 0x00, 0x00, 0x00, 0x00, 0x00, 0x0a, 0x00, 0x00, 0x00, 0x00, 0x00,
+    0x00, 0x00, 0x0a, 0x00, 0x00, 0x00, 0x00, 0x00, 0x00, 0x00, 0x00, 0x01, 0x01, 0x73, 0x00, 0x04,
+    0x00, 0x00, 0x01, 0x02, 0x02, 0x02, 0x03, 0x02, 0x00, 0x00, 0x80, 0x01, 0x01, 0x73, 0x02, 0x00,
+    0x00, 0x00, 0x00, 0x00, 0x00, 0x00, 0x02, 0x00, 0x00, 0x00, 0x00, 0x00, 0x00, 0x00, 0x09, 0x00,
+    0x00, 0x00, 0x00, 0x00, 0x00, 0x00, 0x02, 0x00, 0x00, 0x00, 0x00, 0x00, 0x00, 0x00, 0x0b, 0x01,
+    0x77, 0x04, 0x00, 0x01, 0x02, 0x03, 0x00, 0x01, 0x00, 0x56, 0x00, 0x00, 0x00, 0x00, 0x00, 0x00,
+    0x00, 0x01, 0x00, 0x00, 0x00, 0x00, 0x00, 0x00, 0x00, 0x0a, 0x00, 0x00, 0x00, 0x00, 0x00, 0x00,
+    0x00, 0x01, 0x00, 0x00, 0x00, 0x00, 0x00, 0x00, 0x00, 0x01, 0x00, 0x00, 0x00, 0x00, 0x00, 0x00,
+    0x00, 0x00, 0x00, 0x00, 0x00, 0x00, 0x00, 0x00, 0x00, 0x01, 0x00, 0x00, 0x00, 0x00, 0x00, 0x00,
+    0x00, 0x00, 0x00, 0x00, 0x00, 0x00, 0x00, 0x00, 0x00, 0x07, 0x00, 0x00, 0x00, 0x00, 0x00, 0x00,
+    0x00, 0x00, 0x00, 0x00, 0x00, 0x00, 0x00, 0x00, 0x00, 0x07, 0x00, 0x00, 0x00, 0x00, 0x00, 0x00,
+    0x00, 0x00, 0x00, 0x00, 0x00, 0x00, 0x00, 0x00, 0x00, 0x07,
+];
+
+fn fault_of(alloc: Global, bytes: &[u8]) -> Option<SaveFault> {
+    decode(alloc, bytes).err()
+}
+
+/// The bytes with some of them replaced.
+fn edited(alloc: Global, edits: &[(usize, u8)]) -> Result<Vec<u8>, Fail> {
+    let mut bytes = Vec::from_slice(alloc, &BYTES)?;
+    for (place, value) in edits {
+        *bytes.get_mut(*place).ok_or("a place past the end")? = *value;
+    }
+    Ok(bytes)
+}
+
+#[test]
+fn a_savepoint_there_and_back(rt: HostRuntime) -> Result<(), Fail> {
+    let savepoint = decode(rt.alloc(), &BYTES)?;
+    let contents = savepoint.contents();
+    assert_eq!(rt; contents.number, 1);
+    assert_eq!(rt; contents.max, 128);
+    assert_eq!(rt; contents.window_uid.as_str(), "w");
+    let source = contents.sources.as_slice().first().ok_or("no source")?;
+    assert_eq!(rt; source.uid.as_str(), "s");
+    let wanted = [
+        SavedPartition {
+            offset: 2,
+            watermark: 9,
+        },
+        SavedPartition {
+            offset: 2,
+            watermark: 11,
+        },
+    ];
+    assert_eq!(rt; source.partitions.as_slice(), wanted.as_slice());
+    assert_eq!(rt;
+        encode(rt.alloc(), &savepoint)?.as_slice(),
+        BYTES.as_slice()
+    );
+    Ok(())
+}
+
+#[test]
+fn its_one_entry(rt: HostRuntime) -> Result<(), Fail> {
+    let savepoint = decode(rt.alloc(), &BYTES)?;
+    let groups = savepoint.contents().groups.as_slice();
+    assert_eq!(rt; groups.len(), 1);
+    let group = groups.first().ok_or("no group")?;
+    assert_eq!(rt; group.group, 86);
+    assert_eq!(rt; group.entries.len(), 1);
+    let entry = group.entries.entry(0);
+    assert_eq!(rt;
+        (entry.place.start, entry.place.key, entry.count),
+        (10, 1, 1)
+    );
+    assert_eq!(rt; entry.numbers, [1, 7, 7, 7].as_slice());
+    Ok(())
+}
+
+#[test]
+fn each_proper_prefix_is_truncated(rt: HostRuntime) {
+    for length in 0..BYTES.len() {
+        assert_eq!(rt;
+            fault_of(rt.alloc(), &BYTES[..length]),
+            Some(SaveFault::Truncated)
+        );
+    }
+}
+
+#[test]
+fn a_byte_more_is_trailing(rt: HostRuntime) -> Result<(), Fail> {
+    let mut bytes = Vec::from_slice(rt.alloc(), &BYTES)?;
+    bytes.push(0)?;
+    assert_eq!(rt; fault_of(rt.alloc(), &bytes), Some(SaveFault::Trailing));
+    Ok(())
+}
+
+/// Edits of one byte each, and the fault that they give.
+const EDITS: [(usize, u8, SaveFault); 12] = [
+    (3, 0x32, SaveFault::Magic),
+    (11, 0, SaveFault::Range),
+    (58, 0, SaveFault::Range),
+    (58, 0x56, SaveFault::Range),
+    (59, 0, SaveFault::Range),
+    (61, 0x2f, SaveFault::Range),
+    (98, 4, SaveFault::Range),
+    (103, 0, SaveFault::Trailing),
+    (113, 0, SaveFault::Order),
+    (137, 0, SaveFault::Range),
+    (153, 2, SaveFault::Range),
+    (62, 65, SaveFault::Range),
+];
+
+#[test]
+fn faults_of_single_bytes(rt: HostRuntime) -> Result<(), Fail> {
+    for (place, value, fault) in &EDITS {
+        let bytes = edited(rt.alloc(), &[(*place, *value)])?;
+        assert_eq!(rt; fault_of(rt.alloc(), &bytes), Some(*fault), "byte {place}");
+    }
+    Ok(())
+}
+
+#[test]
+fn no_count_is_trusted(rt: HostRuntime) -> Result<(), Fail> {
+    let mut bytes = Vec::from_slice(rt.alloc(), &BYTES)?;
+    for place in 106..114 {
+        *bytes.get_mut(place).ok_or("a place past the end")? = 0xff;
+    }
+    assert_eq!(rt; fault_of(rt.alloc(), &bytes), Some(SaveFault::Truncated));
+    Ok(())
+}
+
+#[test]
+fn no_groups_end_with_two_zeros(rt: HostRuntime) -> Result<(), Fail> {
+    let mut bytes = Vec::from_slice(rt.alloc(), &BYTES[..102])?;
+    bytes.extend_from_slice(&[0, 0])?;
+    let savepoint = decode(rt.alloc(), &bytes)?;
+    assert_eq!(rt; savepoint.contents().groups.len(), 0);
+    assert_eq!(rt;
+        encode(rt.alloc(), &savepoint)?.as_slice(),
+        bytes.as_slice()
+    );
+    Ok(())
+}
+
+/// Bytes that are accepted are the savepoint's own.
+fn is_refused_or_own(alloc: Global, bytes: &[u8]) -> Result<bool, Fail> {
+    match decode(alloc, bytes) {
+        Ok(savepoint) => Ok(encode(alloc, &savepoint)?.as_slice() == bytes),
+        Err(fault) => Ok(fault != SaveFault::Memory),
+    }
+}
+
+#[test]
+fn each_value_of_each_byte(rt: HostRuntime) -> Result<(), Fail> {
+    for place in 0..BYTES.len() {
+        for value in 0..=255 {
+            let bytes = edited(rt.alloc(), &[(place, value)])?;
+            assert!(rt;
+                is_refused_or_own(rt.alloc(), &bytes)?,
+                "byte {place} as {value}"
+            );
+        }
+    }
+    Ok(())
+}
