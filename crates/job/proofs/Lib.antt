@@ -6,3 +6,4 @@ pub mod Numerals
 pub mod Lines
 pub mod Laid
 pub mod LayoutAnswers
+pub mod ShowAnswers

@@ -5,8 +5,10 @@ use Rattle.stream_input.specs.declared.fault.InputFault.{InputFault}
 use Rattle.stream_input.specs.declared.fault.InputFault.TheVariants as input
 use Rattle.plan_compiler.specs.declared.fault.ScaleFault.{ScaleFault}
 use Rattle.plan_compiler.specs.declared.fault.ScaleFault.TheVariants as scale
+use Rattle.savepoint_codec.specs.declared.fault.SaveFault.{SaveFault}
+use Rattle.savepoint_codec.specs.declared.fault.SaveFault.TheVariants as save
 use Rattle.job.specs.declared.fault.JobFault.{JobFault}
-use Rattle.job.specs.declared.fault.JobFault.TheVariants.{Plan, Input, Scale, Memory}
+use Rattle.job.specs.declared.fault.JobFault.TheVariants.{Plan, Input, Scale, Save, Memory}
 
 abbrev pub plan_fault : PlanFault → JobFault
 plan_fault plan.Memory = Memory
@@ -19,3 +21,7 @@ input_fault fault = Input fault
 abbrev pub scale_fault : ScaleFault → JobFault
 scale_fault scale.Memory = Memory
 scale_fault fault = Scale fault
+
+abbrev pub save_fault : SaveFault → JobFault
+save_fault save.Memory = Memory
+save_fault fault = Save fault

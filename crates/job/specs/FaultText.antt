@@ -7,6 +7,8 @@ use Rattle.stream_input.specs.declared.fault.InputFault.{InputFault}
 use Rattle.stream_input.specs.declared.fault.InputFault.TheVariants as input
 use Rattle.plan_compiler.specs.declared.fault.ScaleFault.{ScaleFault}
 use Rattle.plan_compiler.specs.declared.fault.ScaleFault.TheVariants as scale
+use Rattle.savepoint_codec.specs.declared.fault.SaveFault.{SaveFault}
+use Rattle.savepoint_codec.specs.declared.fault.SaveFault.TheVariants as save
 use Rattle.job.specs.declared.fault.JobFault.{JobFault}
 use Rattle.job.specs.declared.fault.JobFault.TheVariants as job
 
@@ -51,10 +53,19 @@ scale_text scale.Ring = codes "S6 Ring"
 scale_text scale.Tasks = codes "S7 Tasks"
 scale_text scale.Memory = codes "memory"
 
+abbrev pub save_text : SaveFault → List ℕ
+save_text save.Magic = codes "V1 Magic"
+save_text save.Truncated = codes "V2 Truncated"
+save_text save.Trailing = codes "V3 Trailing"
+save_text save.Order = codes "V4 Order"
+save_text save.Range = codes "V5 Range"
+save_text save.Memory = codes "memory"
+
 abbrev pub fault_text : JobFault → List ℕ
 fault_text (job.Plan fault) = plan_text fault
 fault_text (job.Input fault) = input_text fault
 fault_text (job.Scale fault) = scale_text fault
+fault_text (job.Save fault) = save_text fault
 fault_text job.Cut = codes "C1 Cut"
 fault_text job.Number = codes "C2 Number"
 fault_text job.Read = codes "F1 Read"
@@ -73,11 +84,16 @@ abbrev pub scale_status : ScaleFault → ℕ
 scale_status scale.Memory = 4
 scale_status fault = 3
 
+abbrev pub save_status : SaveFault → ℕ
+save_status save.Memory = 4
+save_status fault = 3
+
 -- 4 for want of memory, 2 for a word of the command line that is no cut or no number, and else 3
 abbrev pub status : JobFault → ℕ
 status (job.Plan fault) = plan_status fault
 status (job.Input fault) = input_status fault
 status (job.Scale fault) = scale_status fault
+status (job.Save fault) = save_status fault
 status job.Cut = 2
 status job.Number = 2
 status job.Memory = 4

@@ -7,3 +7,5 @@ pub mod LayoutText
 pub mod Run
 pub mod Subtask
 pub mod Tells
+pub mod ShowText
+pub mod Show

@@ -1,10 +1,11 @@
 ghost use Rattle.std.specs.Prelude.{◌≡◌};
 ghost use Rattle.job.specs.declared.fault.JobFault.TheVariants.{Memory};
-ghost use Rattle.job.specs.Fault.{plan_fault, input_fault, scale_fault};
+ghost use Rattle.job.specs.Fault.{plan_fault, input_fault, scale_fault, save_fault};
 
 use columns::BatchFault;
 use logical_plan::PlanFault;
 use plan_compiler::ScaleFault;
+use savepoint_codec::SaveFault;
 use std::alloc::{AllocError, AllocFailed};
 use stream_input::InputFault;
 use thiserror::Error;
@@ -22,6 +23,9 @@ pub enum JobFault {
     /// The scale's text is refused.
     #[error(transparent)]
     Scale(ScaleFault),
+    /// The savepoint's bytes are refused.
+    #[error(transparent)]
+    Save(SaveFault),
     /// A word of the command line is no cut.
     #[error("C1 Cut")]
     Cut,
@@ -68,6 +72,17 @@ impl From<ScaleFault> for JobFault {
         match fault {
             ScaleFault::Memory => JobFault::Memory,
             other => JobFault::Scale(other),
+        }
+    }
+}
+
+impl From<SaveFault> for JobFault {
+    ghost from_gives = { λ fault e. e ≡ save_fault fault };
+
+    fn from(fault: SaveFault) -> JobFault {
+        match fault {
+            SaveFault::Memory => JobFault::Memory,
+            other => JobFault::Save(other),
         }
     }
 }

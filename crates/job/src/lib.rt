@@ -10,7 +10,10 @@ mod layout_text;
 #[cfg(test)]
 mod limits;
 mod line;
+mod number;
 mod run;
+mod show;
+mod show_text;
 #[cfg(test)]
 mod tests;
 mod text;
@@ -18,5 +21,6 @@ mod text;
 pub use fault::JobFault;
 pub use group::job_group;
 pub use layout::job_layout;
-pub use line::{FaultLine, status_of};
+pub use line::{FaultLine, fault_line, status_of};
 pub use run::job_run;
+pub use show::job_show;

@@ -1,11 +1,13 @@
 //! What the program says of a fault.
 
-ghost use Rattle.std.specs.Prelude.{◌≡◌};
-ghost use Rattle.job.specs.FaultText.{plan_text, scale_text, status};
+ghost use Rattle.std.specs.Prelude.{◌≡◌, IfOk, string_bytes};
+ghost use Rattle.job.specs.FaultText.{fault_text, plan_text, save_text, scale_text, status};
 
 use crate::fault::JobFault;
 use logical_plan::PlanFault;
 use plan_compiler::ScaleFault;
+use savepoint_codec::SaveFault;
+use std::alloc::{AllocError, Global};
 use std::fmt;
 use stream_input::InputFault;
 
@@ -19,13 +21,26 @@ pub fn status_of(fault: &JobFault) -> u8
         JobFault::Memory
         | JobFault::Plan(PlanFault::Memory)
         | JobFault::Input(InputFault::Memory)
-        | JobFault::Scale(ScaleFault::Memory) => 4,
+        | JobFault::Scale(ScaleFault::Memory)
+        | JobFault::Save(SaveFault::Memory) => 4,
         _ => 3,
     }
 }
 
-/// What the program writes to standard error: the code and name of the fault, with the place of a late
-/// record, or `memory`. Writing it needs no memory.
+/// What the program writes to standard error, but for the line feed: the code and name of the fault, with
+/// the place of a late record, or `memory`.
+///
+/// # Errors
+///
+/// Only where memory runs out.
+pub fn fault_line(alloc: Global, fault: &JobFault) -> Result<String, AllocError>
+    ensures { IfOk result (λ line. string_bytes line ≡ fault_text fault.now) }
+{
+    let line = FaultLine(fault);
+    format!(in alloc; "{line}")
+}
+
+/// The line of a fault, to be printed, which needs no memory.
 #[derive(Clone, Copy)]
 pub struct FaultLine<'a>(pub &'a JobFault);
 
@@ -56,6 +71,7 @@ impl fmt::Display for FaultLine<'_> {
             JobFault::Input(InputFault::TooMany) => write!(f, "I10 TooMany"),
             JobFault::Input(InputFault::Memory) | JobFault::Memory => write!(f, "memory"),
             JobFault::Scale(fault) => write!(f, "{}", scale_name(fault)),
+            JobFault::Save(fault) => write!(f, "{}", save_name(fault)),
             JobFault::Cut => write!(f, "C1 Cut"),
             JobFault::Number => write!(f, "C2 Number"),
             JobFault::Read => write!(f, "F1 Read"),
@@ -99,5 +115,18 @@ fn scale_name(fault: &ScaleFault) -> &'static str
         ScaleFault::Ring => "S6 Ring",
         ScaleFault::Tasks => "S7 Tasks",
         ScaleFault::Memory => "memory",
+    }
+}
+
+fn save_name(fault: &SaveFault) -> &'static str
+    ensures { result.now ≡ save_text fault.now }
+{
+    match fault {
+        SaveFault::Magic => "V1 Magic",
+        SaveFault::Truncated => "V2 Truncated",
+        SaveFault::Trailing => "V3 Trailing",
+        SaveFault::Order => "V4 Order",
+        SaveFault::Range => "V5 Range",
+        SaveFault::Memory => "memory",
     }
 }

@@ -1,4 +1,4 @@
-use crate::{FaultLine, JobFault, job_run, status_of};
+use crate::{JobFault, fault_line, job_run, status_of};
 use logical_plan::PlanFault;
 use plan_compiler::ScaleFault;
 use std::test::Fail;
@@ -92,8 +92,7 @@ fn refusals_write_nothing(rt: HostRuntime) -> Result<(), Fail> {
         let fault = job_run(rt.alloc(), plan.as_bytes(), input.as_bytes(), &mut out)
             .err()
             .ok_or("accepted")?;
-        let said = format!(in rt.alloc(); "{}", FaultLine(&fault))?;
-        assert_eq!(rt; said.as_str(), line);
+        assert_eq!(rt; fault_line(rt.alloc(), &fault)?.as_str(), line);
         assert_eq!(rt; status_of(&fault), 3);
         assert_eq!(rt; out.len(), 0);
     }
@@ -113,8 +112,7 @@ fn lines_and_statuses(rt: HostRuntime) -> Result<(), Fail> {
         (JobFault::Write, "F2 Write", 3),
         (JobFault::Memory, "memory", 4),
     ] {
-        let said = format!(in rt.alloc(); "{}", FaultLine(&fault))?;
-        assert_eq!(rt; said.as_str(), line);
+        assert_eq!(rt; fault_line(rt.alloc(), &fault)?.as_str(), line);
         assert_eq!(rt; status_of(&fault), status, "at {line}");
     }
     Ok(())

@@ -1,5 +1,5 @@
 -- The layout is exact, field by field.
-use Rattle.std.proofs.Common.{◌≡◌, ℕ, ℤ, ◌^◌, ◌≤◌, Bool, true, false, ◌&&◌, List, [], ◌∷◌, length, Option, Some, None, Result, Ok, Err, refl, sym, ap, subst, ◌∙◌, arith}
+use Rattle.std.proofs.Common.{◌≡◌, ℕ, ◌^◌, true, ◌&&◌, List, [], ◌∷◌, length, Option, Result, refl, sym, ap, arith}
 use Rattle.std.specs.Prelude.{nat_le, nat_lt, codes, ◌==◌}
 use Rattle.std.specs.List.{list_all}
 use Rattle.std.specs.Option.{option_map}
@@ -10,21 +10,18 @@ use Rattle.byte_fields.specs.declared.fault.FieldFault.TheVariants as field
 use Rattle.byte_fields.specs.declared.fault.FieldFault.TheVariants.{Order, Range}
 use Rattle.byte_fields.specs.declared.fault.ReadFault.{ReadFault}
 use Rattle.byte_fields.specs.declared.fault.ReadFault.TheVariants as read
-use Rattle.byte_fields.specs.Format.{where_it, before, as_record, whole}
-use Rattle.byte_fields.specs.Lists.{as_list, sized}
+use Rattle.byte_fields.specs.Format.{where_it, before, as_record}
+use Rattle.byte_fields.specs.Lists.{sized}
 use Rattle.byte_fields.specs.Reads.{Fails}
 use Rattle.byte_fields.specs.Fields.{u8_field, u16_field, u64_field, i64_field, i128_field}
-use Rattle.byte_fields.proofs.Exact.{IsBytes, IsExact, both, and_true, where_exact, before_exact, seen_exact, record_exact, marked_exact, nothing_exact, list_exact, counted_exact, sized_exact, u8_exact, u16_exact, u64_exact, i64_exact, i128_exact, whole_takes, whole_again}
+use Rattle.byte_fields.proofs.Exact.{IsExact, both, and_true, where_exact, before_exact, seen_exact, record_exact, marked_exact, nothing_exact, list_exact, counted_exact, sized_exact, u8_exact, u16_exact, u64_exact, i64_exact, i128_exact}
 use Rattle.logical_plan.specs.Uids.{is_nat_within, is_uid_byte}
 use Rattle.logical_plan.specs.declared.spec.Place.{Place}
 use Rattle.aggregates.specs.declared.kind.Kind.{Kind}
 use Rattle.aggregates.specs.declared.kind.Kind.TheVariants.{Count, Sum, Least, Greatest}
 use Rattle.aggregates.specs.Kinds.{is_number}
-use Rattle.savepoint_codec.specs.declared.savepoint.SavedSource.{SavedSource}
 use Rattle.savepoint_codec.specs.declared.savepoint.SavedGroup.{SavedGroup}
 use Rattle.savepoint_codec.specs.declared.savepoint.Contents.{Contents}
-use Rattle.savepoint_codec.specs.declared.fault.SaveFault.TheVariants as fault
-use Rattle.savepoint_codec.specs.EntriesData.{EntryData}
 use Rattle.savepoint_codec.specs.Fields.{number_field, max_field, few_field, uid_field, is_uid_after, partition_field, partitions_field, source_field, source_after, sources_field, kind_code, kind_of_code, kind_field, kinds_field, place_field, is_place_after, count_field, number_of_kind, numbers_field, entry_field, entry_after, entries_field, is_number_after, group_number, group_field, group_after, groups_field}
 use Rattle.savepoint_codec.specs.Layout.{record_field, window_fields, fields, contents_of, parts_of, savepoint_format}
 use Rattle.savepoint_codec.specs.Answer.{fault_of_read, fault_said, Fails as Refuses}

@@ -1,5 +1,5 @@
 -- The layout of a savepoint's bytes: its fields in their order.
-use Rattle.std.specs.Prelude.{◌≡◌, ℕ, Bool, true, List, codes}
+use Rattle.std.specs.Prelude.{◌≡◌, ℕ, true, List, codes}
 use Rattle.byte_fields.specs.Format.{Format, before, as_record, marked}
 use Rattle.byte_fields.specs.Lists.{sized}
 use Rattle.byte_fields.specs.Fields.{u16_field}

@@ -1,5 +1,5 @@
 -- What the writers of a savepoint ask for: lists short enough for their counts, which each savepoint has.
-use Rattle.std.specs.Prelude.{◌≡◌, ℕ, ◌^◌, ◌<◌, List, ◌++◌, length}
+use Rattle.std.specs.Prelude.{◌≡◌, ℕ, ◌<◌, List, ◌++◌, length}
 use Rattle.std.specs.List.{All, flat_map}
 use Rattle.byte_fields.specs.Fields.{u64_field, i128_field}
 use Rattle.aggregates.specs.declared.kind.Kind.{Kind}

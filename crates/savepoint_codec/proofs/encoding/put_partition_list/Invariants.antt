@@ -1,4 +1,4 @@
-use Rattle.std.proofs.Common.{◌≡◌, ◌++◌, None, take}
+use Rattle.std.proofs.Common.{◌≡◌, ◌++◌, take}
 use Rattle.std.specs.List.{flat_map}
 use Rattle.savepoint_codec.specs.Fields.{partition_field}
 use Rattle.savepoint_codec.proofs.encoding.put_partition_list.Given as goal

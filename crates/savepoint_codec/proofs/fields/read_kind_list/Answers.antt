@@ -1,9 +1,8 @@
-use Rattle.std.proofs.Common.{◌≡◌, Ok, None, subst}
+use Rattle.std.proofs.Common.{None}
 use Rattle.std.proofs.lemmas.Result.{err_from_is_err_and}
-use Rattle.byte_fields.specs.Reads.{Fails}
 use Rattle.byte_fields.specs.declared.fault.ReadFault.TheVariants.{Bytes}
 use Rattle.byte_fields.proofs.Exact.{reads_one, fails_at, reads_all, chain-read-length}
-use Rattle.savepoint_codec.specs.Fields.{kind_field, source_field}
+use Rattle.savepoint_codec.specs.Fields.{kind_field}
 use Rattle.savepoint_codec.proofs.fields.read_kind_list.Goals as goal
 
 pub returns-in_err-kind-clause-read : goal.returns-in_err-kind-clause-read

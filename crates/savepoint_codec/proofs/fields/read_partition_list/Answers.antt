@@ -1,9 +1,7 @@
-use Rattle.std.proofs.Common.{◌≡◌, Ok, subst}
 use Rattle.std.proofs.lemmas.Result.{err_from_is_err_and}
-use Rattle.byte_fields.specs.Reads.{Fails}
 use Rattle.byte_fields.specs.declared.fault.ReadFault.TheVariants.{Bytes}
 use Rattle.byte_fields.proofs.Exact.{reads_one, fails_at, reads_all}
-use Rattle.savepoint_codec.specs.Fields.{partition_field, source_field}
+use Rattle.savepoint_codec.specs.Fields.{partition_field}
 use Rattle.savepoint_codec.proofs.fields.read_partition_list.Goals as goal
 
 pub returns-in_err-partition : goal.returns-in_err-partition

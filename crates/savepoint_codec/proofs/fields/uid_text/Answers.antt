@@ -1,4 +1,3 @@
-use Rattle.std.proofs.Common.{◌≡◌, true, List, ℕ}
 use Rattle.std.proofs.lemmas.Str.{IsUtf8-from_ascii}
 use Rattle.savepoint_codec.proofs.UidText.{ascii_of_uid}
 use Rattle.savepoint_codec.proofs.fields.uid_text.Goals as goal

@@ -4,7 +4,6 @@ use Rattle.std.specs.Option.{option_map}
 use Rattle.byte_fields.specs.Lists.{last_of}
 use Rattle.byte_fields.specs.Reads.{Fails}
 use Rattle.savepoint_codec.specs.declared.savepoint.SavedGroup.{SavedGroup}
-use Rattle.byte_fields.specs.declared.fault.ReadFault.TheVariants.{Bytes}
 use Rattle.byte_fields.proofs.Exact.{reads_one, fails_at, reads_all}
 use Rattle.savepoint_codec.specs.Fields.{group_after, group_field}
 use Rattle.savepoint_codec.proofs.groups.read_group_list.Goals as goal

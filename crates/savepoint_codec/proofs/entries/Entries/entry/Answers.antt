@@ -1,7 +1,6 @@
-use Rattle.std.proofs.Common.{◌≡◌, ◌<◌, ◌≤◌, ◌*◌, List, ℤ, length, slice_get, Some, take, drop, refl, sym, ◌∙◌, ap, arith, rules}
+use Rattle.std.proofs.Common.{◌≡◌, ◌<◌, ◌*◌, List, ℤ, length, slice_get, Some, take, drop, refl, sym, ◌∙◌, ap, arith, rules}
 use Rattle.std.proofs.lemmas.Option.{slice_get_read}
-use Rattle.savepoint_codec.specs.declared.entries.Head.{Head}
-use Rattle.savepoint_codec.specs.EntriesData.{EntryData, EntriesData}
+use Rattle.savepoint_codec.specs.EntriesData.{EntriesData}
 use Rattle.savepoint_codec.specs.EntriesView.{entry_of}
 use Rattle.savepoint_codec.proofs.EntriesFacts.{length-entries_of, entries_of-get, is_within}
 use Rattle.savepoint_codec.proofs.entries.Entries.entry.Goals as goal

@@ -1,4 +1,4 @@
-use Rattle.std.proofs.Common.{◌≡◌, ◌∷◌, [], ◌++◌, List, length, sym, ◌∙◌, ap}
+use Rattle.std.proofs.Common.{◌≡◌, ◌∷◌, [], ◌++◌, List, sym, ◌∙◌, ap}
 use Rattle.savepoint_codec.specs.declared.entries.Head.{Head}
 use Rattle.savepoint_codec.specs.EntriesData.{EntryData, EntriesData}
 use Rattle.savepoint_codec.specs.EntriesView.{entries_of, entry_data}
