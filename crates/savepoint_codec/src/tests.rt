@@ -164,3 +164,79 @@ fn each_value_of_each_byte(rt: HostRuntime) -> Result<(), Fail> {
     }
     Ok(())
 }
+
+/// The savepoint with a second key group, whose entry is that of the first.
+fn two_groups(alloc: Global) -> Result<Vec<u8>, Fail> {
+    let mut bytes = edited(alloc, &[(103, 2)])?;
+    bytes.extend_from_slice(&[0, 87])?;
+    bytes.extend_from_slice(&BYTES[106..])?;
+    Ok(bytes)
+}
+
+#[test]
+fn two_groups_there_and_back(rt: HostRuntime) -> Result<(), Fail> {
+    let bytes = two_groups(rt.alloc())?;
+    let savepoint = decode(rt.alloc(), &bytes)?;
+    assert_eq!(rt; savepoint.contents().groups.len(), 2);
+    assert_eq!(rt;
+        encode(rt.alloc(), &savepoint)?.as_slice(),
+        bytes.as_slice()
+    );
+    Ok(())
+}
+
+#[test]
+fn groups_and_entries_in_order(rt: HostRuntime) -> Result<(), Fail> {
+    let mut bytes = two_groups(rt.alloc())?;
+    *bytes.get_mut(203).ok_or("no second group")? = 86;
+    assert_eq!(rt; fault_of(rt.alloc(), &bytes), Some(SaveFault::Order));
+    let mut bytes = edited(rt.alloc(), &[(113, 2)])?;
+    bytes.extend_from_slice(&BYTES[114..])?;
+    assert_eq!(rt; fault_of(rt.alloc(), &bytes), Some(SaveFault::Order));
+    *bytes.get_mut(217).ok_or("no second entry")? = 2;
+    assert_eq!(rt; fault_of(rt.alloc(), &bytes), None);
+    Ok(())
+}
+
+/// Numbers that look random, each from the one before.
+fn next(state: u64) -> u64 {
+    state
+        .wrapping_mul(6364136223846793005)
+        .wrapping_add(1442695040888963407)
+}
+
+/// Some of the bytes replaced, and perhaps some of the last taken away.
+fn mutated(alloc: Global, bytes: &[u8], seed: u64) -> Result<(Vec<u8>, u64), Fail> {
+    let mut mutation = Vec::from_slice(alloc, bytes)?;
+    let mut state = next(seed);
+    for _ in 0..state >> 62 {
+        state = next(state);
+        let place = (state >> 32) as usize % bytes.len().max(1);
+        if let Some(byte) = mutation.get_mut(place) {
+            *byte = (state >> 24 & 0xff) as u8;
+        }
+    }
+    state = next(state);
+    if state >> 60 == 0 {
+        mutation.truncate((state >> 32) as usize % bytes.len().max(1));
+    }
+    Ok((mutation, state))
+}
+
+#[test]
+fn random_mutations(rt: HostRuntime) -> Result<(), Fail> {
+    let shapes = [
+        Vec::from_slice(rt.alloc(), &BYTES)?,
+        two_groups(rt.alloc())?,
+        edited(rt.alloc(), &[(103, 0)])?,
+    ];
+    let mut state = 1;
+    for shape in &shapes {
+        for _ in 0..40_000 {
+            let (bytes, after) = mutated(rt.alloc(), shape, state)?;
+            assert!(rt; is_refused_or_own(rt.alloc(), &bytes)?);
+            state = after;
+        }
+    }
+    Ok(())
+}

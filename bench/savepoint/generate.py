@@ -1,0 +1,53 @@
+#!/usr/bin/env python3
+"""Writes a savepoint with so many entries of count, sum, least and greatest: generate.py OUT ENTRIES.
+
+Keys are numbered from 0 and each has one window, so that an entry's group is its key's, as Flink's key groups have it.
+"""
+import struct
+import sys
+
+MAX = 128
+
+
+def murmur_hash(code):
+    code = code * 0xCC9E2D51 & 0xFFFFFFFF
+    code = (code << 15 | code >> 17) & 0xFFFFFFFF
+    code = code * 0x1B873593 & 0xFFFFFFFF
+    code = (code << 13 | code >> 19) & 0xFFFFFFFF
+    code = (code * 5 + 0xE6546B64) & 0xFFFFFFFF
+    code ^= 4
+    code ^= code >> 16
+    code = code * 0x85EBCA6B & 0xFFFFFFFF
+    code ^= code >> 13
+    code = code * 0xC2B2AE35 & 0xFFFFFFFF
+    code ^= code >> 16
+    if code < 1 << 31:
+        return code
+    return 0 if code == 1 << 31 else (1 << 32) - code
+
+
+def group_of(key):
+    return murmur_hash((key ^ key >> 32) & 0xFFFFFFFF) % MAX
+
+
+def entry(key):
+    count = key % 7 + 1
+    numbers = (count, key * 31 - 500, -(key % 1000), key % 100_000)
+    return struct.pack(">qqQ", 60_000, key, count) + b"".join(n.to_bytes(16, "big", signed=True) for n in numbers)
+
+
+def main(path, entries):
+    record = bytes.fromhex("030080000100000000000000ea60000000000000ea600000000000000000") + bytes.fromhex("010173000400000102020203020000")[:13]
+    groups = {}
+    for key in range(entries):
+        groups.setdefault(group_of(key), []).append(key)
+    with open(path, "wb") as out:
+        out.write(b"WSP1" + struct.pack(">QH", 1, len(record)) + record + struct.pack(">H", MAX))
+        out.write(b"\x01\x01s\x01" + struct.pack(">Qq", 10, 59_999))
+        out.write(b"\x01w\x04\x00\x01\x02\x03" + struct.pack(">H", len(groups)))
+        for group in sorted(groups):
+            out.write(struct.pack(">HQ", group, len(groups[group])))
+            out.write(b"".join(entry(key) for key in groups[group]))
+
+
+main(sys.argv[1], int(sys.argv[2]))
