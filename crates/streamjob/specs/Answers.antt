@@ -1,5 +1,5 @@
 -- What the program's commands answer. Nothing can be said of what files hold and of what standard output takes, and so
--- these say which answers the texts of two files allow, whatever they are.
+-- these say which answers the texts of files allow, whatever they are.
 use Rattle.std.specs.Prelude.{◌≡◌, ◌⊎◌, ℕ, List, [], None, Result, Err, unwrap_or}
 use Rattle.std.specs.declared.io.ErrorKind.{ErrorKind}
 use Rattle.std.specs.declared.io.ErrorKind.TheVariants.{OutOfMemory}
@@ -10,6 +10,7 @@ use Rattle.job.specs.declared.fault.JobFault.TheVariants.{Read, Memory}
 use Rattle.job.specs.Group.{TellsGroup, group_said}
 use Rattle.job.specs.Layout.{TellsLayout, layout_said}
 use Rattle.job.specs.Run.{Answers, run_said}
+use Rattle.job.specs.Show.{TellsSavepoint, show_said}
 
 -- the word of the command line under a name
 abbrev pub word : ArgMatches → List ℕ → List ℕ
@@ -31,6 +32,10 @@ AnswersRun result = CannotRead result ⊎ ((plan : List ℕ) × (input : List �
 -- what `job_layout` answers of some plan and scale, or that one of them was not read
 abbrev pub AnswersLayout : Result (Unit {0}) JobFault → Type 0
 AnswersLayout result = CannotRead result ⊎ ((plan : List ℕ) × (scale : List ℕ) × TellsLayout (layout_said plan scale) result None None)
+
+-- what `job_show` answers of some savepoint, or that it was not read
+abbrev pub AnswersShow : Result (Unit {0}) JobFault → Type 0
+AnswersShow result = CannotRead result ⊎ ((savepoint : List ℕ) × TellsSavepoint (show_said savepoint) result None None)
 
 -- what `job_group` answers of three words
 abbrev pub AnswersGroup : List ℕ → List ℕ → List ℕ → Result (Unit {0}) JobFault → Type 0

@@ -1,7 +1,7 @@
 -- What the program answers before its status.
 use Rattle.std.specs.Prelude.{◌⊎◌, ℕ, List, Result, Ok, Err}
 use Rattle.job.specs.declared.fault.JobFault.{JobFault}
-use Rattle.streamjob.specs.Answers.{AnswersRun, AnswersLayout, AnswersGroup}
+use Rattle.streamjob.specs.Answers.{AnswersRun, AnswersLayout, AnswersShow, AnswersGroup}
 use Rattle.streamjob.specs.declared.run.Refusal.{Refusal}
 use Rattle.streamjob.specs.declared.run.Refusal.TheVariants.{Fault}
 
@@ -10,7 +10,7 @@ AnswersSomeGroup result = (key : List ℕ) × (max : List ℕ) × (par : List �
 
 -- what one of the commands answers
 abbrev pub AnswersCommand : Result (Unit {0}) JobFault → Type 0
-AnswersCommand result = AnswersRun result ⊎ (AnswersLayout result ⊎ AnswersSomeGroup result)
+AnswersCommand result = AnswersRun result ⊎ (AnswersLayout result ⊎ (AnswersShow result ⊎ AnswersSomeGroup result))
 
 -- the command's answer, where the words are read and understood
 abbrev pub AnswersProgram : Result (Unit {0}) Refusal → Type 0

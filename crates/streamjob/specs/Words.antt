@@ -19,14 +19,17 @@ run_shape = command_shape (codes "run") (codes "PLAN" ∷ codes "INPUT" ∷ [])
 abbrev pub layout_shape : Shape
 layout_shape = command_shape (codes "layout") (codes "PLAN" ∷ codes "SCALE" ∷ [])
 
+abbrev pub show_shape : Shape
+show_shape = command_shape (codes "show") (codes "SAVEPOINT" ∷ [])
+
 abbrev pub group_shape : Shape
 group_shape = command_shape (codes "group") (codes "KEY" ∷ codes "MAX" ∷ codes "PAR" ∷ [])
 
--- the program takes one of three commands
+-- the program takes one of four commands
 abbrev pub program : App
 program = record {
   top = record (new_shape (codes "streamjob")) { subcommand_required = true; is_leaf = false };
-  subs = run_shape ∷ layout_shape ∷ group_shape ∷ [];
+  subs = run_shape ∷ layout_shape ∷ show_shape ∷ group_shape ∷ [];
 }
 
 -- a command of such a shape, without commands below it

@@ -1,11 +1,11 @@
 //! What each command does.
 
 ghost use Rattle.std.specs.Prelude.{◌≡◌, codes};
-ghost use Rattle.streamjob.specs.Answers.{word, AnswersRun, AnswersLayout, AnswersGroup};
+ghost use Rattle.streamjob.specs.Answers.{word, AnswersRun, AnswersLayout, AnswersShow, AnswersGroup};
 
 use crate::files::file;
 use clap::ArgMatches;
-use job::{JobFault, job_group, job_layout, job_run};
+use job::{JobFault, job_group, job_layout, job_run, job_show};
 use std::io::writer;
 use std::rt::Files;
 
@@ -34,6 +34,14 @@ pub fn layout<R: Files + Print + AllocGlobal>(
     let plan = file(rt, named(words, "PLAN"))?;
     let scale = file(rt, named(words, "SCALE"))?;
     job_layout(rt.alloc(), &plan, &scale, &mut writer(rt))
+}
+
+/// Prints what a savepoint holds.
+pub fn show<R: Files + Print + AllocGlobal>(rt: &R, words: &ArgMatches<'_>) -> Result<(), JobFault>
+    ensures { AnswersShow result }
+{
+    let savepoint = file(rt, named(words, "SAVEPOINT"))?;
+    job_show(rt.alloc(), &savepoint, &mut writer(rt))
 }
 
 /// Prints the group of a key and its owner.

@@ -59,6 +59,7 @@ fn chosen<R: Files + Print + AllocGlobal>(rt: &R, matches: &ArgMatches<'_>) -> R
     match matches.subcommand() {
         Some(("run", words)) => commands::run(rt, words),
         Some(("layout", words)) => commands::layout(rt, words),
+        Some(("show", words)) => commands::show(rt, words),
         Some(("group", words)) => commands::group(rt, words),
         _ => Err(JobFault::Number),
     }

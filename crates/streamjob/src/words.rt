@@ -2,7 +2,7 @@
 
 ghost use Rattle.std.specs.Prelude.{◌≡◌, false, IfOk};
 ghost use Rattle.clap.specs.Words.{app_of, rule_of};
-ghost use Rattle.streamjob.specs.Words.{IsCommand, required_rule, run_shape, layout_shape, group_shape, program};
+ghost use Rattle.streamjob.specs.Words.{IsCommand, required_rule, run_shape, layout_shape, show_shape, group_shape, program};
 
 use clap::{Arg, Command};
 use std::alloc::{AllocError, Global};
@@ -21,7 +21,7 @@ order of START and KEY.";
 
 const STATUSES: &str = "\
 Exit status: 0 done; 2 words that are not understood; 3 a file that cannot be read or written,
-or a plan, input or scale that is refused; 4 no memory. Standard error says what is refused.";
+or a plan, input, scale or savepoint that is refused; 4 no memory. Standard error says what is refused.";
 
 fn run_words<'a>(alloc: Global) -> Result<Command<'a>, AllocError>
     ensures { IfOk result (λ c. IsCommand run_shape c) }
@@ -65,6 +65,20 @@ fn layout_words<'a>(alloc: Global) -> Result<Command<'a>, AllocError>
         ))
 }
 
+const SHOW: &str = "\
+Lines come in this order: `number N`; `max M`, the number of key groups; `source UID P OFFSET
+WATERMARK` for each partition P; `window UID`; `entry GROUP START KEY COUNT NUMBER ..` for each
+window and key that has not fired.";
+
+fn show_words<'a>(alloc: Global) -> Result<Command<'a>, AllocError>
+    ensures { IfOk result (λ c. IsCommand show_shape c) }
+{
+    Command::new(alloc, "show")
+        .about("Print what a savepoint holds")
+        .after_help(SHOW)
+        .arg(required(alloc, "SAVEPOINT", "File of the savepoint"))
+}
+
 fn group_words<'a>(alloc: Global) -> Result<Command<'a>, AllocError>
     ensures { IfOk result (λ c. IsCommand group_shape c) }
 {
@@ -89,5 +103,6 @@ pub fn command<'a>(alloc: Global) -> Result<Command<'a>, AllocError>
         .subcommand_required(true)
         .subcommand(run_words(alloc)?)?
         .subcommand(layout_words(alloc)?)?
+        .subcommand(show_words(alloc)?)?
         .subcommand(group_words(alloc)?)
 }

@@ -10,7 +10,7 @@ no_key = refl
 
 -- no word is no key
 refused : AnswersCommand (Err Number)
-refused = let some : AnswersSomeGroup (Err Number) = ([], [], [], no_key) in inr (inr some)
+refused = let some : AnswersSomeGroup (Err Number) = ([], [], [], no_key) in inr (inr (inr some))
 
 pub returns-in_default : goal.returns-in_default
 returns-in_default g c = refused
