@@ -1,26 +1,24 @@
 -- What is due at the end, and what one cut leaves to the next.
-use Rattle.std.proofs.Common.{◌≡◌, ℕ, zero, ℤ, pos, ◌+ℤ◌, ◌-ℤ◌, ◌*ℤ◌, ◌≤ℤ◌, ◌<ℤ◌, ◌^◌, ◌≤◌, Bool, true, false, ◌&&◌, List, [], ◌∷◌, ◌++◌, map, take, length, Option, Some, None, refl, sym, ap, subst, ◌∙◌, inl, inr, arith, if◌then◌else◌}
-use Rattle.std.specs.Int.{int_min}
+use Rattle.std.proofs.Common.{◌≡◌, ℕ, ℤ, pos, ◌+ℤ◌, ◌-ℤ◌, ◌≤ℤ◌, ◌^◌, Bool, true, false, List, [], ◌∷◌, map, take, length, Option, Some, None, refl, sym, ap, subst, ◌∙◌, inl, inr, arith, if◌then◌else◌}
 use Rattle.std.specs.Int.RustNames.{int_le}
-use Rattle.std.specs.List.{All, AllByRecursion, filter}
+use Rattle.std.specs.List.{All, AllByRecursion}
 use Rattle.std.specs.Option.{option_and_then}
 use Rattle.std.specs.Ordering.{int_eq}
 use Rattle.std.proofs.lemmas.Bool.{cases_Bool, eq-eqb}
-use Rattle.std.proofs.lemmas.Int.{ints, clamps}
+use Rattle.std.proofs.lemmas.Int.{ints}
 use Rattle.std.proofs.lemmas.List.Elements.{All-nil, All-append, All-take, All-head, All-tail, All-filter, All-weaker}
 use Rattle.plain_data.specs.Record.{Record, at}
 use Rattle.logical_plan.specs.declared.spec.Place.{Place}
-use Rattle.logical_plan.specs.declared.spec.Row.{Row}
 use Rattle.logical_plan.specs.declared.spec.WindowSpec.{WindowSpec}
-use Rattle.logical_plan.specs.PlanData.{PlanData, IsPlan, IsWindow}
+use Rattle.logical_plan.specs.PlanData.{PlanData, IsPlan}
 use Rattle.logical_plan.specs.Windows.{IsTime, passes, is_start, is_at, is_within}
-use Rattle.logical_plan.specs.Aggregates.{aggregate_of, merge}
+use Rattle.logical_plan.specs.Aggregates.{aggregate_of}
 use Rattle.logical_plan.specs.Rows.{is_due, kept_row, records_of}
 use Rattle.stream_input.specs.declared.entry.Entry.{Entry}
 use Rattle.stream_input.specs.declared.entry.Entry.TheVariants.{Rows, Watermark}
-use Rattle.stream_input.specs.InputData.{InputData, IsEntry, IsInput, BelongsTo, records_of_entry, records_in}
-use Rattle.stream_input.specs.Watermarks.{IsOrderly, IsBefore, IsCut, lowest, highest, full_cut, empty_cut, merged_watermark, source_watermark, partition_watermark, watermark_of_entry, records_before, records_before_in, records_between}
-use Rattle.stream_input.specs.PlanRows.{passing, plan_aggregate, plan_rows, due_rows, snapshot, carried}
+use Rattle.stream_input.specs.InputData.{InputData, IsEntry, IsInput, records_of_entry, records_in}
+use Rattle.stream_input.specs.Watermarks.{IsBefore, highest, full_cut, empty_cut, merged_watermark, source_watermark, watermark_of_entry, records_before, records_before_in}
+use Rattle.stream_input.specs.PlanRows.{passing, plan_aggregate, plan_rows, carried}
 use Rattle.stream_input.specs.Laws.{EndIsDue, DueRowsStay, NothingAtFirst, SnapshotGoesOn, CarriedFires}
 use Rattle.stream_input.proofs.Due.{filter_nothing, all_in, not_at, due_is_settled, due_stays}
 use Rattle.stream_input.proofs.Cuts.{plan_aggregate-between}
