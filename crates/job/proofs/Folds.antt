@@ -8,6 +8,7 @@ use Rattle.std.proofs.lemmas.List.Concat.{flat_map-append}
 use Rattle.plain_data.specs.Record.{Record}
 use Rattle.logical_plan.specs.declared.spec.FilterSpec.{FilterSpec}
 use Rattle.logical_plan.specs.declared.spec.Place.{Place}
+use Rattle.logical_plan.specs.declared.spec.WindowSpec.{WindowSpec}
 use Rattle.logical_plan.specs.PlanData.{PlanData}
 use Rattle.logical_plan.specs.Windows.{passes}
 use Rattle.logical_plan.specs.Aggregates.{Aggregated, merge}
@@ -17,7 +18,7 @@ use Rattle.logical_plan.proofs.PlaceTotals.{aggregate_at-append}
 use Rattle.stream_input.specs.PlanRows.{passing, plan_aggregate}
 use Rattle.window_state.specs.State.{StateData, HasRoomFor}
 use Rattle.window_state.proofs.Slides.{count_or, count_merge, count_at, length-filter, rows_start}
-use Rattle.job.specs.Folding.{CanTake, TakesIn, HasAll}
+use Rattle.job.specs.Folding.{CanTake, TakesIn, HasAll, HasRoom}
 
 plan_aggregate-append : (plan : PlanData) (xs ys : List Record) (q : Place)
     → plan_aggregate plan (xs ++ ys) q ≡ merge plan.window.aggregates (plan_aggregate plan xs q) (plan_aggregate plan ys q)
@@ -29,7 +30,7 @@ pub takes_none : (plan : PlanData) (s : StateData) → TakesIn plan [] s s
 takes_none plan s = record {
   window = refl;
   added = λ q. rows_start plan.window q (get s.windows q);
-  whole = λ h. h;
+  whole = refl;
 }
 
 -- some records, and some more
@@ -41,10 +42,10 @@ takes_more plan xs ys a b c h k = record {
       ∙ ap (λ o. merge plan.window.aggregates o (plan_aggregate plan ys q)) (h.added q)
       ∙ merge_assoc plan.window.aggregates (get a.windows q) (plan_aggregate plan xs q) (plan_aggregate plan ys q)
       ∙ sym (ap (merge plan.window.aggregates (get a.windows q)) (plan_aggregate-append plan xs ys q));
-  whole = λ w. k.whole (h.whole w);
+  whole = k.whole ∙ h.whole;
 }
 
-count_room : (n : ℕ) (m : FinMap place_cmp Aggregated) (q : Place) → HasRoomFor n m → n ≤ 2 ^ 41 → count_or (get m q) + n ≤ 2 ^ 41
+count_room : (n : ℕ) (m : FinMap place_cmp Aggregated) (q : Place) → HasRoom n m → n ≤ 2 ^ 41 → count_or (get m q) + n ≤ 2 ^ 41
 count_room n m q room few = by_case (get m q) refl
   where
     by_case : (o : Option Aggregated) → get m q ≡ o → count_or (get m q) + n ≤ 2 ^ 41
@@ -55,6 +56,7 @@ count_room n m q room few = by_case (get m q) refl
 pub can_take_more : (plan : PlanData) (all n : ℕ) (xs : List Record) (a b : StateData) → CanTake plan all a → TakesIn plan xs a b → length xs + n ≤ all → CanTake plan n b
 can_take_more plan all n xs a b can takes few = record {
   window = takes.window ∙ can.window;
+  whole = takes.whole ∙ can.whole;
   room = λ q x has.
       let count : x.count ≡ count_or (merge plan.window.aggregates (get a.windows q) (plan_aggregate plan xs q)) = ap count_or (sym has ∙ takes.added q) in
       let most : all ≤ 2 ^ 40 = can.few in
@@ -69,6 +71,13 @@ can_take_more plan all n xs a b can takes few = record {
       );
   few = let most = can.few in omega (arith, most, few);
 }
+
+-- so there is room for those of n records that pass
+pub room_for : (plan : PlanData) (w : WindowSpec) (n : ℕ) (rows : List Record) (s : StateData) → CanTake plan n s → length rows ≤ n → HasRoomFor w rows s.windows
+room_for plan w n rows s can few q a b there reached =
+    let most = can.room q a there in
+    let count = ap count_or reached in
+    omega (arith, most, count, count_at w rows q, few)
 
 -- without filters every record passes
 pub passing_all : (fs : List FilterSpec) (rs : List Record) → fs ≡ [] → filter (passes fs) rs ≡ rs
@@ -87,12 +96,13 @@ pub takes_all : (plan : PlanData) (records : List Record) (a b : StateData) → 
 takes_all plan records a b window none whole takes = record {
   window = takes.window ∙ window;
   all = λ q. takes.added q ∙ ap (λ m. merge plan.window.aggregates (get m q) (plan_aggregate plan records q)) none ∙ ap (λ o. merge plan.window.aggregates o (plan_aggregate plan records q)) (get-empty place_cmp q);
-  whole = takes.whole whole;
+  whole = takes.whole ∙ whole;
 }
 
-pub can_take_all : (plan : PlanData) (n : ℕ) (a : StateData) → a.window ≡ plan.window → a.windows ≡ empty → n ≤ 2 ^ 40 → CanTake plan n a
-can_take_all plan n a window none few = record {
+pub can_take_all : (plan : PlanData) (n : ℕ) (a : StateData) → a.window ≡ plan.window → a.windows ≡ empty → a.has_failed ≡ false → n ≤ 2 ^ 40 → CanTake plan n a
+can_take_all plan n a window none whole few = record {
   window = window;
+  whole = whole;
   room = λ q x has. absurd (let nothing : None ≡ Some x = sym (get-empty place_cmp q) ∙ ap (λ m. get m q) (sym none) ∙ has in cc);
   few = few;
 }

@@ -1,24 +1,30 @@
 -- What a window state holds once records are brought in.
-use Rattle.std.specs.Prelude.{◌≡◌, ℕ, ◌^◌, ◌≤◌, false, List}
-use Rattle.std.specs.FinMap.{get}
+use Rattle.std.specs.Prelude.{◌≡◌, ℕ, ◌+◌, ◌^◌, ◌≤◌, false, List, Some}
+use Rattle.std.specs.FinMap.{FinMap, get}
 use Rattle.plain_data.specs.Record.{Record}
 use Rattle.logical_plan.specs.declared.spec.Place.{Place}
 use Rattle.logical_plan.specs.PlanData.{PlanData}
-use Rattle.logical_plan.specs.Aggregates.{merge}
+use Rattle.logical_plan.specs.Aggregates.{Aggregated, merge}
+use Rattle.logical_plan.specs.Rows.{place_cmp}
 use Rattle.stream_input.specs.PlanRows.{plan_aggregate}
-use Rattle.window_state.specs.State.{StateData, HasRoomFor}
+use Rattle.window_state.specs.State.{StateData}
 
--- the state is the plan's, and can take so many records
+-- each window can take so many records more
+abbrev pub HasRoom : ℕ → FinMap place_cmp Aggregated → Type 0
+HasRoom n m = (q : Place) (a : Aggregated) → get m q ≡ Some a → a.count + n ≤ 2 ^ 41
+
+-- the state is the plan's, has not failed, and can take so many records
 pub record CanTake (plan : PlanData) (count : ℕ) (state : StateData) : Type 0 where
   pub window : state.window ≡ plan.window
-  pub room : HasRoomFor count state.windows
+  pub whole : state.has_failed ≡ false
+  pub room : HasRoom count state.windows
   pub few : count ≤ 2 ^ 40
 
 -- the state has taken in the records that pass the plan's filters
 pub record TakesIn (plan : PlanData) (records : List Record) (old new : StateData) : Type 0 where
   pub window : new.window ≡ old.window
   pub added : (q : Place) → get new.windows q ≡ merge plan.window.aggregates (get old.windows q) (plan_aggregate plan records q)
-  pub whole : old.has_failed ≡ false → new.has_failed ≡ false
+  pub whole : new.has_failed ≡ old.has_failed
 
 -- the state has what the records that pass the plan's filters come to at each place
 pub record HasAll (plan : PlanData) (records : List Record) (state : StateData) : Type 0 where

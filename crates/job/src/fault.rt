@@ -1,4 +1,4 @@
-ghost use Rattle.std.specs.Prelude.{◌≡◌};
+ghost use Rattle.std.specs.Prelude.{◌≡◌, Ok, IfErr, MatchResult};
 ghost use Rattle.job.specs.declared.fault.JobFault.TheVariants.{Memory};
 ghost use Rattle.job.specs.Fault.{plan_fault, input_fault, scale_fault, save_fault};
 
@@ -87,21 +87,25 @@ impl From<SaveFault> for JobFault {
     }
 }
 
-impl From<BatchFault> for JobFault {
-    ghost from_gives = { λ _ e. e ≡ Memory };
-
-    // A batch is only copied in parts here, which fails for want of memory alone.
-    fn from(_fault: BatchFault) -> JobFault {
-        JobFault::Memory
+/// The answer of a call that takes parts of a batch, which fails for want of memory alone.
+pub(crate) fn of_batch<T>(answer: Result<T, BatchFault>) -> Result<T, JobFault>
+    requires { IfErr answer (λ fault. fault ≡ BatchFault.Memory) }
+    ensures { MatchResult result (λ x. answer ≡ Ok x) (λ fault. fault ≡ JobFault.Memory) }
+{
+    match answer {
+        Ok(x) => Ok(x),
+        Err(_) => Err(JobFault::Memory),
     }
 }
 
-impl From<StateFault> for JobFault {
-    ghost from_gives = { λ _ e. e ≡ Memory };
-
-    // A state that has failed has found no memory before.
-    fn from(_fault: StateFault) -> JobFault {
-        JobFault::Memory
+/// The answer of a call of a state that has not failed before, which fails for want of memory alone.
+pub(crate) fn of_state<T>(answer: Result<T, StateFault>) -> Result<T, JobFault>
+    requires { IfErr answer (λ fault. fault ≡ StateFault.Memory) }
+    ensures { MatchResult result (λ x. answer ≡ Ok x) (λ fault. fault ≡ JobFault.Memory) }
+{
+    match answer {
+        Ok(x) => Ok(x),
+        Err(_) => Err(JobFault::Memory),
     }
 }
 

@@ -6,13 +6,13 @@ ghost use Rattle.stream_input.specs.InputData.{BelongsTo, IsEntry, IsInput, reco
 ghost use Rattle.stream_input.specs.declared.entry.Entry.TheVariants.{Rows};
 ghost use Rattle.job.specs.Folding.{TakesIn, CanTake, HasAll};
 
-use crate::fault::JobFault;
+use crate::fault::{JobFault, of_state};
 use crate::filtering::passing;
 use columns::Batch;
 use logical_plan::Plan;
 use std::alloc::Global;
 use stream_input::{Entry, Input, Partition, Source};
-use window_state::WindowState;
+use window_state::{HashKeys, WindowState};
 
 /// Brings the rows of a batch in that pass the plan's filters.
 fn add_batch(
@@ -27,9 +27,9 @@ fn add_batch(
 {
     let filters = plan.filters();
     if filters.is_empty() {
-        state.add(batch)?;
+        of_state(state.add(batch))?;
     } else {
-        state.add(&passing(alloc, filters, batch)?)?;
+        of_state(state.add(&passing(alloc, filters, batch)?))?;
     }
     Ok(())
 }
@@ -83,12 +83,17 @@ fn add_source(
 }
 
 /// The state of the plan's window operator that the whole input has reached.
-pub(crate) fn state_of(alloc: Global, plan: &Plan, input: &Input) -> Result<WindowState, JobFault>
+pub(crate) fn state_of(
+    alloc: Global,
+    keys: HashKeys,
+    plan: &Plan,
+    input: &Input,
+) -> Result<WindowState, JobFault>
     requires { BelongsTo plan.now input.now }
     ensures holds { MatchResult result (λ state. HasAll plan.now (all_records input.now.sources) state) (λ fault. fault ≡ JobFault.Memory) }
     ensures sound { IfOk result (λ _. IsInput input.now) }
 {
-    let mut state = WindowState::new(alloc, plan.window())?;
+    let mut state = of_state(WindowState::new(alloc, keys, plan.window()))?;
     for source in input.sources() {
         add_source(alloc, plan, &mut state, source)?;
     }

@@ -24,3 +24,4 @@ pub use layout::job_layout;
 pub use line::{FaultLine, fault_line, status_of};
 pub use run::job_run;
 pub use show::job_show;
+pub use window_state::HashKeys;

@@ -8,21 +8,27 @@ ghost use Rattle.std.specs.Io.KnownBytes.{Appends};
 ghost use Rattle.job.specs.Run.{Answers, run_said};
 ghost use Rattle.job.specs.Tells.{KeepsWriter};
 
-use crate::fault::JobFault;
+use crate::fault::{JobFault, of_state};
 use crate::folding::state_of;
 use crate::text::text_of;
 use logical_plan::Plan;
 use std::alloc::Global;
 use std::io::Write;
 use stream_input::Input;
+use window_state::HashKeys;
 
 /// The text of the plan's rows on an input.
-fn rows_text(alloc: Global, plan: &Plan, input: &Input) -> Result<String, JobFault>
+fn rows_text(
+    alloc: Global,
+    keys: HashKeys,
+    plan: &Plan,
+    input: &Input,
+) -> Result<String, JobFault>
     requires { BelongsTo plan.now input.now }
     ensures { MatchResult result (λ text. IsTextOf (plan_rows plan.now input.now.sources) (string_bytes text)) (λ fault. fault ≡ JobFault.Memory) }
 {
-    let mut state = state_of(alloc, plan, input)?;
-    let rows = state.fire(i64::MAX)?;
+    let mut state = state_of(alloc, keys, plan, input)?;
+    let rows = of_state(state.fire(i64::MAX))?;
     Ok(text_of(alloc, plan.window().having.as_slice(), &rows)?)
 }
 
@@ -34,6 +40,7 @@ fn rows_text(alloc: Global, plan: &Plan, input: &Input) -> Result<String, JobFau
 /// The plan's fault, else the input's; `Write` where the writer refuses the text; `Memory`.
 pub fn job_run<W: Write>(
     alloc: Global,
+    keys: HashKeys,
     plan: &[u8],
     input: &[u8],
     out: &mut W,
@@ -43,7 +50,7 @@ pub fn job_run<W: Write>(
 {
     let plan = Plan::read(alloc, plan)?;
     let input = Input::read(alloc, &plan, input)?;
-    let text = rows_text(alloc, &plan, &input)?;
+    let text = rows_text(alloc, keys, &plan, &input)?;
     write_text(out, text.as_str())
 }
 

@@ -5,8 +5,9 @@ ghost use Rattle.streamjob.specs.Answers.{word, AnswersRun, AnswersLayout, Answe
 
 use crate::files::file;
 use clap::ArgMatches;
-use job::{JobFault, job_group, job_layout, job_run, job_show};
+use job::{HashKeys, JobFault, job_group, job_layout, job_run, job_show};
 use std::io::writer;
+use std::random::RandomSource;
 use std::rt::Files;
 
 fn named<'a>(words: &ArgMatches<'a>, name: &str) -> &'a str
@@ -16,12 +17,18 @@ fn named<'a>(words: &ArgMatches<'a>, name: &str) -> &'a str
 }
 
 /// Prints the rows of a plan on an input.
-pub fn run<R: Files + Print + AllocGlobal>(rt: &R, words: &ArgMatches<'_>) -> Result<(), JobFault>
+pub fn run<R: Files + Print + RandomSource + AllocGlobal>(
+    rt: &R,
+    words: &ArgMatches<'_>,
+) -> Result<(), JobFault>
     ensures { AnswersRun result }
 {
     let plan = file(rt, named(words, "PLAN"))?;
     let input = file(rt, named(words, "INPUT"))?;
-    job_run(rt.alloc(), &plan, &input, &mut writer(rt))
+    let Ok(keys) = HashKeys::random(rt) else {
+        return Err(JobFault::Read);
+    };
+    job_run(rt.alloc(), keys, &plan, &input, &mut writer(rt))
 }
 
 /// Prints the layout of a plan at a scale.

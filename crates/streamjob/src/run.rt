@@ -14,6 +14,7 @@ use crate::words::command;
 use clap::{ArgMatches, error};
 use job::{FaultLine, JobFault, status_of};
 use std::alloc::AllocError;
+use std::random::RandomSource;
 use std::rt::{Env, Files};
 use std::{env, io};
 
@@ -53,7 +54,10 @@ impl From<AllocError> for Refusal {
 }
 
 /// Runs the command that the words name; clap lets no others through.
-fn chosen<R: Files + Print + AllocGlobal>(rt: &R, matches: &ArgMatches<'_>) -> Result<(), JobFault>
+fn chosen<R: Files + Print + RandomSource + AllocGlobal>(
+    rt: &R,
+    matches: &ArgMatches<'_>,
+) -> Result<(), JobFault>
     ensures { AnswersCommand result }
 {
     match matches.subcommand() {
@@ -72,7 +76,7 @@ fn words_of<R: Env + AllocGlobal>(rt: &R) -> io::Result<Vec<String>> {
 }
 
 /// Runs the command that the program's words name.
-pub fn outcome<R: Files + Print + Env + AllocGlobal>(rt: &R) -> Result<(), Refusal>
+pub fn outcome<R: Files + Print + Env + RandomSource + AllocGlobal>(rt: &R) -> Result<(), Refusal>
     ensures { AnswersProgram result }
 {
     let words = words_of(rt).map_err(Refusal::Unread)?;

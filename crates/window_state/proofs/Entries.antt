@@ -1,5 +1,5 @@
 -- The entries of the windows, as a finite map and as rows.
-use Rattle.std.proofs.Common.{◌≡◌, ℤ, Bool, true, false, cond, ◌&&◌, T, List, [], ◌∷◌, ◌++◌, map, refl, sym, ap, subst, ◌∙◌, arith, append_assoc, Option, Some, None}
+use Rattle.std.proofs.Common.{◌≡◌, ℤ, Bool, true, false, not, cond, ◌&&◌, T, List, [], ◌∷◌, ◌++◌, map, refl, sym, ap, subst, ◌∙◌, arith, append_assoc, Option, Some, None}
 use Rattle.std.specs.List.{filter, AllByRecursion, IsDistinct}
 use Rattle.std.specs.List.Sorted.{IsStrictlySortedBy}
 use Rattle.std.specs.Map.{keys_of}
@@ -76,39 +76,21 @@ entries-totals es h =
 
 -- ---- windows that stay
 
--- of the entries whose places pass a test
-pub acc_at-filter : (p : Place → Bool) (es : List (Place × AccData)) (q : Place) → acc_at (filter (λ e. p e.0) es) q ≡ cond (p q) (acc_at es q) None
-acc_at-filter p [] q = either_none (p q)
-  where
-    either_none : (b : Bool) → (let none : Option AccData = None in none ≡ cond b none none)
-    either_none true = refl
-    either_none false = refl
-acc_at-filter p (e ∷ es) q = by_case (is_place q e.0) refl (p e.0) refl (acc_at-filter p es q)
-  where
-    by_case : (here : Bool) → is_place q e.0 ≡ here → (kept : Bool) → p e.0 ≡ kept → acc_at (filter (λ x. p x.0) es) q ≡ cond (p q) (acc_at es q) None
-        → acc_at (cond kept (e ∷ filter (λ x. p x.0) es) (filter (λ x. p x.0) es)) q ≡ cond (p q) (cond here (Some e.1) (acc_at es q)) None
-    by_case true h true k later =
-        ap (λ b. cond b (Some e.1) (acc_at (filter (λ x. p x.0) es) q)) h
-        ∙ sym (ap (λ b. cond b (Some e.1) None) (ap p (place_from_test q e.0 h) ∙ k))
-    by_case true h false k later =
-        let out : p q ≡ false = ap p (place_from_test q e.0 h) ∙ k in
-        later ∙ ap (λ b. cond b (acc_at es q) None) out ∙ sym (ap (λ b. cond b (Some e.1) None) out)
-    by_case false h true k later = ap (λ b. cond b (Some e.1) (acc_at (filter (λ x. p x.0) es) q)) h ∙ later
-    by_case false h false k later = later
-
-some_of : (b : Bool) (o : Option AccData) (a : AccData) → cond b o None ≡ Some a → o ≡ Some a
-some_of true o a h = h
-some_of false o a h = absurd cc
-
-kept_before : (p : Place → Bool) (m n : List (Place × AccData)) → n ≡ filter (λ e. p e.0) m → (q : Place) (a : AccData) → acc_at n q ≡ Some a → acc_at m q ≡ Some a
-kept_before p m n is q a h = some_of (p q) (acc_at m q) a (sym (acc_at-filter p m q) ∙ ap (λ es. acc_at es q) (sym is) ∙ h)
-
-pub windows_kept : (w : WindowSpec) (p : Place → Bool) (m n : List (Place × AccData)) → AreWindows w m → IsDistinct is_place (keys_of n) → n ≡ filter (λ e. p e.0) m → AreWindows w n
-windows_kept w p m n h distinct is = record {
+-- where nothing new stands at any place
+pub windows_fewer : (w : WindowSpec) (m n : List (Place × AccData)) → AreWindows w m → IsDistinct is_place (keys_of n) → ((q : Place) (a : AccData) → acc_at n q ≡ Some a → acc_at m q ≡ Some a) → AreWindows w n
+windows_fewer w m n h distinct before = record {
   distinct = distinct;
-  kinds = λ q a there. h.kinds q a (kept_before p m n is q a there);
-  starts = λ q a there. h.starts q a (kept_before p m n is q a there);
+  kinds = λ q a there. h.kinds q a (before q a there);
+  starts = λ q a there. h.starts q a (before q a there);
 }
+
+some_of : (b : Bool) (o : Option AccData) (a : AccData) → cond b None o ≡ Some a → o ≡ Some a
+some_of true o a h = absurd cc
+some_of false o a h = h
+
+-- where one place is taken out
+pub windows_taken : (w : WindowSpec) (p : Place) (m n : List (Place × AccData)) → AreWindows w m → IsDistinct is_place (keys_of n) → ((q : Place) → acc_at n q ≡ cond (is_place p q) None (acc_at m q)) → AreWindows w n
+windows_taken w p m n h distinct taken = windows_fewer w m n h distinct (λ q a there. some_of (is_place p q) (acc_at m q) a (sym (taken q) ∙ there))
 
 -- ---- rows
 
@@ -126,21 +108,25 @@ fires_next w t rows row e left rest all so_far is due same =
 pub some_next : (es : List (Place × AccData)) (p : Place) (a : AccData) (left rest : List Place) → left ≡ p ∷ rest → acc_at es p ≡ Some a → entries_at es left ≡ (p, a) ∷ entries_at es rest
 some_next es p a left rest is some = ap (entries_at es) is ∙ ap (λ o. with_entry p o (entries_at es rest)) some
 
+-- a place with none
+pub none_next : (es : List (Place × AccData)) (p : Place) (left rest : List Place) → left ≡ p ∷ rest → acc_at es p ≡ None → entries_at es left ≡ entries_at es rest
+none_next es p left rest is none = ap (entries_at es) is ∙ ap (λ o. with_entry p o (entries_at es rest)) none
+
 -- ---- the map of the windows that stay
 
-map_cond : (b : Bool) (o : Option AccData) → option_map (λ (a : AccData). a.total) (cond b o None) ≡ cond b (option_map (λ (a : AccData). a.total) o) None
+map_cond : (b : Bool) (o : Option AccData) → option_map (λ (a : AccData). a.total) (cond b None o) ≡ cond (not b) (option_map (λ (a : AccData). a.total) o) None
 map_cond true o = refl
 map_cond false o = refl
 
-pub map_kept : (p : Place → Bool) (m n : List (Place × AccData)) → n ≡ filter (λ e. p e.0) m → from_entries {R = place_cmp} (totals n) ≡ retain_keys (from_entries {R = place_cmp} (totals m)) p
-map_kept p m n is =
+pub map_left : (p : Place → Bool) (m n : List (Place × AccData)) → ((q : Place) → acc_at n q ≡ cond (p q) None (acc_at m q)) → from_entries {R = place_cmp} (totals n) ≡ retain_keys (from_entries {R = place_cmp} (totals m)) (λ q. not (p q))
+map_left p m n is =
     same_map place_cmp_total place_cmp-IsAntisymmetric _ _ (λ q.
-    let alike = λ (x : Place) (e : place_cmp q x ≡ Equal). ap p (sym (place_cmp-IsAntisymmetric q x e)) in
+    let alike = λ (x : Place) (e : place_cmp q x ≡ Equal). ap (λ y. not (p y)) (sym (place_cmp-IsAntisymmetric q x e)) in
     get-totals n q
-    ∙ ap (option_map (λ (a : AccData). a.total)) (ap (λ es. acc_at es q) is ∙ acc_at-filter p m q)
+    ∙ ap (option_map (λ (a : AccData). a.total)) (is q)
     ∙ map_cond (p q) (acc_at m q)
-    ∙ ap (λ o. cond (p q) o None) (sym (get-totals m q))
-    ∙ sym (get-retain_keys (from_entries {R = place_cmp} (totals m)) p q alike))
+    ∙ ap (λ o. cond (not (p q)) o None) (sym (get-totals m q))
+    ∙ sym (get-retain_keys (from_entries {R = place_cmp} (totals m)) (λ y. not (p y)) q alike))
 
 pub map_none : (es : List (Place × AccData)) → es ≡ [] → from_entries {R = place_cmp} (totals es) ≡ empty
 map_none es is = ap (λ l. from_entries (totals l)) is

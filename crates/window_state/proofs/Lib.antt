@@ -5,3 +5,4 @@ pub mod Ordered
 pub mod Sorted
 pub mod Rows
 pub mod PartMaps
+pub mod Due

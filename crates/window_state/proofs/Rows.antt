@@ -35,7 +35,7 @@ skipped : (q : Place) (b : Bool) (row : Row) (rows : List Row) → row_is_at q r
 skipped q true row rows h = ap (λ t. cond t (row ∷ filter (row_is_at q) rows) (filter (row_is_at q) rows)) h
 skipped q false row rows h = refl
 
-rows_cons : (w : WindowSpec) (t : ℤ) (e : Place × AccData) (es : List (Place × AccData))
+pub rows_cons : (w : WindowSpec) (t : ℤ) (e : Place × AccData) (es : List (Place × AccData))
     → rows_due w t (e ∷ es) ≡ cond (is_due w t e.0.start) (row_at w e.0 e.1.total ∷ rows_due w t es) (rows_due w t es)
 rows_cons w t e es = elim (is_due w t e.0.start) as (λ b. map (λ x. row_at w x.0 x.1.total) (cond b (e ∷ filter (λ x. is_due w t x.0.start) es) (filter (λ x. is_due w t x.0.start) es))
     ≡ cond b (row_at w e.0 e.1.total ∷ rows_due w t es) (rows_due w t es)) [ true ↦ refl | false ↦ refl ]

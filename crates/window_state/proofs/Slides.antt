@@ -1,5 +1,5 @@
 -- A record brought in at several windows, one after another, and several records.
-use Rattle.std.proofs.Common.{◌≡◌, ℕ, ℤ, pos, ◌-ℤ◌, ◌+◌, ◌^◌, ◌<◌, ◌≤◌, ◌%◌, Bool, true, false, cond, ◌&&◌, ◌||◌, List, [], ◌∷◌, take, length, get_or, refl, sym, ap, subst, ◌∙◌, arith, Option, Some, None, ◌≤ℤ◌, FitsSigned, to_z, of_z, if◌then◌else◌}
+use Rattle.std.proofs.Common.{◌≡◌, ℕ, ℤ, pos, ◌-ℤ◌, ◌+◌, ◌^◌, ◌<◌, ◌≤◌, ◌%◌, Bool, true, false, cond, ◌&&◌, ◌||◌, List, [], ◌∷◌, take, drop, length, get_or, refl, sym, ap, subst, ◌∙◌, arith, Option, Some, None, ◌≤ℤ◌, FitsSigned, to_z, of_z, if◌then◌else◌}
 use Rattle.std.specs.Int.{int_rem_euclid}
 use Rattle.std.specs.List.{filter}
 use Rattle.std.specs.Option.{option_map}
@@ -8,13 +8,13 @@ use Rattle.std.specs.Int.{w64}
 use Rattle.std.specs.Int.Signed.{pos-nat_abs, yes_non_neg}
 use Rattle.std.proofs.Math.IntN.{nat_abs}
 use Rattle.std.proofs.lemmas.Int.{ints, to_z-of_z, to_z_pos}
-use Rattle.std.proofs.lemmas.List.{take_more, length-take}
+use Rattle.std.proofs.lemmas.List.{take_more, take-append-drop}
 use Rattle.plain_data.specs.Record.{Record, at}
 use Rattle.logical_plan.specs.declared.spec.Aggregate.{Aggregate}
 use Rattle.logical_plan.specs.declared.spec.WindowSpec.{WindowSpec}
 use Rattle.logical_plan.specs.declared.spec.Place.{Place}
 use Rattle.logical_plan.specs.PlanData.{IsWindow}
-use Rattle.logical_plan.specs.Windows.{IsTime, is_start, is_at}
+use Rattle.logical_plan.specs.Windows.{IsTime, is_start, is_at, is_window_of}
 use Rattle.logical_plan.specs.Aggregates.{Aggregated, aggregate_of, merge}
 use Rattle.logical_plan.specs.Rows.{records_of, aggregate_at}
 use Rattle.logical_plan.proofs.Aggs.{merge_assoc}
@@ -85,14 +85,35 @@ total_of m q t h = by_case (acc_at m q) refl
     by_case None e = absurd (let none : None ≡ Some t = sym (ap (option_map (λ (b : AccData). b.total)) e) ∙ h in cc)
     by_case (Some b) e = (b, e, (let same : Some b.total ≡ Some t = sym (ap (option_map (λ (c : AccData). c.total)) e) ∙ h in cc))
 
+is_first : (a b c : Bool) → (a && b) ≡ c → c ≡ true → a ≡ true
+is_first true b c e h = refl
+is_first false b c e h = absurd cc
+
+or_true : (a : Bool) → (a || true) ≡ true
+or_true true = refl
+or_true false = refl
+
+-- the record counts at the window that begins b before its time, at its key
+pub counts_there : (w : WindowSpec) (r : Record) (q : Place) (b n m rest : ℕ) → 0 < n → w.slide ≡ pos n → w.size ≡ pos m → int_rem_euclid (at w.time r -ℤ w.offset) (pos n) ≡ pos rest
+    → b % n ≡ rest → b < m → at w.time r -ℤ pos b ≡ q.start → at w.key r ≡ q.key → aggregate_at w (r ∷ []) q ≡ aggregate_of w.aggregates (r ∷ [])
+counts_there w r q b n m rest h slide size is e low begins key =
+    let t : ℤ = at w.time r in
+    let y : Option Aggregated = aggregate_of w.aggregates (r ∷ []) in
+    let here : int_eq (t -ℤ pos b) q.start ≡ true = ap (λ s. int_eq s q.start) begins ∙ is_itself q.start in
+    let reached : is_reached w t (b + n) q.start ≡ true = reached_more w t q.start b n m rest h slide size is e low ∙ ap (λ x. is_reached w t b q.start || x) here ∙ or_true (is_reached w t b q.start) in
+    let window : is_window_of w t q.start ≡ true = is_first (is_window_of w t q.start) _ true reached refl in
+    let same : int_eq (at w.key r) q.key ≡ true = ap (λ k. int_eq k q.key) key ∙ is_itself q.key in
+    sym (merge-one w r q None) ∙ (λ i. if window i && same i then merge w.aggregates None y else None)
+
 -- so the window there can take it
-pub room_fresh : (w : WindowSpec) (r : Record) (old now : List (Place × AccData)) (q : Place) (b : ℕ) → at w.time r -ℤ pos b ≡ q.start → HasRoom 1 old
+pub room_fresh : (w : WindowSpec) (r : Record) (old now : List (Place × AccData)) (q : Place) (b n m rest : ℕ) → 0 < n → w.slide ≡ pos n → w.size ≡ pos m → int_rem_euclid (at w.time r -ℤ w.offset) (pos n) ≡ pos rest
+    → b % n ≡ rest → b < m → at w.time r -ℤ pos b ≡ q.start → at w.key r ≡ q.key → HasRoom w (r ∷ []) old
     → total_at now q ≡ slid w r (total_at old q) q b → (a : AccData) → acc_at now q ≡ Some a → a.total.count < 2 ^ 41
-room_fresh w r old now q b begins room is a has =
+room_fresh w r old now q b n m rest h slide size rem e low begins key room is a has =
     let fresh : slid w r (total_at old q) q b ≡ total_at old q = slid_fresh w r (total_at old q) q b (ap (λ s. int_eq s q.start) begins ∙ is_itself q.start) in
     let same : total_at old q ≡ Some a.total = some_total (acc_at now q) (total_at old q) a (is ∙ fresh) has in
     let found = total_of old q a.total same in
-    let most = room q found.0 found.1 in
+    let most = room q found.0 _ found.1 (counts_there w r q b n m rest h slide size rem e low begins key) in
     let count = ap (λ (t : Aggregated). t.count) found.2 in
     omega (arith, most, count)
 
@@ -134,20 +155,43 @@ count_merge ks None b = omega arith
 count_merge ks (Some a) None = omega arith
 count_merge ks (Some a) (Some b) = refl
 
-count_old : (n : ℕ) (m : List (Place × AccData)) (q : Place) → HasRoom n m → n ≤ 2 ^ 41 → count_or (total_at m q) + n ≤ 2 ^ 41
-count_old n m q room few = by_case (acc_at m q) refl
-  where
-    by_case : (o : Option AccData) → acc_at m q ≡ o → count_or (option_map (λ b. b.total) (acc_at m q)) + n ≤ 2 ^ 41
-    by_case None e = rw e (omega (arith, few))
-    by_case (Some b) e = rw e (room q b e)
+-- what some of the records come to at a place, beside all of them
+count_part : (w : WindowSpec) (rs : List Record) (i : ℕ) (q : Place) → i < length rs → count_or (aggregate_at w (take i rs) q) + count_or (aggregate_at w (get_or rs i [] ∷ []) q) ≤ count_or (aggregate_at w rs q)
+count_part w rs i q h =
+    let more = ap (λ l. count_or (aggregate_at w l q)) (take_more rs i [] h) ∙ ap count_or (aggregate_at-append w (take i rs) (get_or rs i [] ∷ []) q) ∙ count_merge w.aggregates (aggregate_at w (take i rs) q) (aggregate_at w (get_or rs i [] ∷ []) q) in
+    let all = ap (λ l. count_or (aggregate_at w l q)) (sym (take-append-drop (i + 1) rs)) ∙ ap count_or (aggregate_at-append w (take (i + 1) rs) (drop (i + 1) rs) q) ∙ count_merge w.aggregates (aggregate_at w (take (i + 1) rs) q) (aggregate_at w (drop (i + 1) rs) q) in
+    omega (arith, more, all)
 
--- after i records of n there is room for one more
-pub room_rows : (w : WindowSpec) (rs : List Record) (i : ℕ) (old now : List (Place × AccData)) → i < length rs → length rs ≤ 2 ^ 41 → HasRoom (length rs) old
-    → ((q : Place) → total_at now q ≡ merge w.aggregates (total_at old q) (aggregate_at w (take i rs) q)) → HasRoom 1 now
-room_rows w rs i old now h few room is q a has =
+count_old : (w : WindowSpec) (rs : List Record) (m : List (Place × AccData)) (q : Place) (t : Aggregated) → aggregate_at w rs q ≡ Some t → HasRoom w rs m → t.count ≤ 2 ^ 41 → count_or (total_at m q) + t.count ≤ 2 ^ 41
+count_old w rs m q t reached room few = by_case (acc_at m q) refl
+  where
+    by_case : (o : Option AccData) → acc_at m q ≡ o → count_or (option_map (λ b. b.total) (acc_at m q)) + t.count ≤ 2 ^ 41
+    by_case None e = rw e (omega (arith, few))
+    by_case (Some b) e = rw e (room q b t e reached)
+
+counted : (o : Option Aggregated) → 1 ≤ count_or o → (t : Aggregated) × (o ≡ Some t)
+counted None h = absurd (omega arith)
+counted (Some t) h = (t, refl)
+
+one_counted : (w : WindowSpec) (r : Record) (q : Place) (b : Aggregated) → aggregate_at w (r ∷ []) q ≡ Some b → b.count ≡ 1
+one_counted w r q b is = elim (is_start w q.start) as (λ s. (if s then aggregate_of w.aggregates (records_of w q (r ∷ [])) else None) ≡ Some b → b.count ≡ 1) [
+  | true ↦ λ e. elim (is_at w q r) as (λ x. aggregate_of w.aggregates (cond x (r ∷ []) []) ≡ Some b → b.count ≡ 1) [ true ↦ λ f. sym (ap count_or f) | false ↦ λ f. absurd cc ] e
+  | false ↦ λ e. absurd cc
+] is
+
+-- after i records there is room for one more
+pub room_rows : (w : WindowSpec) (rs : List Record) (i : ℕ) (old now : List (Place × AccData)) → i < length rs → length rs ≤ 2 ^ 41 → HasRoom w rs old
+    → ((q : Place) → total_at now q ≡ merge w.aggregates (total_at old q) (aggregate_at w (take i rs) q)) → HasRoom w (get_or rs i [] ∷ []) now
+room_rows w rs i old now h few room is q a b has reached =
     let t : Some a.total ≡ merge w.aggregates (total_at old q) (aggregate_at w (take i rs) q) = sym (some_total (acc_at now q) (total_at now q) a refl has) ∙ is q in
-    let count = ap count_or t in
-    omega (arith, count, count_merge w.aggregates (total_at old q) (aggregate_at w (take i rs) q), count_at w (take i rs) q, length-take i rs, count_old (length rs) old q room few)
+    let count = ap count_or t ∙ count_merge w.aggregates (total_at old q) (aggregate_at w (take i rs) q) in
+    let one = ap count_or reached in
+    let single = one_counted w (get_or rs i []) q b reached in
+    let part = count_part w rs i q h in
+    let all : (x : Aggregated) × (aggregate_at w rs q ≡ Some x) = counted (aggregate_at w rs q) (omega (arith, part, one, single)) in
+    let whole = ap count_or all.1 in
+    let most = count_old w rs old q all.0 all.1 room (omega (arith, whole, count_at w rs q, few)) in
+    omega (arith, count, one, part, whole, most)
 
 pub rows_none : (w : WindowSpec) (q : Place) → aggregate_at w [] q ≡ None
 rows_none w q = same_either (is_start w q.start)

@@ -1,6 +1,7 @@
 -- The entries of the windows in the order of their places.
 use Rattle.std.proofs.Common.{◌≡◌, ℤ, Bool, true, false, cond, ◌&&◌, ◌||◌, List, [], ◌∷◌, refl, sym, ap, ◌∙◌, arith, Option, Some, None, if◌then◌else◌}
 use Rattle.std.specs.List.{AllByRecursion, list_any}
+use Rattle.std.specs.Option.{is_some}
 use Rattle.std.specs.List.Sorted.{IsStrictlySortedBy}
 use Rattle.std.specs.Map.{keys_of}
 use Rattle.std.specs.Ordering.{int_eq, is_eq}
@@ -78,4 +79,4 @@ found_at es ps q order = found_among es ps q ∙ by_case (acc_at es q) refl
 
     by_case : (o : Option AccData) → acc_at es q ≡ o → (if list_any (is_place q) ps then acc_at es q else None) ≡ acc_at es q
     by_case None e = ap (λ o. if list_any (is_place q) ps then o else None) e ∙ either_none (list_any (is_place q) ps) ∙ sym e
-    by_case (Some a) e = ap (λ b. if b then acc_at es q else None) (sym (any_place ps q) ∙ order.covered q a e)
+    by_case (Some a) e = ap (λ b. if b then acc_at es q else None) (sym (any_place ps q) ∙ order.those q ∙ ap is_some e)

@@ -4,3 +4,4 @@ pub mod StateView
 pub mod Codes
 pub mod Firing
 pub mod Parts
+pub mod Hashing

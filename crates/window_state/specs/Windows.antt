@@ -1,14 +1,15 @@
 -- The windows of a state as a function of a place, and what every state's windows meet.
-use Rattle.std.specs.Prelude.{◌≡◌, ℕ, ℤ, pos, neg_ℤ, ◌+◌, ◌^◌, ◌≤◌, ◌<◌, ◌<ℤ◌, length, map, List, Option, Some, true, option_map, Bool, ◌&&◌}
+use Rattle.std.specs.Prelude.{◌≡◌, ℕ, ℤ, pos, neg_ℤ, ◌+◌, ◌^◌, ◌≤◌, ◌<◌, ◌<ℤ◌, length, map, List, Option, Some, is_some, option_map, Bool, ◌&&◌}
 use Rattle.std.specs.Map.{keys_of, lookup}
 use Rattle.std.specs.Ordering.{int_eq, is_eq}
 use Rattle.std.specs.List.{All, IsDistinct, list_any}
 use Rattle.std.specs.List.Sorted.{IsStrictlySortedBy}
+use Rattle.plain_data.specs.Record.{Record}
 use Rattle.logical_plan.specs.declared.spec.WindowSpec.{WindowSpec}
 use Rattle.logical_plan.specs.declared.spec.Place.{Place}
 use Rattle.logical_plan.specs.PlanData.{IsWindow, has_column}
 use Rattle.logical_plan.specs.Aggregates.{Aggregated}
-use Rattle.logical_plan.specs.Rows.{place_cmp}
+use Rattle.logical_plan.specs.Rows.{place_cmp, aggregate_at}
 use Rattle.aggregates.specs.Kinds.{AccData, kind_of}
 
 -- p is the place q
@@ -34,14 +35,14 @@ pub record AreWindows (w : WindowSpec) (es : List (Place × AccData)) : Type 0 w
   pub kinds : (q : Place) (a : AccData) → acc_at es q ≡ Some a → a.kinds ≡ map kind_of w.aggregates
   pub starts : (q : Place) (a : AccData) → acc_at es q ≡ Some a → IsStart q.start
 
--- the places ascend, and each window's is one of them
+-- the places ascend, and are just those of the windows
 pub record AreOrdered (places : List Place) (es : List (Place × AccData)) : Type 0 where
   pub ordered : IsStrictlySortedBy place_cmp places
-  pub covered : (q : Place) (a : AccData) → acc_at es q ≡ Some a → list_any (λ p. is_eq (place_cmp q p)) places ≡ true
+  pub those : (q : Place) → list_any (λ p. is_eq (place_cmp q p)) places ≡ is_some (acc_at es q)
 
--- each window can take so many records more
-abbrev pub HasRoom : ℕ → List (Place × AccData) → Type 0
-HasRoom n es = (q : Place) (a : AccData) → acc_at es q ≡ Some a → a.total.count + n ≤ 2 ^ 41
+-- each window that some of the records reach can take those that reach it
+abbrev pub HasRoom : WindowSpec → List Record → List (Place × AccData) → Type 0
+HasRoom w records es = (q : Place) (a : AccData) (b : Aggregated) → acc_at es q ≡ Some a → aggregate_at w records q ≡ Some b → a.total.count + b.count ≤ 2 ^ 41
 
 -- a window operator as every plan has it
 pub record IsOperator (w : WindowSpec) : Type 0 where

@@ -13,6 +13,7 @@ ghost use Rattle.logical_plan.specs.Aggregates.{aggregate_of, merge};
 ghost use Rattle.aggregates.specs.Kinds.{AccData};
 ghost use Rattle.window_state.specs.Windows.{AreWindows, AreOrdered, CanAggregate, HasRoom, IsStart, acc_at, total_at, is_place};
 
+use crate::hashing::HashKeys;
 use aggregates::Acc;
 use columns::Batch;
 use indexmap::IndexMap;
@@ -20,22 +21,21 @@ use logical_plan::{Place, WindowSpec};
 use std::alloc::{AllocError, Global};
 use std::collections::BTreeSet;
 
-/// The open windows: what stands at each place, and the places in order. A place at which nothing stands
-/// is left where memory ran out before its accumulator was in.
+/// The open windows: what stands at each place, and the places in order.
 #[derive(Drop)]
 pub(crate) struct Windows {
-    pub accs: IndexMap<Place, Acc>,
+    pub accs: IndexMap<Place, Acc, HashKeys>,
     pub places: BTreeSet<Place>,
 }
 
 /// No windows.
-pub(crate) fn no_windows(alloc: Global) -> Windows
+pub(crate) fn no_windows(alloc: Global, keys: HashKeys) -> Windows
     ensures none { result.accs.entries ≡ [] }
     ensures windows { (w : WindowSpecValue) → AreWindows w result.accs.entries }
     ensures order { AreOrdered result.places.keys result.accs.entries }
 {
     Windows {
-        accs: IndexMap::new(alloc),
+        accs: IndexMap::with_hasher(alloc, keys),
         places: BTreeSet::new(alloc),
     }
 }
@@ -50,8 +50,14 @@ pub(crate) fn put_at(windows: &mut Windows, place: Place, acc: Acc) -> Result<()
     ensures err { OnErr result (windows.new.accs.entries ≡ windows.old.accs.entries) }
 {
     windows.places.insert(place)?;
-    windows.accs.insert(place, acc)?;
-    Ok(())
+    match windows.accs.insert(place, acc) {
+        Ok(_) => Ok(()),
+        Err(_) => {
+            // The place is a new one, since only a new one takes memory.
+            windows.places.remove(&place);
+            Err(AllocError)
+        }
+    }
 }
 
 /// Brings a record in at one place.
@@ -95,7 +101,7 @@ fn add_from(
     requires rest { int_rem_euclid (at w.now.time (slice_index_or batch.now.rows row []) -ℤ w.now.offset) w.now.slide ≡ pos first }
     requires windows { AreWindows w.now windows.old.accs.entries }
     requires order { AreOrdered windows.old.places.keys windows.old.accs.entries }
-    requires room { HasRoom 1 windows.old.accs.entries }
+    requires room { HasRoom w.now (slice_index_or batch.now.rows row [] ∷ []) windows.old.accs.entries }
     ensures windows { AreWindows w.now windows.new.accs.entries }
     ensures order { AreOrdered windows.new.places.keys windows.new.accs.entries }
     ensures added { OnOk result ((q : PlaceValue) → total_at windows.new.accs.entries q
@@ -126,7 +132,7 @@ fn add_record(
     requires time { IsTime (at w.now.time (slice_index_or batch.now.rows row [])) }
     requires windows { AreWindows w.now windows.old.accs.entries }
     requires order { AreOrdered windows.old.places.keys windows.old.accs.entries }
-    requires room { HasRoom 1 windows.old.accs.entries }
+    requires room { HasRoom w.now (slice_index_or batch.now.rows row [] ∷ []) windows.old.accs.entries }
     ensures windows { AreWindows w.now windows.new.accs.entries }
     ensures order { AreOrdered windows.new.places.keys windows.new.accs.entries }
     ensures added { OnOk result ((q : PlaceValue) → total_at windows.new.accs.entries q
@@ -147,7 +153,7 @@ pub(crate) fn add_batch(
     requires times { All (λ r. IsTime (at w.now.time r)) batch.now.rows }
     requires windows { AreWindows w.now windows.old.accs.entries }
     requires order { AreOrdered windows.old.places.keys windows.old.accs.entries }
-    requires room { HasRoom (length batch.now.rows) windows.old.accs.entries }
+    requires room { HasRoom w.now batch.now.rows windows.old.accs.entries }
     ensures windows { AreWindows w.now windows.new.accs.entries }
     ensures order { AreOrdered windows.new.places.keys windows.new.accs.entries }
     ensures added { OnOk result ((q : PlaceValue) → total_at windows.new.accs.entries q

@@ -1,10 +1,12 @@
 //! Windows that fire.
 
-ghost use Rattle.std.specs.Prelude.{◌≡◌, not, filter, IfOk};
-ghost use Rattle.logical_plan.specs.Rows.{is_due as due, row_at};
+ghost use Rattle.std.specs.Prelude.{◌≡◌, ◌∷◌, true, None, IfSome, IfNone, IfOk, if◌then◌else◌};
+ghost use Rattle.std.specs.List.Sorted.{IsStrictlySortedBy};
+ghost use Rattle.logical_plan.specs.Rows.{is_due as due, place_cmp, row_at};
 ghost use Rattle.aggregates.specs.Kinds.{AccData};
-ghost use Rattle.window_state.specs.Windows.{AreWindows, AreOrdered, IsOperator, IsStart};
-ghost use Rattle.window_state.specs.Firing.{rows_due};
+ghost use Rattle.logical_plan.specs.declared.spec.Place.{Place as PlaceValue};
+ghost use Rattle.window_state.specs.Windows.{AreWindows, AreOrdered, IsOperator, IsStart, acc_at};
+ghost use Rattle.window_state.specs.Firing.{rows_due, NoneDue, IsWithout};
 ghost use Rattle.window_state.specs.Parts.{entries_at};
 
 use crate::adding::Windows;
@@ -12,6 +14,7 @@ use aggregates::Acc;
 use logical_plan::{Place, Row, WindowSpec};
 use plain_data::Items;
 use std::alloc::{AllocError, Global};
+use std::collections::BTreeSet;
 
 /// Whether the window that begins at `start` fires by the watermark: its greatest time, its end less 1,
 /// is at most that.
@@ -45,14 +48,16 @@ pub(crate) fn rows_of(
 ) -> Result<Vec<Row>, AllocError>
     requires operator { IsOperator w.now }
     requires windows { AreWindows w.now windows.now.accs.entries }
+    requires order { AreOrdered windows.now.places.keys windows.now.accs.entries }
     ensures { IfOk result (λ rows. rows.items ≡ rows_due w.now watermark (entries_at windows.now.accs.entries windows.now.places.keys)) }
 {
     let mut rows = Vec::new(alloc);
     for place in &windows.places {
-        if is_due(w, watermark, place.start) {
-            if let Some(acc) = windows.accs.get(place) {
-                rows.push(row_of(alloc, w, *place, acc)?)?;
-            }
+        if !is_due(w, watermark, place.start) {
+            break;
+        }
+        if let Some(acc) = windows.accs.get(place) {
+            rows.push(row_of(alloc, w, *place, acc)?)?;
         }
     }
     Ok(rows)
@@ -64,12 +69,28 @@ pub(crate) fn remove_due(windows: &mut Windows, w: &WindowSpec, watermark: i64)
     requires order { AreOrdered windows.old.places.keys windows.old.accs.entries }
     ensures windows { AreWindows w.now windows.new.accs.entries }
     ensures order { AreOrdered windows.new.places.keys windows.new.accs.entries }
-    ensures left { windows.new.accs.entries ≡ filter (λ e. not (due w.now watermark e.0.start)) windows.old.accs.entries }
+    ensures left { (q : PlaceValue) → acc_at windows.new.accs.entries q ≡ (if due w.now watermark q.start then None else acc_at windows.old.accs.entries q) }
 {
-    windows
-        .accs
-        .retain(|place, _| !is_due(w, watermark, place.start));
-    windows
-        .places
-        .retain(|place| !is_due(w, watermark, place.start));
+    while let Some(place) = pop_due(&mut windows.places, w, watermark) {
+        windows.accs.swap_remove(&place);
+    }
+}
+
+/// Takes the first place out, where its window fires by the watermark. All windows have one size, so that
+/// those that fire come before those that do not.
+fn pop_due(places: &mut BTreeSet<Place>, w: &WindowSpec, watermark: i64) -> Option<Place>
+    requires ordered { IsStrictlySortedBy place_cmp places.old.keys }
+    ensures taken { IfSome result (λ p. places.old.keys ≡ p ∷ places.new.keys) }
+    ensures due { IfSome result (λ p. due w.now watermark p.start ≡ true) }
+    ensures others { IfSome result (λ p. IsWithout p places.old.keys places.new.keys) }
+    ensures none { IfNone result (places.new.keys ≡ places.old.keys) }
+    ensures all { IfNone result (NoneDue w.now watermark places.old.keys) }
+    ensures ordered { IsStrictlySortedBy place_cmp places.new.keys }
+{
+    let first = places.first()?;
+    if is_due(w, watermark, first.start) {
+        places.pop_first()
+    } else {
+        None
+    }
 }

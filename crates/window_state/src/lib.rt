@@ -4,12 +4,14 @@
 mod adding;
 mod fault;
 mod firing;
+mod hashing;
 mod parts;
 mod state;
 #[cfg(test)]
 mod tests;
 
 pub use fault::StateFault;
+pub use hashing::HashKeys;
 pub use logical_plan::Row;
 pub use parts::Part;
 pub use state::WindowState;

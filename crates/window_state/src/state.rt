@@ -14,6 +14,7 @@ ghost use Rattle.window_state.specs.Parts.{entries_of, IsPartOf};
 use crate::adding::{Windows, add_batch, no_windows, put_at};
 use crate::fault::StateFault;
 use crate::firing::{remove_due, rows_of};
+use crate::hashing::HashKeys;
 use crate::parts::{Part, parts_of};
 use columns::Batch;
 use logical_plan::{Row, WindowSpec};
@@ -48,15 +49,24 @@ impl Model for WindowState {
 }
 
 impl WindowState {
-    /// The state of a window operator that no record has reached.
-    pub fn new(alloc: Global, window: &WindowSpec) -> Result<WindowState, StateFault>
+    /// The state of a window operator that no record has reached. Its places are hashed by the keys.
+    ///
+    /// # Errors
+    ///
+    /// Only `Memory`.
+    pub fn new(
+        alloc: Global,
+        keys: HashKeys,
+        window: &WindowSpec,
+    ) -> Result<WindowState, StateFault>
         requires { IsOperator window.now }
         ensures made { IfOk result (λ state. state ≡ record { window = window.now; windows = map.empty; has_failed = false }) }
+        ensures fault { IfErr result (λ fault. fault ≡ StateFault.Memory) }
     {
         Ok(WindowState {
             alloc,
             window: window.copy(alloc)?,
-            windows: no_windows(alloc),
+            windows: no_windows(alloc, keys),
             has_failed: false,
         })
     }
@@ -66,13 +76,14 @@ impl WindowState {
     pub fn add(&mut self, batch: &Batch) -> Result<(), StateFault>
         requires window { CanAggregate batch.now.width self.old.window }
         requires times { All (λ r. IsTime (at self.old.window.time r)) batch.now.rows }
-        requires room { HasRoomFor (length batch.now.rows) self.old.windows }
+        requires room { HasRoomFor self.old.window batch.now.rows self.old.windows }
         ensures added { OnOk result ((q : PlaceValue) → map.get self.new.windows q
             ≡ merge self.old.window.aggregates (map.get self.old.windows q) (aggregate_at self.old.window batch.now.rows q)) }
         ensures window_stays { self.new.window ≡ self.old.window }
         ensures ok { OnOk result (self.new.has_failed ≡ false) }
         ensures err { OnErr result (self.new.has_failed ≡ true) }
         ensures failed { IsErrOf result StateFault.Failed ↔ (self.old.has_failed ≡ true) }
+        ensures kept { self.old.has_failed ≡ true → self.new ≡ self.old }
     {
         if self.has_failed {
             return Err(StateFault::Failed);
@@ -116,13 +127,15 @@ impl WindowState {
         Ok(parts_of(alloc, &self.windows)?)
     }
 
-    /// The state that holds the parts. Where a place stands twice, the first counts.
+    /// The state that holds the parts, with its places hashed by the keys. Where a place stands twice, the
+    /// first part counts.
     ///
     /// # Errors
     ///
     /// Only `Memory`.
     pub fn from_parts(
         alloc: Global,
+        keys: HashKeys,
         window: &WindowSpec,
         parts: &[Part],
     ) -> Result<WindowState, StateFault>
@@ -135,7 +148,7 @@ impl WindowState {
         }) }
         ensures fault { IfErr result (λ fault. fault ≡ StateFault.Memory) }
     {
-        let mut windows = no_windows(alloc);
+        let mut windows = no_windows(alloc, keys);
         let mut left = parts.len();
         while left > 0 {
             left -= 1;

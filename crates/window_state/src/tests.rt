@@ -44,12 +44,17 @@ fn batch(alloc: Global, records: &[(i32, i64)]) -> Result<Batch, Fail>
 }
 
 // The state of such windows that the records have reached.
-fn state(alloc: Global, window: &WindowSpec, records: &[(i32, i64)]) -> Result<WindowState, Fail>
+fn state(
+    alloc: Global,
+    keys: HashKeys,
+    window: &WindowSpec,
+    records: &[(i32, i64)],
+) -> Result<WindowState, Fail>
     requires time { window.now.time ≡ 0 }
     requires aggregates { CanAggregate 2 window.now }
     ensures window { IfOk result (λ s. s.window ≡ window.now) }
 {
-    let mut state = WindowState::new(alloc, window)?;
+    let mut state = WindowState::new(alloc, keys, window)?;
     state.add(&batch(alloc, records)?)?;
     Ok(state)
 }
@@ -74,7 +79,7 @@ fn fired(
 fn windows_fire_once_at_their_end(rt: HostRuntime) -> Result<(), Fail> {
     let alloc = rt.alloc();
     let window = window(alloc, 10, 10)?;
-    let mut state = state(alloc, &window, &[(12, 7), (0, 7), (9, 7), (9, -4)])?;
+    let mut state = state(alloc, HashKeys::random(&rt)?, &window, &[(12, 7), (0, 7), (9, 7), (9, -4)])?;
     assert!(rt; fired(alloc, &mut state, 8)?.is_empty());
     assert_eq!(rt;
         fired(alloc, &mut state, 9)?.as_slice(),
@@ -93,7 +98,7 @@ fn windows_fire_once_at_their_end(rt: HostRuntime) -> Result<(), Fail> {
 fn windows_of_negative_times(rt: HostRuntime) -> Result<(), Fail> {
     let alloc = rt.alloc();
     let window = window(alloc, 10, 10)?;
-    let mut state = state(alloc, &window, &[(-1, 1), (-10, 1), (-11, 1)])?;
+    let mut state = state(alloc, HashKeys::random(&rt)?, &window, &[(-1, 1), (-10, 1), (-11, 1)])?;
     assert_eq!(rt;
         fired(alloc, &mut state, -11)?.as_slice(),
         [(-20, -10, 1, 1, 1)].as_slice()
@@ -109,7 +114,7 @@ fn windows_of_negative_times(rt: HostRuntime) -> Result<(), Fail> {
 fn a_time_lies_in_each_sliding_window(rt: HostRuntime) -> Result<(), Fail> {
     let alloc = rt.alloc();
     let window = window(alloc, 10, 4)?;
-    let mut state = state(alloc, &window, &[(-1, 3)])?;
+    let mut state = state(alloc, HashKeys::random(&rt)?, &window, &[(-1, 3)])?;
     assert_eq!(rt;
         fired(alloc, &mut state, 1)?.as_slice(),
         [(-8, 2, 3, 1, 3)].as_slice()
@@ -149,9 +154,9 @@ fn contents(alloc: Global, parts: &[Part]) -> Result<Vec<(i64, i64, Vec<i128>)>,
 fn parts_make_the_state_again(rt: HostRuntime) -> Result<(), Fail> {
     let alloc = rt.alloc();
     let window = window(alloc, 10, 10)?;
-    let state = state(alloc, &window, &[(12, 7), (0, 7), (9, 7), (9, -4)])?;
+    let state = state(alloc, HashKeys::random(&rt)?, &window, &[(12, 7), (0, 7), (9, 7), (9, -4)])?;
     let parts = state.parts(alloc)?;
-    let mut again = WindowState::from_parts(alloc, &window, &parts)?;
+    let mut again = WindowState::from_parts(alloc, HashKeys::random(&rt)?, &window, &parts)?;
     let held = contents(alloc, &parts)?;
     assert_eq!(rt; held.len(), 3);
     assert_eq!(rt;

@@ -1,4 +1,4 @@
-use Rattle.std.proofs.Common.{◌≡◌, ap, subst, ◌∙◌}
+use Rattle.std.proofs.Common.{◌≡◌, rules, ap, subst, ◌∙◌}
 use Rattle.std.specs.Result.{IfOk}
 use Rattle.std.specs.List.{filter}
 use Rattle.logical_plan.specs.Windows.{passes}
@@ -11,5 +11,5 @@ pub returns-clause-kept : goal.returns-clause-kept
 returns-clause-kept c =
     let rows = c.args.batch.now.rows in
     let same : kept_rows c.deref.result.now rows ≡ filter (passes c.args.filters.now) rows =
-    ap (λ mask. kept_rows mask rows) (c.deref.ensures.value ∙ c.in-Ok.ensures) ∙ kept-map_test (passes c.args.filters.now) rows in
-    subst (λ l. IfOk c.keep.result (λ (kept : Table). kept ≡ with_rows c.args.batch.now l)) same c.keep.ensures.kept
+    ap (λ mask. kept_rows mask rows) (c.deref.ensures.value ∙ c.in_ok-mask.ensures) ∙ kept-map_test (passes c.args.filters.now) rows in
+    subst (λ l. IfOk c.of_batch.result (λ (kept : Table). kept ≡ with_rows c.args.batch.now l)) same (search rules)

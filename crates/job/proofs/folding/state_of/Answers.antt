@@ -8,9 +8,9 @@ use Rattle.job.proofs.folding.state_of.Goals as goal
 
 pub add_source-requires-clause-state : goal.add_source-requires-clause-state
 add_source-requires-clause-state c =
-    let made = c.in_ok-state.ensures.made in
+    let made = rw c.in_ok-state.ensures at c.new.ensures.made in
     let can = can_take_all c.args.plan.now (length (all_records c.args.input.now.sources)) c.in_ok-state.state
-    (ap (λ (s : StateData). s.window) made ∙ c.window.ensures.says) (ap (λ (s : StateData). s.windows) made) c.sources-source-items.ensures.sound.few in
+    (ap (λ (s : StateData). s.window) made ∙ c.window.ensures.says) (ap (λ (s : StateData). s.windows) made) (ap (λ (s : StateData). s.has_failed) made) c.sources-source-items.ensures.sound.few in
     can_take_part records_in_source c.args.input.now.sources c.sources-source-items.result.now c.loop-source.source-index c.source-item.result c.args.plan.now c.in_ok-state.state c.loop-source.state
     c.sources-source-items.ensures.says c.loop-source-test.true c.source-item.is can c.loop-source.invariant
 
@@ -21,7 +21,7 @@ loop-source-preserved c =
 
 pub returns : goal.returns
 returns c =
-    let made = c.in_ok-state.ensures.made in
+    let made = rw c.in_ok-state.ensures at c.new.ensures.made in
     let count = ap (λ l. length l) c.sources-source-items.ensures.says in
     let all : take c.loop-source.source-index c.args.input.now.sources ≡ c.args.input.now.sources = take_all c.loop-source.source-index c.args.input.now.sources (omega (arith, count)) in
     record {

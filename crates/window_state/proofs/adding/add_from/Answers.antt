@@ -29,7 +29,10 @@ add_at-requires-clause-room c =
     let ft : FitsSigned w64 c.value-time.result = search rules in
     let small : c.loop-back.back ≤ 2 ^ 40 = omega (arith, s.size_small) in
     let start = start_is (at w.time r) c.value-time.result c.loop-back.back ft c.value-time.ensures c.requires.time small in
-    room_fresh w r c.args.windows.now.accs.entries c.loop-back.windows.accs.entries _ c.loop-back.back (sym start) c.requires.room (c.loop-back.invariant.added _)
+    let fk : FitsSigned w64 c.value-key.result = search rules in
+    let key = key_is (at w.key r) c.value-key.result fk c.value-key.ensures in
+    room_fresh w r c.args.windows.now.accs.entries c.loop-back.windows.accs.entries _ c.loop-back.back (held w.slide) (held w.size) c.args.first
+    s.some s.slide s.size s.rem c.loop-back.invariant.rem c.loop-back-test.true (sym start) (sym key) c.requires.room (c.loop-back.invariant.added _)
 
 pub loop-back-preserved : goal.loop-back-preserved
 loop-back-preserved c =

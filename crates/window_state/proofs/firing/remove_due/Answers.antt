@@ -1,29 +1,33 @@
-use Rattle.std.proofs.Common.{not, ap, ◌∙◌, rules, FitsSigned, to_z, of_z}
+use Rattle.std.proofs.Common.{◌≡◌, ◌∙◌, None, subst, FitsSigned, ℤ, to_z, of_z, if◌then◌else◌}
+use Rattle.window_state.specs.Windows.{acc_at}
+use Rattle.window_state.proofs.Entries.{windows_taken}
+use Rattle.window_state.proofs.Ordered.{order_taken}
+use Rattle.window_state.proofs.Due.{stays_later, left_over}
 use Rattle.std.specs.Int.{w64}
-use Rattle.std.specs.List.{filter}
 use Rattle.std.proofs.lemmas.Int.{to_z-of_z}
-use Rattle.std.proofs.lemmas.Map.Made.{filter_same_pairs}
-use Rattle.std.proofs.lemmas.Fn.{filter_same}
-use Rattle.logical_plan.specs.declared.spec.Place.{Place}
 use Rattle.logical_plan.specs.Rows.{is_due}
-use Rattle.window_state.proofs.Entries.{windows_kept}
-use Rattle.window_state.proofs.Ordered.{order_kept}
 use Rattle.window_state.proofs.firing.remove_due.Goals as goal
 
+pub loop-place-preserved : goal.loop-place-preserved
+loop-place-preserved c =
+    let w = c.args.w.now in
+    let p = c.in-Some.place in
+    let m = c.loop-place.windows.accs.entries in
+    let n = c.swap_remove.new.self.entries in
+    let taken = c.swap_remove.ensures.updates.0 in
+    let held : ℤ = to_z w64 (of_z w64 c.args.watermark) in
+    record {
+      windows = windows_taken w p m n c.loop-place.invariant.windows c.swap_remove.ensures.unique taken;
+      order = order_taken p m n c.loop-place.windows.places.keys c.pop_due.new.places.keys c.loop-place.invariant.order c.pop_due.ensures.ordered c.in-Some.ensures.others taken;
+      later = λ q undue. taken q ∙ stays_later w held p q m c.in-Some.ensures.due undue ∙ c.loop-place.invariant.later q undue;
+    }
+
 pub returns-clause-left : goal.returns-clause-left
-returns-clause-left c =
-    let ft : FitsSigned w64 c.args.watermark = c.ranges.watermark in
-    filter_same_pairs _ (λ e. not (is_due c.args.w.now (to_z w64 (of_z w64 c.args.watermark)) e.0.start)) _ (λ k v b w f' t. search rules) _ _ c.retain.ensures.filtered
-    ∙ ap (λ x. filter (λ e. not (is_due c.args.w.now x e.0.start)) c.args.windows.now.accs.entries) (to_z-of_z w64 c.args.watermark ft)
-
-pub returns-clause-windows : goal.returns-clause-windows
-returns-clause-windows c =
-    windows_kept c.args.w.now (λ q. not (is_due c.args.w.now (to_z w64 (of_z w64 c.args.watermark)) q.start)) c.args.windows.now.accs.entries c.retain.new.self.entries c.requires.windows c.retain.ensures.unique
-    (filter_same_pairs _ (λ e. not (is_due c.args.w.now (to_z w64 (of_z w64 c.args.watermark)) e.0.start)) _ (λ k v b w f' t. search rules) _ _ c.retain.ensures.filtered)
-
-pub returns-clause-order : goal.returns-clause-order
-returns-clause-order c =
-    let test = λ (q : Place). not (is_due c.args.w.now (to_z w64 (of_z w64 c.args.watermark)) q.start) in
-    order_kept test c.args.windows.now.accs.entries c.retain.new.self.entries c.args.windows.now.places.keys c.retain-2.new.self.keys c.requires.order c.retain-2.ensures.ordered
-    (filter_same_pairs _ (λ e. test e.0) _ (λ k v b w f' t. search rules) _ _ c.retain.ensures.filtered)
-    (filter_same _ test _ (λ x b f' t. search rules) _ _ c.retain-2.ensures.filtered)
+returns-clause-left c = λ q.
+    let m = c.args.windows.now.accs.entries in
+    let n = c.loop-place.windows.accs.entries in
+    let fits : FitsSigned w64 c.args.watermark = c.ranges.watermark in
+    let held : ℤ = to_z w64 (of_z w64 c.args.watermark) in
+    let same : held ≡ c.args.watermark = to_z-of_z w64 c.args.watermark fits in
+    subst (λ (t : ℤ). acc_at n q ≡ (if is_due c.args.w.now t q.start then None else acc_at m q)) same
+    (left_over c.args.w.now held q c.loop-place.windows.places.keys m n c.loop-place.invariant.order c.in_default.ensures.all (c.loop-place.invariant.later q))

@@ -9,10 +9,11 @@ use Rattle.window_state.proofs.Entries.{get-totals}
 use Rattle.window_state.proofs.state.WindowState.add.Goals as goal
 
 pub add_batch-requires-clause-room : goal.add_batch-requires-clause-room
-add_batch-requires-clause-room c = λ q a there.
+add_batch-requires-clause-room c = λ q a b there reached.
     let s = c.self.inside in
-    c.requires.room q a.total
+    c.requires.room q a.total b
     (sym (ap (λ (v : StateData). get v.windows q) c.self.view_is) ∙ get-totals s.windows.accs.entries q ∙ ap (option_map (λ (b : AccData). b.total)) there)
+    (sym (ap (λ (v : StateData). aggregate_at v.window c.args.batch.now.rows q) c.self.view_is) ∙ reached)
 
 pub returns-in-Ok-clause-added : goal.returns-in-Ok-clause-added
 returns-in-Ok-clause-added c = λ q.

@@ -1,0 +1,85 @@
+-- Of places that ascend, those that fire come first.
+use Rattle.std.proofs.Common.{◌≡◌, ℤ, pos, ◌+ℤ◌, ◌-ℤ◌, Bool, true, false, cond, ◌||◌, List, [], ◌∷◌, refl, sym, ap, subst, ◌∙◌, arith, Option, Some, None, if◌then◌else◌}
+use Rattle.std.specs.Prelude.{int_le}
+use Rattle.std.specs.List.{AllByRecursion, All}
+use Rattle.std.specs.Option.{is_some}
+use Rattle.std.specs.List.Sorted.{IsStrictlySortedBy}
+use Rattle.std.specs.Ordering.{is_eq, int_cmp, ordering_then}
+use Rattle.std.specs.declared.cmp.Ordering.TheVariants.{Less}
+use Rattle.std.proofs.lemmas.Int.{ints}
+use Rattle.std.proofs.lemmas.List.Elements.{All-nil, All-cons, All-head, All-tail}
+use Rattle.logical_plan.specs.declared.spec.WindowSpec.{WindowSpec}
+use Rattle.logical_plan.specs.declared.spec.Place.{Place}
+use Rattle.logical_plan.specs.Rows.{place_cmp, is_due, row_at}
+use Rattle.aggregates.specs.Kinds.{AccData}
+use Rattle.window_state.specs.Windows.{acc_at, is_place, AreOrdered}
+use Rattle.window_state.specs.Firing.{rows_due, NoneDue}
+use Rattle.window_state.specs.Parts.{with_entry, entries_at}
+use Rattle.window_state.proofs.Updates.{place_from_test}
+use Rattle.window_state.proofs.Entries.{tied}
+use Rattle.window_state.proofs.Ordered.{has_place}
+use Rattle.window_state.proofs.Rows.{rows_cons}
+
+not_before : (a b k l size t : ℤ) → int_le (a +ℤ size -ℤ pos 1) t ≡ false → ordering_then (int_cmp a b) (int_cmp k l) ≡ Less → int_le (b +ℤ size -ℤ pos 1) t ≡ false
+not_before a b k l size t h less = grind (arith, ints)
+
+none_after : (w : WindowSpec) (t : ℤ) (p : Place) (ps : List Place) → is_due w t p.start ≡ false → AllByRecursion (λ q. place_cmp p q ≡ Less) ps → NoneDue w t ps
+none_after w t p [] h less = All-nil (λ (q : Place). is_due w t q.start ≡ false)
+none_after w t p (q ∷ ps) h less = All-cons (λ (q : Place). is_due w t q.start ≡ false) q ps (not_before p.start q.start p.key q.key w.size t h less.0) (none_after w t p ps h less.1)
+
+-- where the first does not fire, none does
+pub none_due : (w : WindowSpec) (t : ℤ) (p : Place) (ps : List Place) → IsStrictlySortedBy place_cmp (p ∷ ps) → is_due w t p.start ≡ false → NoneDue w t (p ∷ ps)
+unfolding IsStrictlySortedBy
+none_due w t p ps sorted h = All-cons (λ (q : Place). is_due w t q.start ≡ false) p ps h (none_after w t p ps h sorted.0)
+
+-- then there are no rows
+pub no_rows : (w : WindowSpec) (t : ℤ) (es : List (Place × AccData)) (ps : List Place) → NoneDue w t ps → rows_due w t (entries_at es ps) ≡ []
+no_rows w t es [] h = refl
+no_rows w t es (p ∷ ps) h =
+    elim (acc_at es p) as (λ o. rows_due w t (with_entry p o (entries_at es ps)) ≡ []) [
+      | None ↦ no_rows w t es ps (All-tail (λ (q : Place). is_due w t q.start ≡ false) p ps h)
+      | Some a ↦
+          rows_cons w t (p, a) (entries_at es ps)
+          ∙ ap (λ b. cond b (row_at w p a.total ∷ rows_due w t (entries_at es ps)) (rows_due w t (entries_at es ps))) (All-head (λ (q : Place). is_due w t q.start ≡ false) p ps h)
+          ∙ no_rows w t es ps (All-tail (λ (q : Place). is_due w t q.start ≡ false) p ps h)
+    ]
+
+-- and no window that fires
+absent : (w : WindowSpec) (t : ℤ) (q : Place) (ps : List Place) → NoneDue w t ps → is_due w t q.start ≡ true → has_place ps q ≡ false
+absent w t q [] h due = refl
+absent w t q (p ∷ ps) h due = by_case (is_eq (place_cmp q p)) refl (absent w t q ps (All-tail (λ (x : Place). is_due w t x.start ≡ false) p ps h) due)
+  where
+    by_case : (b : Bool) → is_eq (place_cmp q p) ≡ b → has_place ps q ≡ false → (is_eq (place_cmp q p) || has_place ps q) ≡ false
+    by_case true e others = absurd (
+      let here : is_due w t p.start ≡ false = All-head (λ (q : Place). is_due w t q.start ≡ false) p ps h in
+      let no : true ≡ false = sym due ∙ ap (λ (x : Place). is_due w t x.start) (place_from_test q p (sym (tied q p) ∙ e)) ∙ here in
+      cc
+    )
+    by_case false e others = ap (λ b. b || has_place ps q) e ∙ others
+
+none_there : (o : Option AccData) → is_some o ≡ false → o ≡ None
+none_there None h = refl
+none_there (Some a) h = absurd cc
+
+-- so what is left is what does not fire
+pub left_over : (w : WindowSpec) (t : ℤ) (q : Place) (ps : List Place) (m n : List (Place × AccData)) → AreOrdered ps n → NoneDue w t ps
+    → (is_due w t q.start ≡ false → acc_at n q ≡ acc_at m q) → acc_at n q ≡ (if is_due w t q.start then None else acc_at m q)
+left_over w t q ps m n order none later = by_case (is_due w t q.start) refl
+  where
+    by_case : (b : Bool) → is_due w t q.start ≡ b → acc_at n q ≡ cond b None (acc_at m q)
+    by_case true due = none_there (acc_at n q) (sym (order.those q) ∙ absent w t q ps none due)
+    by_case false due = later due
+
+-- a window that does not fire stays where one that fires is taken out
+pub stays_later : (w : WindowSpec) (t : ℤ) (p q : Place) (m : List (Place × AccData)) → is_due w t p.start ≡ true → is_due w t q.start ≡ false → cond (is_place p q) None (acc_at m q) ≡ acc_at m q
+stays_later w t p q m due later = by_case (is_place p q) refl
+  where
+    by_case : (b : Bool) → is_place p q ≡ b → cond b None (acc_at m q) ≡ acc_at m q
+    by_case true e = absurd (let no : true ≡ false = sym due ∙ ap (λ (x : Place). is_due w t x.start) (place_from_test p q e) ∙ later in cc)
+    by_case false e = refl
+
+-- the rest of places that ascend
+pub rest_ordered : (ps rest : List Place) (p : Place) → IsStrictlySortedBy place_cmp ps → ps ≡ p ∷ rest → IsStrictlySortedBy place_cmp rest
+unfolding IsStrictlySortedBy
+rest_ordered [] rest p sorted is = absurd cc
+rest_ordered (x ∷ ps) rest p sorted is = let same : ps ≡ rest = cc in subst (IsStrictlySortedBy place_cmp) same sorted.1
