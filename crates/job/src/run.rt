@@ -18,12 +18,7 @@ use stream_input::Input;
 use window_state::HashKeys;
 
 /// The text of the plan's rows on an input.
-fn rows_text(
-    alloc: Global,
-    keys: HashKeys,
-    plan: &Plan,
-    input: &Input,
-) -> Result<String, JobFault>
+fn rows_text(alloc: Global, keys: HashKeys, plan: &Plan, input: &Input) -> Result<String, JobFault>
     requires { BelongsTo plan.now input.now }
     ensures { MatchResult result (λ text. IsTextOf (plan_rows plan.now input.now.sources) (string_bytes text)) (λ fault. fault ≡ JobFault.Memory) }
 {

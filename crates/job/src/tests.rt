@@ -17,7 +17,13 @@ const ROWS: &str = "0 10 0 1 4 4 4\n0 10 1 1 5 5 5\n10 20 0 1 -3 -3 -3\n10 20 1 
 #[test]
 fn rows_by_start_and_key(rt: HostRuntime) -> Result<(), Fail> {
     let mut out = Vec::new(rt.alloc());
-    job_run(rt.alloc(), HashKeys::random(&rt)?, PLAN.as_bytes(), INPUT.as_bytes(), &mut out)?;
+    job_run(
+        rt.alloc(),
+        HashKeys::random(&rt)?,
+        PLAN.as_bytes(),
+        INPUT.as_bytes(),
+        &mut out,
+    )?;
     assert_eq!(rt; out.as_slice(), ROWS.as_bytes());
     Ok(())
 }
@@ -70,7 +76,13 @@ fn rows_of_other_plans(rt: HostRuntime) -> Result<(), Fail> {
         let plan = PLAN.replacen(rt.alloc(), old, new, 1)?;
         let input = format!(in rt.alloc(); "{{\"s\":[[{{\"rows\":[{rows}]}}],[]]}}")?;
         let mut out = Vec::new(rt.alloc());
-        job_run(rt.alloc(), HashKeys::random(&rt)?, plan.as_bytes(), input.as_bytes(), &mut out)?;
+        job_run(
+            rt.alloc(),
+            HashKeys::random(&rt)?,
+            plan.as_bytes(),
+            input.as_bytes(),
+            &mut out,
+        )?;
         assert_eq!(rt; out.as_slice(), want.as_bytes(), "at {rows}");
     }
     Ok(())
@@ -89,9 +101,15 @@ fn refusals_write_nothing(rt: HostRuntime) -> Result<(), Fail> {
         (PLAN, late, "I9 LateRecord 0 0 1"),
     ] {
         let mut out = Vec::new(rt.alloc());
-        let fault = job_run(rt.alloc(), HashKeys::random(&rt)?, plan.as_bytes(), input.as_bytes(), &mut out)
-            .err()
-            .ok_or("accepted")?;
+        let fault = job_run(
+            rt.alloc(),
+            HashKeys::random(&rt)?,
+            plan.as_bytes(),
+            input.as_bytes(),
+            &mut out,
+        )
+        .err()
+        .ok_or("accepted")?;
         assert_eq!(rt; fault_line(rt.alloc(), &fault)?.as_str(), line);
         assert_eq!(rt; status_of(&fault), 3);
         assert_eq!(rt; out.len(), 0);
@@ -122,6 +140,12 @@ fn lines_and_statuses(rt: HostRuntime) -> Result<(), Fail> {
 fn a_writer_that_is_full(rt: HostRuntime) {
     let mut bytes = [0; 20];
     let mut out = bytes.as_mut_slice();
-    let said = job_run(rt.alloc(), HashKeys::random(&rt)?, PLAN.as_bytes(), INPUT.as_bytes(), &mut out);
+    let said = job_run(
+        rt.alloc(),
+        HashKeys::random(&rt).expect(&rt, "no random bytes"),
+        PLAN.as_bytes(),
+        INPUT.as_bytes(),
+        &mut out,
+    );
     assert_eq!(rt; said.err(), Some(JobFault::Write));
 }

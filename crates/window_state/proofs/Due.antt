@@ -51,10 +51,10 @@ absent w t q (p ∷ ps) h due = by_case (is_eq (place_cmp q p)) refl (absent w t
   where
     by_case : (b : Bool) → is_eq (place_cmp q p) ≡ b → has_place ps q ≡ false → (is_eq (place_cmp q p) || has_place ps q) ≡ false
     by_case true e others = absurd (
-      let here : is_due w t p.start ≡ false = All-head (λ (q : Place). is_due w t q.start ≡ false) p ps h in
-      let no : true ≡ false = sym due ∙ ap (λ (x : Place). is_due w t x.start) (place_from_test q p (sym (tied q p) ∙ e)) ∙ here in
-      cc
-    )
+        let here : is_due w t p.start ≡ false = All-head (λ (q : Place). is_due w t q.start ≡ false) p ps h in
+        let no : true ≡ false = sym due ∙ ap (λ (x : Place). is_due w t x.start) (place_from_test q p (sym (tied q p) ∙ e)) ∙ here in
+        cc
+        )
     by_case false e others = ap (λ b. b || has_place ps q) e ∙ others
 
 none_there : (o : Option AccData) → is_some o ≡ false → o ≡ None

@@ -87,3 +87,6 @@ impl Hasher for PlaceHasher {
         };
     }
 }
+
+#[cfg(test)]
+mod tests;

@@ -64,7 +64,9 @@ fn fired(
     alloc: Global,
     state: &mut WindowState,
     watermark: i64,
-) -> Result<Vec<(i64, i64, i64, i128, i128)>, Fail> {
+) -> Result<Vec<(i64, i64, i64, i128, i128)>, Fail>
+    ensures { state.new.window ≡ state.old.window }
+{
     let mut fired = Vec::new(alloc);
     for row in state.fire(watermark)?.iter() {
         let values = row.values.as_slice();
@@ -79,7 +81,12 @@ fn fired(
 fn windows_fire_once_at_their_end(rt: HostRuntime) -> Result<(), Fail> {
     let alloc = rt.alloc();
     let window = window(alloc, 10, 10)?;
-    let mut state = state(alloc, HashKeys::random(&rt)?, &window, &[(12, 7), (0, 7), (9, 7), (9, -4)])?;
+    let mut state = state(
+        alloc,
+        HashKeys::random(&rt)?,
+        &window,
+        &[(12, 7), (0, 7), (9, 7), (9, -4)],
+    )?;
     assert!(rt; fired(alloc, &mut state, 8)?.is_empty());
     assert_eq!(rt;
         fired(alloc, &mut state, 9)?.as_slice(),
@@ -98,7 +105,12 @@ fn windows_fire_once_at_their_end(rt: HostRuntime) -> Result<(), Fail> {
 fn windows_of_negative_times(rt: HostRuntime) -> Result<(), Fail> {
     let alloc = rt.alloc();
     let window = window(alloc, 10, 10)?;
-    let mut state = state(alloc, HashKeys::random(&rt)?, &window, &[(-1, 1), (-10, 1), (-11, 1)])?;
+    let mut state = state(
+        alloc,
+        HashKeys::random(&rt)?,
+        &window,
+        &[(-1, 1), (-10, 1), (-11, 1)],
+    )?;
     assert_eq!(rt;
         fired(alloc, &mut state, -11)?.as_slice(),
         [(-20, -10, 1, 1, 1)].as_slice()
@@ -140,33 +152,154 @@ fn faults_have_their_codes(rt: HostRuntime) -> Result<(), Fail> {
     Ok(())
 }
 
-// The start, key, and numbers of each part.
-fn contents(alloc: Global, parts: &[Part]) -> Result<Vec<(i64, i64, Vec<i128>)>, Fail> {
+// The start, key and count of each part.
+fn contents(alloc: Global, parts: &[Part]) -> Result<Vec<(i64, i64, u64)>, Fail> {
     let mut contents = Vec::new(alloc);
     for part in parts {
-        let numbers = Vec::from_slice(alloc, part.acc.numbers())?;
-        contents.push((part.place.start, part.place.key, numbers))?;
+        contents.push((part.place.start, part.place.key, part.acc.count()))?;
     }
     Ok(contents)
+}
+
+// What is held at each place.
+fn held(alloc: Global, state: &WindowState) -> Result<Vec<(i64, i64, u64)>, Fail> {
+    contents(alloc, &state.parts(alloc)?)
+}
+
+// The state that the parts of a state make which the records have reached.
+fn made_again(
+    alloc: Global,
+    keys: HashKeys,
+    window: &WindowSpec,
+    records: &[(i32, i64)],
+) -> Result<WindowState, Fail>
+    requires time { window.now.time ≡ 0 }
+    requires aggregates { CanAggregate 2 window.now }
+{
+    let parts = state(alloc, keys, window, records)?.parts(alloc)?;
+    Ok(WindowState::from_parts(alloc, keys, window, &parts)?)
+}
+
+#[test]
+fn a_state_has_its_parts(rt: HostRuntime) -> Result<(), Fail> {
+    let alloc = rt.alloc();
+    let window = window(alloc, 10, 10)?;
+    let records = [(12, 7), (0, 7), (9, 7), (9, -4)];
+    let state = state(alloc, HashKeys::random(&rt)?, &window, &records)?;
+    assert_eq!(rt;
+        held(alloc, &state)?.as_slice(),
+        [(0, -4, 1), (0, 7, 2), (10, 7, 1)].as_slice()
+    );
+    Ok(())
 }
 
 #[test]
 fn parts_make_the_state_again(rt: HostRuntime) -> Result<(), Fail> {
     let alloc = rt.alloc();
     let window = window(alloc, 10, 10)?;
-    let state = state(alloc, HashKeys::random(&rt)?, &window, &[(12, 7), (0, 7), (9, 7), (9, -4)])?;
-    let parts = state.parts(alloc)?;
-    let mut again = WindowState::from_parts(alloc, HashKeys::random(&rt)?, &window, &parts)?;
-    let held = contents(alloc, &parts)?;
-    assert_eq!(rt; held.len(), 3);
+    let records = [(12, 7), (0, 7), (9, 7), (9, -4)];
+    let mut again = made_again(alloc, HashKeys::random(&rt)?, &window, &records)?;
     assert_eq!(rt;
-        (held[0].0, held[0].1, held[0].2.as_slice()),
-        (0, -4, [1, -4].as_slice())
+        held(alloc, &again)?.as_slice(),
+        [(0, -4, 1), (0, 7, 2), (10, 7, 1)].as_slice()
     );
-    assert_eq!(rt; held, contents(alloc, &again.parts(alloc)?)?);
-    assert_eq!(rt;
-        fired(alloc, &mut again, i64::MAX)?.as_slice(),
-        [(0, 10, -4, 1, -4), (0, 10, 7, 2, 14), (10, 20, 7, 1, 7)].as_slice()
-    );
+    assert_eq!(rt; fired(alloc, &mut again, 9)?.len(), 2);
+    Ok(())
+}
+
+// One record in each of a hundred windows of 10, in no order: key -k at the window that begins at 10 * k.
+fn hundred(alloc: Global, window: &WindowSpec, keys: HashKeys) -> Result<WindowState, Fail>
+    requires time { window.now.time ≡ 0 }
+    requires aggregates { CanAggregate 2 window.now }
+    ensures window { IfOk result (λ s. s.window ≡ window.now) }
+{
+    let mut records = Vec::new(alloc);
+    for i in 0..100u8 {
+        let place = (i as i32 * 37) % 100;
+        records.push((place * 10 + 3, -(place as i64)))?;
+    }
+    state(alloc, keys, window, &records)
+}
+
+#[test]
+fn rising_watermarks_fire_each_window_once(rt: HostRuntime) -> Result<(), Fail> {
+    let alloc = rt.alloc();
+    let window = window(alloc, 10, 10)?;
+    let mut state = hundred(alloc, &window, HashKeys::random(&rt)?)?;
+    let mut next = 0u8;
+    for (watermark, until) in [
+        (-1, 0),
+        (8, 0),
+        (9, 1),
+        (9, 1),
+        (28, 2),
+        (29, 3),
+        (12, 3),
+        (600, 60),
+        (998, 99),
+        (999, 100),
+        (i64::MAX, 100),
+    ] {
+        for row in fired(alloc, &mut state, watermark)? {
+            let start = next as i64 * 10;
+            assert_eq!(rt;
+                row,
+                (start, start + 10, -(next as i64), 1, -(next as i128))
+            );
+            next = next.saturating_add(1);
+        }
+        assert_eq!(rt; next, until, "at {watermark}");
+        let left = state.parts(alloc)?.len();
+        assert_eq!(rt;
+            left,
+            100usize.saturating_sub(until as usize),
+            "at {watermark}"
+        );
+    }
+    Ok(())
+}
+
+// What an `add` to a new state answers, and the state.
+fn added(
+    alloc: Global,
+    keys: HashKeys,
+    window: &WindowSpec,
+    records: &[(i32, i64)],
+) -> Result<(Result<(), StateFault>, WindowState), Fail>
+    requires time { window.now.time ≡ 0 }
+    requires aggregates { CanAggregate 2 window.now }
+{
+    let mut state = WindowState::new(alloc, keys, window)?;
+    let answer = state.add(&batch(alloc, records)?);
+    Ok((answer, state))
+}
+
+// Where no allocation is made to fail there is memory.
+#[test]
+fn a_state_that_found_no_memory_has_failed(rt: HostRuntime) -> Result<(), Fail> {
+    let alloc = rt.alloc();
+    let window = window(alloc, 10, 10)?;
+    let keys = HashKeys::random(&rt)?;
+    let (answer, mut state) = added(alloc, keys, &window, &[(3, 7), (14, 7), (25, 8)])?;
+    if answer.is_err() {
+        assert_eq!(rt; answer, Err(StateFault::Memory));
+        assert_eq!(rt; state.fire(i64::MAX).err(), Some(StateFault::Failed));
+        assert_eq!(rt; state.parts(alloc).err(), Some(StateFault::Failed));
+    }
+    Ok(())
+}
+
+// The same.
+#[test]
+fn a_fire_that_found_no_memory_takes_nothing_out(rt: HostRuntime) -> Result<(), Fail> {
+    let alloc = rt.alloc();
+    let window = window(alloc, 10, 10)?;
+    let mut state = hundred(alloc, &window, HashKeys::random(&rt)?)?;
+    let before = held(alloc, &state)?;
+    if let Err(fault) = state.fire(499) {
+        assert_eq!(rt; fault, StateFault::Memory);
+        assert_eq!(rt; held(alloc, &state)?, before);
+        assert_eq!(rt; fired(alloc, &mut state, 499)?.len(), 50);
+    }
     Ok(())
 }

@@ -1,0 +1,122 @@
+ghost use Rattle.std.specs.Prelude.{◌++◌};
+ghost use Rattle.std.specs.Hash as fed;
+ghost use Rattle.std.specs.Ordering.{int_eq, on, eq_of_both};
+ghost use Rattle.std.specs.Cmp.Rules.{comparing, hashing};
+ghost use Rattle.std.proofs.Common.{rules};
+
+use super::*;
+use indexmap::IndexMap;
+use logical_plan::Place;
+use std::alloc::AllocError;
+use std::cell::Cell;
+use std::hash::{BuildHasherDefault, FoldHasher, Hash};
+use std::test::Fail;
+
+// A place that counts how often it is compared.
+#[derive(Clone, Copy)]
+struct Counted<'a> {
+    place: Place,
+    comparisons: &'a Cell<u64>,
+}
+
+impl PartialEq for Counted<'_> {
+    ghost eq = { eq_of_both (on (λ x. x.place.start) int_eq) (on (λ x. x.place.key) int_eq) };
+
+    ghost laws = { Prim.search (comparing, rules) };
+
+    fn eq(&self, other: &Self) -> bool {
+        self.comparisons.set(self.comparisons.get().wrapping_add(1));
+        self.place.start == other.place.start && self.place.key == other.place.key
+    }
+}
+
+impl Eq for Counted<'_> {
+    ghost laws = { Prim.search (comparing, rules) };
+}
+
+impl Hash for Counted<'_> {
+    ghost hash_input = { λ x. fed.i64 x.place.start ++ fed.i64 x.place.key };
+
+    ghost respects_eq = { Prim.search (hashing, rules) };
+
+    fn hash<H: Hasher>(&self, state: &mut H) {
+        state.write_i64(self.place.start);
+        state.write_i64(self.place.key);
+    }
+}
+
+// The digits of pi.
+fn keys() -> HashKeys {
+    HashKeys {
+        start: 0x243f_6a88_85a3_08d3_1319_8a2e_0370_7344,
+        key: 0xa409_3822_299f_31d0_082e_fa98_ec4e_6c89,
+        addend: 0x4528_21e6_38d0_1377_be54_66cf_34e9_0c6c,
+    }
+}
+
+// These places have one hash by the kit's own hasher, whose numbers are public.
+fn hostile(public: &BuildHasherDefault<FoldHasher>, start: i64) -> Place {
+    Place {
+        start,
+        key: (public.hash_one(start) ^ 12345).cast_signed(),
+    }
+}
+
+// How many comparisons so many of them cost where they are put into a map.
+fn comparisons<S: BuildHasher + Drop>(
+    rt: &HostRuntime,
+    hasher: S,
+    places: u16,
+) -> Result<u64, Fail> {
+    let public = BuildHasherDefault::new();
+    let comparisons = Cell::new(0);
+    let mut map = IndexMap::with_hasher(rt.alloc(), hasher);
+    for start in 0..places {
+        let place = hostile(&public, start as i64);
+        let counted = Counted {
+            place,
+            comparisons: &comparisons,
+        };
+        map.insert(counted, start)?;
+    }
+    Ok(comparisons.get())
+}
+
+#[test]
+fn hostile_places_are_seldom_compared(rt: HostRuntime) -> Result<(), Fail> {
+    let public = BuildHasherDefault::<FoldHasher>::new();
+    assert_eq!(rt; comparisons(&rt, public, 1000)?, 1000 * 999 / 2);
+    assert!(rt; comparisons(&rt, keys(), 1000)? < 200);
+    assert!(rt; comparisons(&rt, keys(), 20000)? < 4000);
+    Ok(())
+}
+
+#[test]
+fn hashes_are_those_of_the_formula(rt: HostRuntime) -> Result<(), Fail> {
+    // Computed by Python's whole numbers.
+    for (start, key, hash) in [
+        (0, 0, 0x4528_21e6_38d0_1377),
+        (60000, 501, 0xc6e6_2913_1ce9_5da8),
+        (-1, 7, 0xe43b_8a65_e513_a2e0),
+        (
+            -4611686018427387904,
+            9223372036854775807,
+            0xd441_b9ac_662d_047a,
+        ),
+    ] {
+        assert_eq!(rt; keys().hash_one(Place { start, key }), hash);
+    }
+    Ok(())
+}
+
+#[test]
+fn drawn_numbers_differ(rt: HostRuntime) -> Result<(), Fail> {
+    let keys = HashKeys::random(&rt)?;
+    let others = HashKeys::random(&rt)?;
+    assert_ne!(rt; keys.start, keys.key);
+    assert_ne!(rt; keys.key, keys.addend);
+    assert_ne!(rt; keys.start, others.start);
+    assert_ne!(rt; keys.key, others.key);
+    assert_ne!(rt; keys.addend, others.addend);
+    Ok(())
+}
