@@ -1,5 +1,5 @@
 //! Jobs at the limits of what the formats allow, which find the memory that they need.
-use crate::{job_layout, job_run};
+use crate::{HashKeys, job_layout, job_run};
 use std::test::Fail;
 
 const PLAN: &str =
@@ -17,7 +17,14 @@ fn a_million_rows_that_pass_and_some_that_do_not(rt: HostRuntime) -> Result<(), 
         let input = format!(in rt.alloc(); "{{\"s\":[[{{\"watermark\":-1}}{entries}]]}}")?;
         let plan = PLAN.replacen(rt.alloc(), "ge", op, 1)?;
         let mut out = Vec::new(rt.alloc());
-        job_run(rt.alloc(), plan.as_bytes(), input.as_bytes(), &mut out)?;
+        let keys = HashKeys::random(&rt)?;
+        job_run(
+            rt.alloc(),
+            keys,
+            plan.as_bytes(),
+            input.as_bytes(),
+            &mut out,
+        )?;
         assert_eq!(rt; out.as_slice(), want.as_bytes());
     }
     Ok(())

@@ -1,7 +1,7 @@
 //! Writers of which a clause says nothing: what they hold is known after a flush alone.
 
 use super::{INPUT, PLAN, ROWS};
-use crate::{JobFault, job_group, job_layout, job_run};
+use crate::{HashKeys, JobFault, job_group, job_layout, job_run};
 use std::io::{Error, ErrorKind, Result as IoResult, Write};
 use std::test::Fail;
 
@@ -48,7 +48,8 @@ impl Write for Buffering {
 fn a_writer_that_buffers_is_flushed(rt: HostRuntime) -> Result<(), Fail> {
     let alloc = rt.alloc();
     let mut rows = Buffering::new(&rt, false);
-    job_run(alloc, PLAN.as_bytes(), INPUT.as_bytes(), &mut rows)?;
+    let keys = HashKeys::random(&rt)?;
+    job_run(alloc, keys, PLAN.as_bytes(), INPUT.as_bytes(), &mut rows)?;
     assert_eq!(rt; rows.given_on.as_slice(), ROWS.as_bytes());
     let mut layout = Buffering::new(&rt, false);
     job_layout(alloc, PLAN.as_bytes(), SCALE.as_bytes(), &mut layout)?;
@@ -60,13 +61,15 @@ fn a_writer_that_buffers_is_flushed(rt: HostRuntime) -> Result<(), Fail> {
 }
 
 #[test]
-fn a_flush_that_fails_is_a_failed_write(rt: HostRuntime) {
+fn a_flush_that_fails_is_a_failed_write(rt: HostRuntime) -> Result<(), Fail> {
     let alloc = rt.alloc();
     let mut out = Buffering::new(&rt, true);
-    let rows = job_run(alloc, PLAN.as_bytes(), INPUT.as_bytes(), &mut out);
+    let keys = HashKeys::random(&rt)?;
+    let rows = job_run(alloc, keys, PLAN.as_bytes(), INPUT.as_bytes(), &mut out);
     assert_eq!(rt; rows.err(), Some(JobFault::Write));
     let layout = job_layout(alloc, PLAN.as_bytes(), SCALE.as_bytes(), &mut out);
     assert_eq!(rt; layout.err(), Some(JobFault::Write));
     let group = job_group(alloc, "0", "128", "2", &mut out);
     assert_eq!(rt; group.err(), Some(JobFault::Write));
+    Ok(())
 }
