@@ -19,7 +19,6 @@ use Rattle.window_state.specs.Windows.{is_place, acc_at, total_at, AreWindows}
 use Rattle.window_state.specs.State.{totals}
 use Rattle.window_state.specs.Firing.{rows_due}
 use Rattle.window_state.specs.Parts.{with_entry, entries_at}
-use Rattle.window_state.proofs.Updates.{place_from_test}
 
 -- ---- the map of entries
 

@@ -1,5 +1,5 @@
 -- A window state as contracts see it.
-use Rattle.std.specs.Prelude.{◌≡◌, ℕ, ℤ, ◌+◌, ◌^◌, ◌≤◌, map, Bool, List, Option, Some, None, option_map, if◌then◌else◌}
+use Rattle.std.specs.Prelude.{◌≡◌, ℤ, ◌+◌, ◌^◌, ◌≤◌, map, Bool, List, Option, Some, None, option_map, if◌then◌else◌}
 use Rattle.std.specs.FinMap.{FinMap, get}
 use Rattle.plain_data.specs.Record.{Record}
 use Rattle.logical_plan.specs.declared.spec.WindowSpec.{WindowSpec}
