@@ -25,7 +25,7 @@ read_fault _ = Read
 abbrev pub CannotRead : Result (Unit {0}) JobFault → Type 0
 CannotRead result = (result ≡ Err Read) ⊎ (result ≡ Err Memory)
 
--- what `job_run` answers of some plan and input, or that one of them was not read
+-- what `job_run` answers of some plan and input, or that one of them, or random numbers for hashes, were not read
 abbrev pub AnswersRun : Result (Unit {0}) JobFault → Type 0
 AnswersRun result = CannotRead result ⊎ ((plan : List ℕ) × (input : List ℕ) × Answers (run_said plan input) result None None)
 
