@@ -1,6 +1,6 @@
 //! Reading the key groups of a savepoint, each field from the front of bytes.
 
-ghost use Rattle.std.specs.Prelude.{◌≡◌, ◌<◌, ◌≤◌, ◌^◌, ◌++◌, ◌∷◌, [], Ok, Option, None, length, IfOk, MatchResult};
+ghost use Rattle.std.specs.Prelude.{◌≡◌, ◌<◌, ◌≤◌, ◌+◌, ◌*◌, ◌/◌, ◌^◌, ◌++◌, ◌∷◌, [], Ok, Option, None, length, min, IfOk, MatchResult};
 ghost use Rattle.std.specs.Option.{option_map};
 ghost use Rattle.byte_fields.specs.Reads.{Reads, Gives, Fails};
 ghost use Rattle.byte_fields.specs.Lists.{chain, last_of};
@@ -87,9 +87,25 @@ fn read_numbers<'a>(
 /// How many bytes an entry has: its place, its count, and its numbers.
 fn entry_size(width: usize) -> usize
     requires { width ≤ 8 }
-    ensures { 0 < result }
+    ensures { result ≡ 24 + 16 * width }
 {
     24 + 16 * width
+}
+
+/// The least number of bytes of a key group: its number, the count of its entries, and one entry.
+fn least_group_size(width: usize) -> usize
+    requires { width ≤ 8 }
+    ensures { result ≡ 34 + 16 * width }
+{
+    10 + entry_size(width)
+}
+
+/// For how many items room is made, each of at least so many bytes: no more than the bytes can hold.
+fn room(count: u64, size: usize, bytes: &[u8]) -> usize
+    requires { 0 < size }
+    ensures { result ≡ min count (length bytes.now / size) }
+{
+    count.min((bytes.len() / size) as u64) as usize
 }
 
 /// An entry after the one before, put behind those that are there. Gives its place.
@@ -121,7 +137,7 @@ fn read_entry_onto<'a>(
     Ok((place, rest))
 }
 
-/// So many entries, each after the one before. Room is made for no more than the bytes can hold.
+/// So many entries, each after the one before.
 fn read_entry_list<'a>(
     alloc: Global,
     kinds: &[Kind],
@@ -132,8 +148,7 @@ fn read_entry_list<'a>(
     ensures { Gives (λ x. (x.0, x.1.now)) result (entries_read kinds.now ((chain (entry_after kinds.now) None count).read bytes.now)) }
 {
     let mut entries = Entries::new(alloc, kinds.len());
-    let most = bytes.len() / entry_size(kinds.len());
-    entries.reserve(count.min(most as u64) as usize)?;
+    entries.reserve(room(count, entry_size(kinds.len()), bytes))?;
     let mut last = None;
     let mut rest = bytes;
     for _ in 0..count {
@@ -223,6 +238,7 @@ fn read_group_list<'a>(
     ensures { Gives (λ x. (x.0.items, x.1.now)) result ((chain (group_after max kinds.now) None count).read bytes.now) }
 {
     let mut groups = Vec::new(alloc);
+    groups.reserve_exact(room(u64::from(count), least_group_size(kinds.len()), bytes))?;
     let mut rest = bytes;
     for _ in 0..count {
         let (group, after) = read_group(alloc, max, kinds, last_group(&groups), rest)?;

@@ -131,6 +131,13 @@ fn no_count_is_trusted(rt: HostRuntime) -> Result<(), Fail> {
 }
 
 #[test]
+fn no_count_of_groups_is_trusted(rt: HostRuntime) -> Result<(), Fail> {
+    let bytes = edited(rt.alloc(), &[(102, 0xff), (103, 0xff)])?;
+    assert_eq!(rt; fault_of(rt.alloc(), &bytes), Some(SaveFault::Truncated));
+    Ok(())
+}
+
+#[test]
 fn no_groups_end_with_two_zeros(rt: HostRuntime) -> Result<(), Fail> {
     let mut bytes = Vec::from_slice(rt.alloc(), &BYTES[..102])?;
     bytes.extend_from_slice(&[0, 0])?;

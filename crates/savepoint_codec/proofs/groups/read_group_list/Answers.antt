@@ -11,7 +11,7 @@ use Rattle.savepoint_codec.proofs.groups.read_group_list.Goals as goal
 pub returns-in_err-group : goal.returns-in_err-group
 returns-in_err-group c =
     let last = c.last_group.ensures ∙ ap (λ (ss : List SavedGroup). option_map (λ g. g.group) (last_of ss)) c.deref.ensures.value in
-    let e = err_from_is_err_and c.from_residual.result c.from_residual.ensures.1 in
+    let e = err_from_is_err_and c.from_residual-in_err-group.result c.from_residual-in_err-group.ensures.1 in
     rw (e.1, e.2) (fails_at (group_after c.args.max c.args.kinds.now) c.in_err-group.field-0.0 c.args.count c.loop.counter c.loop.groups.items c.loop.rest.now c.args.bytes.now c.loop-test.true (subst (λ last. Fails c.in_err-group.field-0.0 ((group_field c.args.max c.args.kinds.now last).read c.loop.rest.now)) last c.in_err-group.ensures) c.loop.invariant)
 
 pub loop-preserved : goal.loop-preserved
