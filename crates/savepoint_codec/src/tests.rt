@@ -137,10 +137,16 @@ fn no_count_of_groups_is_trusted(rt: HostRuntime) -> Result<(), Fail> {
     Ok(())
 }
 
+/// The savepoint without its key group.
+fn no_groups(alloc: Global) -> Result<Vec<u8>, Fail> {
+    let mut bytes = Vec::from_slice(alloc, &BYTES[..102])?;
+    bytes.extend_from_slice(&[0, 0])?;
+    Ok(bytes)
+}
+
 #[test]
 fn no_groups_end_with_two_zeros(rt: HostRuntime) -> Result<(), Fail> {
-    let mut bytes = Vec::from_slice(rt.alloc(), &BYTES[..102])?;
-    bytes.extend_from_slice(&[0, 0])?;
+    let bytes = no_groups(rt.alloc())?;
     let savepoint = decode(rt.alloc(), &bytes)?;
     assert_eq!(rt; savepoint.contents().groups.len(), 0);
     assert_eq!(rt;
@@ -192,6 +198,30 @@ fn two_groups_there_and_back(rt: HostRuntime) -> Result<(), Fail> {
     Ok(())
 }
 
+/// The savepoint with a second source, `t`, whose one partition is the first of `s`.
+fn two_sources(alloc: Global) -> Result<Vec<u8>, Fail> {
+    let mut bytes = Vec::from_slice(alloc, &BYTES[..95])?;
+    *bytes.get_mut(59).ok_or("no count of sources")? = 2;
+    bytes.extend_from_slice(b"\x01t\x01")?;
+    bytes.extend_from_slice(&BYTES[63..79])?;
+    bytes.extend_from_slice(&BYTES[95..])?;
+    Ok(bytes)
+}
+
+#[test]
+fn two_sources_there_and_back(rt: HostRuntime) -> Result<(), Fail> {
+    let mut bytes = two_sources(rt.alloc())?;
+    let savepoint = decode(rt.alloc(), &bytes)?;
+    assert_eq!(rt; savepoint.contents().sources.len(), 2);
+    assert_eq!(rt;
+        encode(rt.alloc(), &savepoint)?.as_slice(),
+        bytes.as_slice()
+    );
+    *bytes.get_mut(96).ok_or("no second source")? = b's';
+    assert_eq!(rt; fault_of(rt.alloc(), &bytes), Some(SaveFault::Order));
+    Ok(())
+}
+
 #[test]
 fn groups_and_entries_in_order(rt: HostRuntime) -> Result<(), Fail> {
     let mut bytes = two_groups(rt.alloc())?;
@@ -235,11 +265,13 @@ fn random_mutations(rt: HostRuntime) -> Result<(), Fail> {
     let shapes = [
         Vec::from_slice(rt.alloc(), &BYTES)?,
         two_groups(rt.alloc())?,
-        edited(rt.alloc(), &[(103, 0)])?,
+        two_sources(rt.alloc())?,
+        no_groups(rt.alloc())?,
     ];
     let mut state = 1;
     for shape in &shapes {
-        for _ in 0..40_000 {
+        assert!(rt; fault_of(rt.alloc(), shape).is_none());
+        for _ in 0..30_000 {
             let (bytes, after) = mutated(rt.alloc(), shape, state)?;
             assert!(rt; is_refused_or_own(rt.alloc(), &bytes)?);
             state = after;
