@@ -1,12 +1,11 @@
 -- Accumulators made and merged: their fields, and the numbers that so many records can come to.
-use Rattle.std.proofs.Common.{◌≡◌, ℕ, suc, ℤ, pos, ◌+ℤ◌, ◌+◌, ◌-◌, ◌^◌, ◌<◌, ◌≤◌, Bool, true, false, ◌&&◌, List, [], ◌∷◌, ◌++◌, map, take, drop, length, get_or, replicate, refl, sym, ap, subst, ◌∙◌, ◌≢◌, arith, FitsSigned}
+use Rattle.std.proofs.Common.{◌≡◌, ℕ, suc, ℤ, pos, ◌+ℤ◌, ◌+◌, ◌-◌, ◌^◌, ◌≤◌, Bool, true, false, ◌&&◌, List, [], ◌∷◌, ◌++◌, map, take, drop, length, replicate, refl, sym, ap, subst, ◌∙◌, ◌≢◌, arith, FitsSigned}
 use Rattle.std.specs.Prelude.{unsigned_abs}
 use Rattle.std.specs.Int.{w64, int_min, int_max}
 use Rattle.std.specs.List.{All}
 use Rattle.std.proofs.lemmas.Int.{ints, clamps}
-use Rattle.std.proofs.lemmas.List.{length-map, drop-replicate, drop_more}
+use Rattle.std.proofs.lemmas.List.{length-map, drop-replicate}
 use Rattle.std.proofs.lemmas.List.Elements.{All-nil, All-cons, All-append, All-replicate, All-head, All-tail}
-use Rattle.std.proofs.Math.ListN.{drop_of_length-le}
 use Rattle.std.proofs.Math.Seq.{take-append_seam, drop-append_seam}
 use Rattle.plain_data.specs.Record.{Record}
 use Rattle.logical_plan.specs.declared.spec.Aggregate.{Aggregate}
@@ -53,10 +52,6 @@ made count n ks zs h k le sound = record {
 pub is_inside : (count n : ℕ) (ks all_ks : List Kind) (zs all_zs : List ℤ) → all_ks ≡ padded Count ks → all_zs ≡ padded (pos 0) zs → length ks ≡ n → length zs ≡ n → n ≤ 8
     → IsAcc (value_of count ks zs) → IsInside (fields_of count n all_ks all_zs)
 is_inside count n ks all_ks zs all_zs e f h k le sound = subst IsInside (sym (λ i. fields_of count n (e i) (f i))) (made count n ks zs h k le sound)
-
-pub view_is : (count n : ℕ) (ks all_ks : List Kind) (zs all_zs : List ℤ) → all_ks ≡ padded Count ks → all_zs ≡ padded (pos 0) zs → length ks ≡ n → length zs ≡ n
-    → acc_view (fields_of count n all_ks all_zs) ≡ value_of count ks zs
-view_is count n ks all_ks zs all_zs e f h k = (λ i. acc_view (fields_of count n (e i) (f i))) ∙ view_of count n ks zs h k
 
 -- ---- numbers
 
@@ -229,10 +224,3 @@ other_lengths count (k ∷ ks) (z ∷ zs) h = ap (λ b. is_number count k z && b
     and_false : (b : Bool) → (b && false) ≡ false
     and_false true = refl
     and_false false = refl
-
-pub numbers_next : (count : ℕ) (ks : List Kind) (zs : List ℤ) (i : ℕ) (k : Kind) (z : ℤ) → i < length ks → i < length zs
-    → are_numbers count (drop i ks) (drop i zs) ≡ (is_number count (get_or ks i k) (get_or zs i z) && are_numbers count (drop (i + 1) ks) (drop (i + 1) zs))
-numbers_next count ks zs i k z h j = λ t. are_numbers count (drop_more ks i k h t) (drop_more zs i z j t)
-
-pub numbers_end : (count : ℕ) (ks : List Kind) (zs : List ℤ) (i : ℕ) → length ks ≤ i → length zs ≤ i → are_numbers count (drop i ks) (drop i zs) ≡ true
-numbers_end count ks zs i h j = λ t. are_numbers count (drop_of_length-le ks h t) (drop_of_length-le zs j t)

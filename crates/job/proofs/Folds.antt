@@ -17,21 +17,13 @@ use Rattle.logical_plan.proofs.Aggs.{merge_assoc}
 use Rattle.logical_plan.proofs.PlaceTotals.{aggregate_at-append}
 use Rattle.stream_input.specs.PlanRows.{passing, plan_aggregate}
 use Rattle.window_state.specs.State.{StateData, HasRoomFor}
-use Rattle.window_state.proofs.Slides.{count_or, count_merge, count_at, length-filter, rows_start}
+use Rattle.window_state.proofs.Slides.{count_or, count_merge, count_at, length-filter}
 use Rattle.job.specs.Folding.{CanTake, TakesIn, HasAll, HasRoom}
 
 plan_aggregate-append : (plan : PlanData) (xs ys : List Record) (q : Place)
     → plan_aggregate plan (xs ++ ys) q ≡ merge plan.window.aggregates (plan_aggregate plan xs q) (plan_aggregate plan ys q)
 plan_aggregate-append plan xs ys q =
     ap (λ rs. aggregate_at plan.window rs q) (filter-append (passes plan.filters) xs ys) ∙ aggregate_at-append plan.window (passing plan xs) (passing plan ys) q
-
--- no records
-pub takes_none : (plan : PlanData) (s : StateData) → TakesIn plan [] s s
-takes_none plan s = record {
-  window = refl;
-  added = λ q. rows_start plan.window q (get s.windows q);
-  whole = refl;
-}
 
 -- some records, and some more
 pub takes_more : (plan : PlanData) (xs ys : List Record) (a b c : StateData) → TakesIn plan xs a b → TakesIn plan ys b c → TakesIn plan (xs ++ ys) a c

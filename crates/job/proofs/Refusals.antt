@@ -103,10 +103,6 @@ run_is : (bytes input : List ℕ) (plan : PlanData) (found : InputData) → plan
 unfolding run_said
 run_is bytes input plan found read is = ap (plan_said input) read ∙ ap (input_said plan) is
 
--- where no memory was to be had, nothing is said
-pub out_of_memory : (bytes input : List ℕ) (result : Result (Unit {0}) JobFault) (old new : Option (List ℕ)) → IsErr result → IsErrAnd result (λ e. e ≡ Memory) → Answers (run_said bytes input) result old new
-out_of_memory bytes input result old new fails gives = tells_err (WritesRows old new) (run_said bytes input) Memory result fails gives tt
-
 -- both texts are read, and the text of the rows is written or isn't
 pub written : (bytes input : List ℕ) (plan : PlanData) (found : InputData) (text : List ℕ) (result : Result (Unit {0}) JobFault) (old new : Option (List ℕ))
     → plan_of_bytes bytes ≡ Ok plan → input_of_bytes plan input ≡ Ok found → IsTextOf (plan_rows plan found.sources) text

@@ -36,14 +36,6 @@ row_at f n a i l m =
     let r = row_is f n (first f a + i) u in
     (row_one f (row_of f n (first f a + i)) a (first f a + i) r.1 r.2 (omega arith) (omega arith), u)
 
-pub count_up : (test : ℕ → Bool) (a b : ℕ) → a ≤ b → count test a ≤ count test b
-count_up test a zero l = let e : a ≡ 0 = omega arith in rw e (omega arith)
-count_up test a (suc b) l =
-    elim (cases_eq a (suc b)) [
-      | inl e ↦ rw e (omega arith)
-      | inr ne ↦ omega (arith, count_up test a b (omega arith))
-    ]
-
 pub length_those : (test : ℕ → Bool) (n : ℕ) → length (those test n) ≡ count test n
 length_those test zero = refl
 length_those test (suc n) =

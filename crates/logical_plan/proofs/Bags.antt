@@ -1,11 +1,9 @@
 -- What records come to does not depend on their order.
-use Rattle.std.proofs.Common.{◌≡◌, ℕ, ℤ, pos, zero-add, ◌+◌, Bool, true, false, cond, ◌||◌, nat_lt, List, [], ◌∷◌, ◌++◌, map, length, refl, sym, ap, ◌∙◌, arith, Some}
+use Rattle.std.proofs.Common.{◌≡◌, ℕ, ℤ, pos, zero-add, ◌+◌, Bool, true, false, cond, ◌||◌, nat_lt, List, [], ◌∷◌, map, length, refl, sym, ap, ◌∙◌, arith, Some}
 use Rattle.std.specs.Int.{int_min, int_max}
 use Rattle.std.specs.Int.RustNames.{int_le}
 use Rattle.std.specs.List.{sum_by, count_by, filter, list_any}
-use Rattle.std.specs.List.Sorted.{IsPermutation}
-use Rattle.std.proofs.lemmas.List.Sums.{sum_by-cons, sum_by-append}
-use Rattle.std.proofs.lemmas.List.Sorted.{sum_by-IsPermutation}
+use Rattle.std.proofs.lemmas.List.Sums.{sum_by-cons}
 use Rattle.std.proofs.lemmas.Int.{ints}
 use Rattle.std.proofs.lemmas.Bool.{lt-ltb}
 use borrow.Author.Differences.{up, down}
@@ -14,9 +12,6 @@ use Rattle.logical_plan.specs.declared.spec.Aggregate.{Aggregate}
 use Rattle.logical_plan.specs.declared.spec.Aggregate.TheVariants.{Count, Sum, Least, Greatest}
 use Rattle.logical_plan.specs.Bag.{IsSameBag}
 use Rattle.logical_plan.specs.Aggregates.{total, least, greatest, number_of, aggregate_of}
-
-pub IsSameBag-from_permutation : {X : Type 0} (xs ys : List X) → IsPermutation xs ys → IsSameBag xs ys
-IsSameBag-from_permutation xs ys h f = sym (sum_by-IsPermutation f xs ys h)
 
 pub sum_by-filter : {X : Type 0} (f : X → ℕ) (p : X → Bool) (xs : List X) → sum_by f (filter p xs) ≡ sum_by (λ x. cond (p x) (f x) 0) xs
 sum_by-filter f p [] = refl
@@ -28,9 +23,6 @@ sum_by-filter {X} f p (x ∷ xs) =
 
 pub IsSameBag-filter : {X : Type 0} (p : X → Bool) (xs ys : List X) → IsSameBag xs ys → IsSameBag (filter p xs) (filter p ys)
 IsSameBag-filter p xs ys h f = sum_by-filter f p xs ∙ h (λ x. cond (p x) (f x) 0) ∙ sym (sum_by-filter f p ys)
-
-pub IsSameBag-append : {X : Type 0} (xs ys us vs : List X) → IsSameBag xs ys → IsSameBag us vs → IsSameBag (xs ++ us) (ys ++ vs)
-IsSameBag-append xs ys us vs h k f = omega (arith, sum_by-append f xs us, sum_by-append f ys vs, h f, k f)
 
 pub length-sum_by : {X : Type 0} (xs : List X) → sum_by (λ _. 1) xs ≡ length xs
 length-sum_by [] = refl

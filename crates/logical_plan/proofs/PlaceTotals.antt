@@ -48,17 +48,6 @@ merge_if : (ks : List Aggregate) (b : Bool) (x y : Option Aggregated) → merge 
 merge_if ks true x y = refl
 merge_if ks false x y = merge_None ks x
 
--- one record more
-pub aggregate_at-push : (w : WindowSpec) (xs : List Record) (r : Record) (q : Place)
-    → aggregate_at w (xs ++ r ∷ []) q
-    ≡ (if is_window_of w (at w.time r) q.start && int_eq (at w.key r) q.key
-    then merge w.aggregates (aggregate_at w xs q) (aggregate_of w.aggregates (r ∷ [])) else aggregate_at w xs q)
-aggregate_at-push w xs r q =
-    let ks = w.aggregates in
-    aggregate_at-append w xs (r ∷ []) q
-    ∙ ap (merge ks (aggregate_at w xs q)) (one_place (is_start w q.start) (int_eq (at w.key r) q.key) (is_within w q.start (at w.time r)) ks r)
-    ∙ merge_if ks _ (aggregate_at w xs q) (aggregate_of ks (r ∷ []))
-
 -- what one record comes to at a place
 pub aggregate_at-one : (w : WindowSpec) (r : Record) (q : Place)
     → aggregate_at w (r ∷ []) q ≡ (if is_window_of w (at w.time r) q.start && int_eq (at w.key r) q.key then aggregate_of w.aggregates (r ∷ []) else None)

@@ -94,12 +94,6 @@ and_true : (b : Bool) → (b && true) ≡ b
 and_true true = refl
 and_true false = refl
 
-only_one : (j n r : ℕ) → r < n → (j % n == r && nat_lt j n) ≡ (j == r)
-only_one j n r h = elim (cases_lt j n) [
-  | inl below ↦ rw (mod-eq_of_lt below, lt-ltb j n below) (and_true (j == r))
-  | inr above ↦ rw (le-ltb j n above) (and_false (j % n == r) ∙ sym (ne_eqb j r (λ e. omega arith)))
-]
-
 same_shift : (t : ℤ) (j r : ℕ) → int_eq (t -ℤ pos r) (t -ℤ pos j) ≡ (j == r)
 same_shift t j r = grind (arith, ints)
 
@@ -109,23 +103,6 @@ not_later s t r h = grind (arith, ints)
 pub remainder : (z : ℤ) (n : ℕ) → 0 < n → (r : ℕ) × (r < n) × (int_rem_euclid z (pos n) ≡ pos r)
 remainder z n h = let found : (r : ℕ) × (r < n) × (int_rem_euclid z (pos n) ≡ pos r) × (int_rem_euclid (z +ℤ pos 0) (pos n) ≡ pos ((r + 0) % n)) = rem-add z 0 n h in
     (found.0, found.1, found.2)
-
--- where windows don't overlap, the one that has the time begins its remainder before it
-pub one_window : (w : WindowSpec) (s t : ℤ) (n : ℕ) → 0 < n → w.slide ≡ pos n → w.size ≡ pos n
-    → (is_start w s && is_within w s t) ≡ int_eq (t -ℤ int_rem_euclid (t -ℤ w.offset) (pos n)) s
-one_window w s t n h slide size =
-    let rest : (r : ℕ) × (r < n) × (int_rem_euclid (t -ℤ w.offset) (pos n) ≡ pos r) = remainder (t -ℤ w.offset) n h in
-    elim (before_or_after s t) [
-      | inl far ↦
-          ap (λ x. is_start w x && is_within w x t) far.1
-          ∙ window_at w t far.0 n n rest.0 h slide size rest.2
-          ∙ only_one far.0 n rest.0 rest.1
-          ∙ sym (same_shift t far.0 rest.0)
-          ∙ sym (λ i. int_eq (t -ℤ rest.2 i) (far.1 i))
-      | inr later ↦
-          ap (λ b. is_start w s && b) (window_after w s t later) ∙ and_false (is_start w s)
-          ∙ sym (ap (λ x. int_eq (t -ℤ x) s) rest.2 ∙ not_later s t rest.0 later)
-    ]
 
 -- ---- windows that overlap
 

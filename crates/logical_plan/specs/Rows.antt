@@ -4,7 +4,6 @@ use Rattle.std.specs.List.{filter, list_all}
 use Rattle.std.specs.Option.{option_to_list}
 use Rattle.std.specs.Ordering.{int_cmp, int_eq, ordering_then}
 use Rattle.std.specs.declared.cmp.Ordering.{Ordering}
-use Rattle.std.specs.FinMap.{FinMap, get}
 use Rattle.plain_data.specs.Record.{Record}
 use Rattle.lane_kernels.specs.Compare.{holds}
 use Rattle.logical_plan.specs.declared.spec.Having.{Having}
@@ -41,10 +40,6 @@ is_due w t s = int_le (s +ℤ w.size -ℤ pos 1) t
 -- places in the order of their starts, and of their keys at one start
 abbrev pub place_cmp : Place → Place → Ordering
 place_cmp p q = ordering_then (int_cmp p.start q.start) (int_cmp p.key q.key)
-
--- the map has at each place what `f` has there
-abbrev pub IsMapOf : (Place → Option Aggregated) → FinMap place_cmp Aggregated → Type 0
-IsMapOf f m = (q : Place) → get m q ≡ f q
 
 abbrev pub place_of : Row → Place
 place_of row = record { start = row.start; key = row.key }

@@ -1,8 +1,7 @@
 -- The search for the first record that comes too late, and what it means where there is none.
-use Rattle.std.proofs.Common.{◌≡◌, ℕ, zero, suc, ◌+◌, ◌-◌, ◌<◌, ◌≤◌, ℤ, ◌<ℤ◌, Bool, true, false, cond, length, get_or, take, drop, List, [], ◌∷◌, inl, inr, Option, Some, None, option_map, refl, arith, zero-add}
+use Rattle.std.proofs.Common.{◌≡◌, ℕ, zero, suc, ◌+◌, ◌-◌, ◌<◌, ◌≤◌, ℤ, ◌<ℤ◌, Bool, true, false, cond, length, get_or, take, List, [], ◌∷◌, inl, inr, Option, Some, None, option_map, refl, arith}
 use Rattle.std.proofs.lemmas.Bool.{ne_eqb, or_parts, cases_eq}
 use Rattle.std.proofs.lemmas.Int.{ints}
-use Rattle.std.proofs.lemmas.List.{drop_more, drop_all}
 use Rattle.std.proofs.lemmas.List.Sums.{fold_more}
 use Rattle.std.proofs.lemmas.List.Elements.{All-cons}
 use Rattle.std.proofs.lemmas.Option.{slice_get_read, slice_get-get_or}
@@ -47,38 +46,10 @@ finds test n len h is =
     let e : len - n ≡ suc (len - (n + 1)) = omega arith in
     rw (e, is) refl
 
-pub finds_none : (test : ℕ → Bool) (n len : ℕ) → len ≤ n → find test (range_with_len n (len - n)) ≡ None
-finds_none test n len h =
-    let e : len - n ≡ 0 = omega arith in
-    rw e refl
-
 -- ---- the search in the partitions of a source, and in the sources
 
 abbrev pub moved : {Y : Type 0} → ℕ → Option (ℕ × Y) → Option (ℕ × Y)
 moved i o = option_map (λ p. (i + p.0, p.1)) o
-
-pub moved_none : {Y : Type 0} (o : Option (ℕ × Y)) → moved 0 o ≡ o
-moved_none None = refl
-moved_none (Some p) = rw zero-add refl
-
-moved_suc : {Y : Type 0} (i : ℕ) (o : Option (ℕ × Y)) → moved i (option_map (λ p. (suc p.0, p.1)) o) ≡ moved (i + 1) o
-moved_suc i None = refl
-moved_suc i (Some p) =
-    let e : i + suc p.0 ≡ i + 1 + p.0 = omega arith in
-    rw e refl
-
-pub at_next : {X Y : Type 0} (f : X → Option Y) (xs : List X) (i : ℕ) (x : X) → i < length xs → x ≡ get_or xs i x → f x ≡ None
-    → moved i (first_at f (drop i xs)) ≡ moved (i + 1) (first_at f (drop (i + 1) xs))
-at_next f xs i x h is none = rw (drop_more xs i x h, ← is, none) (moved_suc i (first_at f (drop (i + 1) xs)))
-
-pub at_found : {X Y : Type 0} (f : X → Option Y) (xs : List X) (i : ℕ) (x : X) (y : Y) → i < length xs → x ≡ get_or xs i x → f x ≡ Some y
-    → moved i (first_at f (drop i xs)) ≡ Some (i, y)
-at_found f xs i x y h is found =
-    let e : i + 0 ≡ i = omega arith in
-    rw (drop_more xs i x h, ← is, found, e) refl
-
-pub at_end : {X Y : Type 0} (f : X → Option Y) (xs : List X) (i : ℕ) → length xs ≤ i → moved i (first_at f (drop i xs)) ≡ None
-at_end f xs i h = rw (drop_all i xs h) refl
 
 -- ---- where there is none
 
