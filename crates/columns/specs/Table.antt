@@ -3,6 +3,7 @@ use Rattle.std.specs.Prelude.{◌≡◌, ◌≤◌, ℕ, ℤ, pos, List, length,
 use Rattle.std.specs.declared.alloc.Global.{Global}
 use Rattle.std.specs.List.{All, range_with_len}
 use Rattle.plain_data.specs.Record.{Record}
+use Rattle.columns.specs.declared.TheConstants.{MOST_ROWS}
 
 -- how many columns there are, which no list of rows tells where it is empty, and the rows in order
 pub record Table : Type 0 where
@@ -30,4 +31,4 @@ pub record IsWidth (n : ℕ) : Type 0 where
 pub record AreColumns (columns : List (Vec ℤ Global)) (count : ℕ) : Type 0 where
   pub width : IsWidth (length columns)
   pub even : All (λ column. length column.items ≡ count) columns
-  pub few : count ≤ 4096
+  pub few : count ≤ MOST_ROWS

@@ -16,6 +16,9 @@ mod tests;
 pub use fault::BatchFault;
 use std::marker::Model;
 
+/// The most rows of a batch.
+pub const MOST_ROWS: usize = 4096;
+
 /// Rows of whole numbers, kept as columns.
 #[derive(Debug, Drop)]
 pub struct Batch {
@@ -52,7 +55,7 @@ impl Batch {
     /// How many rows there are: at most 4,096.
     pub fn len(&self) -> usize
         ensures says { result ≡ length self.now.rows }
-        ensures small { length self.now.rows ≤ 4096 }
+        ensures small { length self.now.rows ≤ MOST_ROWS }
     {
         self.count
     }

@@ -5,12 +5,9 @@ ghost use Rattle.plain_data.specs.Record.{column_of};
 ghost use Rattle.columns.specs.Fault.{first_fault};
 ghost use Rattle.columns.specs.Table.{IsWidth, rows_in};
 
-use crate::Batch;
 use crate::fault::BatchFault;
+use crate::{Batch, MOST_ROWS};
 use std::alloc::{AllocError, Global};
-
-// The greatest number of rows of a batch.
-const MOST_ROWS: usize = 4096;
 
 impl Batch {
     /// The batch of some rows, which have `width` numbers each: 1 to 16.
@@ -42,7 +39,7 @@ fn odd_row(rows: &[Vec<i64>], width: usize) -> Option<usize>
 fn fault_in(rows: &[Vec<i64>], width: usize) -> Option<BatchFault>
     ensures first { result ≡ first_fault (rows_in rows.now) width }
     ensures even { IfNone result (All (λ row. length row.items ≡ width) rows.now) }
-    ensures few { IfNone result (length rows.now ≤ 4096) }
+    ensures few { IfNone result (length rows.now ≤ MOST_ROWS) }
 {
     if let Some(row) = odd_row(rows, width) {
         return Some(BatchFault::Width(row));
@@ -81,7 +78,7 @@ fn column_at(alloc: Global, rows: &[Vec<i64>], c: usize) -> Result<Vec<i64>, All
 fn batch_of(alloc: Global, rows: &[Vec<i64>], width: usize) -> Result<Batch, AllocError>
     requires sized { IsWidth width }
     requires even { All (λ row. length row.items ≡ width) rows.now }
-    requires few { length rows.now ≤ 4096 }
+    requires few { length rows.now ≤ MOST_ROWS }
     ensures { IfOk result (λ batch. batch ≡ record { width = width; rows = rows_in rows.now }) }
 {
     let columns = columns_of(alloc, rows, width)?;

@@ -9,6 +9,7 @@ use Rattle.std.proofs.Math.Nat.{mul-div_cancel}
 use Rattle.std.specs.List.{All, list_all, range_with_len}
 use Rattle.plain_data.specs.Record.{Record, at, column_of}
 use Rattle.columns.specs.Table.{Table, rows_of}
+use Rattle.columns.specs.declared.TheConstants.{MOST_ROWS}
 use Rattle.json_tokens.specs.Rows.{joined}
 use Rattle.stream_input.specs.declared.entry.Entry.TheVariants.{Rows}
 use Rattle.stream_input.specs.InputText.{rows}
@@ -67,10 +68,10 @@ all_columns width rs even =
     sym (fill_by_all (column_in_cells width (length rs) (joined rs)) (map (λ c. column_of c rs) (range_with_len 0 width)) width [] (length-map-range_with_len (λ c. column_of c rs) 0 width)
     (λ k h. get_or-map-range_with_len (λ c. column_of c rs) 0 width k k [] h (omega arith) ∙ column_is width k rs even h))
 
-sized_from : (n : ℕ) → 1 ≤ n → n ≤ 4096 → (nat_le 1 n && nat_le n 4096) ≡ true
-sized_from n some few = rw (le-leb 1 n some, le-leb n 4096 few) refl
+sized_from : (n : ℕ) → 1 ≤ n → n ≤ MOST_ROWS → (nat_le 1 n && nat_le n MOST_ROWS) ≡ true
+sized_from n some few = rw (le-leb 1 n some, le-leb n MOST_ROWS few) refl
 
-pub fit_batch : (width time count : ℕ) (cells : List ℤ) (columns : List (Vec ℤ Global)) (batch : Table) (d : Vec ℤ Global) → count ≡ length cells / width → time < width → 1 ≤ count → count ≤ 4096
+pub fit_batch : (width time count : ℕ) (cells : List ℤ) (columns : List (Vec ℤ Global)) (batch : Table) (d : Vec ℤ Global) → count ≡ length cells / width → time < width → 1 ≤ count → count ≤ MOST_ROWS
     → map (λ c. c.items) columns ≡ map (column_in_cells width count cells) (range_with_len 0 width) → list_all is_time (get_or columns time d).items ≡ true
     → batch ≡ record { width = length columns; rows = rows_of (map (λ c. c.items) columns) count }
     → (found : List (List (Option ℤ))) → is_wide width (rows found) ≡ true → is_whole (rows found) ≡ true → joined (map record_of found) ≡ cells → if_fit width time (rows found) ≡ Some (Rows batch)

@@ -10,6 +10,7 @@ use Rattle.std.specs.List.{All, AllPass, list_all, find, range_with_len}
 use Rattle.std.specs.Option.{option_map_or}
 use Rattle.plain_data.specs.Record.{Record, at, column_of}
 use Rattle.columns.specs.Table.{Table, rows_of}
+use Rattle.columns.specs.declared.TheConstants.{MOST_ROWS}
 use Rattle.columns.proofs.Columns.{rows_of-column_of}
 use Rattle.json_parts.specs.declared.list.Cell.{Cell}
 use Rattle.stream_input.specs.declared.draft.EntryDraft.{EntryDraft}
@@ -51,10 +52,10 @@ wide_all columns rows passed =
     (AllPass-from_list_all (λ row. length row.items == columns) rows (sym (wide_rows columns rows) ∙ passed))
 
 -- an entry of 1 to 4,096 rows
-pub sized_few : (rows : List (Vec Cell Global)) → (nat_le 1 (length (map row_draft_text rows)) && nat_le (length (map row_draft_text rows)) 4096) ≡ true → length rows ≤ 4096
+pub sized_few : (rows : List (Vec Cell Global)) → (nat_le 1 (length (map row_draft_text rows)) && nat_le (length (map row_draft_text rows)) MOST_ROWS) ≡ true → length rows ≤ MOST_ROWS
 sized_few rows sized =
-    let parts = and_parts (nat_le 1 (length (map row_draft_text rows))) (nat_le (length (map row_draft_text rows)) 4096) sized in
-    rw (length-map rows row_draft_text) at (leb-true (length (map row_draft_text rows)) 4096 parts.1)
+    let parts = and_parts (nat_le 1 (length (map row_draft_text rows))) (nat_le (length (map row_draft_text rows)) MOST_ROWS) sized in
+    rw (length-map rows row_draft_text) at (leb-true (length (map row_draft_text rows)) MOST_ROWS parts.1)
 
 chosen_passes : (test : EntryText → Bool) (b : Bool) (m : List ℕ × List (List EntryText)) (rest : Option (List ℕ × List (List EntryText)))
     → list_all (list_all test) m.1 ≡ true → list_all (list_all test) (option_map_or (λ o. o.1) rest []) ≡ true

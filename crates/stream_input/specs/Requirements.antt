@@ -3,6 +3,7 @@ use Rattle.std.specs.Prelude.{ℕ, ◌^◌, ℤ, pos, neg_ℤ, int_le, int_lt, B
 use Rattle.std.specs.List.{list_all, list_any}
 use Rattle.std.specs.Option.{option_or, option_map}
 use Rattle.plain_data.specs.Record.{at}
+use Rattle.columns.specs.declared.TheConstants.{MOST_ROWS}
 use Rattle.logical_plan.specs.PlanData.{PlanData}
 use Rattle.stream_input.specs.declared.fault.InputFault.{InputFault}
 use Rattle.stream_input.specs.declared.fault.InputFault.TheVariants.{Source, Partitions, Width, Number, Rows, TimeRange, TooMany}
@@ -35,7 +36,7 @@ is_whole (watermark t) = is_some t
 
 -- 1 to 4,096 rows
 abbrev pub is_sized : EntryText → Bool
-is_sized (rows found) = nat_le 1 (length found) && nat_le (length found) 4096
+is_sized (rows found) = nat_le 1 (length found) && nat_le (length found) MOST_ROWS
 is_sized (watermark t) = true
 
 -- -2^62 to 2^62 - 1

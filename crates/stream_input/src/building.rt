@@ -4,6 +4,7 @@ ghost use Rattle.std.specs.Prelude.{◌≡◌, ◌≤◌, true, length, map, IfO
 ghost use Rattle.std.specs.List.{All, range_with_len};
 ghost use Rattle.plain_data.specs.Record.{column_of as column_in};
 ghost use Rattle.columns.specs.Table.{IsWidth};
+ghost use Rattle.columns.specs.declared.TheConstants.{MOST_ROWS};
 ghost use Rattle.stream_input.specs.Draft.{row_draft_text, entry_draft_text, partition_draft_text, draft_text};
 ghost use Rattle.stream_input.specs.Said.{record_of, entry_of as entry_said, sources_of as sources_said};
 ghost use Rattle.stream_input.specs.Requirements.{is_wide, is_sized, has_width, has_rows};
@@ -47,7 +48,7 @@ fn columns_of(
 fn batch_of(alloc: Global, columns: usize, rows: &[Vec<Cell>]) -> Result<Batch, AllocError>
     requires width { IsWidth columns }
     requires wide { All (λ row. length row.items ≡ columns) rows.now }
-    requires few { length rows.now ≤ 4096 }
+    requires few { length rows.now ≤ MOST_ROWS }
     ensures { IfOk result (λ batch. batch ≡ record { width = columns; rows = map record_of (map row_draft_text rows.now) }) }
 {
     let found = columns_of(alloc, rows, columns)?;

@@ -11,12 +11,9 @@ ghost use Rattle.stream_input.specs.Requirements.{is_wide, is_whole};
 ghost use Rattle.stream_input.specs.declared.entry.Entry.TheVariants.{Rows};
 
 use crate::check::are_times;
-use columns::Batch;
+use columns::{Batch, MOST_ROWS};
 use json_tokens::Miss;
 use std::alloc::{AllocError, Global};
-
-/// The most rows of an entry.
-const MOST_ROWS: usize = 4096;
 
 fn column_at(
     alloc: Global,

@@ -11,6 +11,7 @@ ghost use Rattle.stream_input.specs.EntryTest.{passes};
 ghost use Rattle.stream_input.specs.Requirements.{is_time as is_time_number, has_width as width_is_met, has_numbers as numbers_are_met, has_rows as rows_are_met, has_times as times_are_met, every_entry as every_text};
 
 use crate::draft::{EntryDraft, SourceDraft};
+use columns::MOST_ROWS;
 use json_parts::Cell;
 use logical_plan::Plan;
 
@@ -104,7 +105,7 @@ fn are_passed(test: EntryTest, rows: &[Vec<Cell>]) -> bool
     match test {
         EntryTest::Width(columns) => are_wide(columns, rows),
         EntryTest::Number => are_whole(rows),
-        EntryTest::Rows => 1 <= rows.len() && rows.len() <= 4096,
+        EntryTest::Rows => 1 <= rows.len() && rows.len() <= MOST_ROWS,
         EntryTest::TimeRange(time) => are_timely(time, rows),
     }
 }
