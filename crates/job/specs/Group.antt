@@ -8,6 +8,7 @@ use Rattle.std.specs.Str.Parse.{digits_value, starts_with_minus}
 use Rattle.std.specs.Io.KnownBytes.{Appends}
 use Rattle.key_groups.specs.Groups.{key_group}
 use Rattle.key_groups.specs.Ranges.{group_owner}
+use Rattle.key_groups.specs.declared.limits.TheConstants.{MOST_GROUPS, MOST_SUBTASKS}
 use Rattle.job.specs.declared.fault.JobFault.{JobFault}
 use Rattle.job.specs.declared.fault.JobFault.TheVariants.{Number, Write, Memory}
 
@@ -42,7 +43,7 @@ answer_line max par key = group_line (key_group max key) (group_owner max par (k
 
 -- the line for three words, where they are a key, a number of groups up to 32768 and a number of subtasks up to 64 and the groups
 unfoldable pub group_said : List ℕ → List ℕ → List ℕ → Option (List ℕ)
-group_said key max par = option_and_then (λ k. option_and_then (λ m. option_map (λ p. answer_line m p k) (count_said (min m 64) par)) (count_said 32768 max)) (key_said key)
+group_said key max par = option_and_then (λ k. option_and_then (λ m. option_map (λ p. answer_line m p k) (count_said (min m MOST_SUBTASKS) par)) (count_said MOST_GROUPS max)) (key_said key)
 
 -- Ok and the line written, the refusal of a word, or a line that could not be written
 abbrev pub TellsGroup : Option (List ℕ) → Result (Unit {0}) JobFault → Option (List ℕ) → Option (List ℕ) → Type 0

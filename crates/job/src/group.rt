@@ -8,7 +8,7 @@ ghost use Rattle.job.specs.Tells.{KeepsWriter};
 
 use crate::fault::JobFault;
 use crate::run::write_text;
-use key_groups::{MaxParallelism, Parallelism, group_of, owner_of};
+use key_groups::{MOST_GROUPS, MOST_SUBTASKS, MaxParallelism, Parallelism, group_of, owner_of};
 use std::alloc::{AllocError, Global};
 use std::io::Write;
 
@@ -85,8 +85,8 @@ pub fn job_group<W: Write>(
     ensures kept { KeepsWriter result (W.contents out.old) (W.contents out.new) }
 {
     let key = key_of(key).ok_or(JobFault::Number)?;
-    let groups = count_of(max, 32768).ok_or(JobFault::Number)?;
-    let subtasks = count_of(par, groups.min(64)).ok_or(JobFault::Number)?;
+    let groups = count_of(max, MOST_GROUPS).ok_or(JobFault::Number)?;
+    let subtasks = count_of(par, groups.min(MOST_SUBTASKS)).ok_or(JobFault::Number)?;
     let max = MaxParallelism::new(groups).ok_or(JobFault::Number)?;
     let par = Parallelism::new(subtasks, max).ok_or(JobFault::Number)?;
     let group = group_of(key, max);

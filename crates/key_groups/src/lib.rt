@@ -15,5 +15,5 @@ pub mod laws;
 mod tests;
 
 pub use group::{group_of, groups_into};
-pub use limits::{MaxParallelism, Parallelism};
+pub use limits::{MOST_GROUPS, MOST_SUBTASKS, MaxParallelism, Parallelism};
 pub use ranges::{GroupRange, owner_of, range_of};

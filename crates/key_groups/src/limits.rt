@@ -2,6 +2,12 @@ ghost use Rattle.std.specs.Prelude.{SomeIff, ◌≡◌, ◌≤◌};
 
 use std::marker::Model;
 
+/// The most key groups.
+pub const MOST_GROUPS: u32 = 32768;
+
+/// The most subtasks of an operator.
+pub const MOST_SUBTASKS: u32 = 64;
+
 /// The number of key groups, which is the greatest parallelism that a job can have: 1 to 32768.
 #[derive(Clone, Copy, Debug, PartialEq, Eq)]
 pub struct MaxParallelism {
@@ -10,12 +16,13 @@ pub struct MaxParallelism {
 
 impl Model for MaxParallelism {
     ghost use Rattle.std.specs.Prelude.{ℕ, ◌≤◌};
+    ghost use Rattle.key_groups.specs.declared.limits.TheConstants.{MOST_GROUPS};
 
     ghost Value = { ℕ };
 
     ghost view = { λ max. max.groups };
 
-    ghost invariant = { λ max. (1 ≤ max.groups) × (max.groups ≤ 32768) };
+    ghost invariant = { λ max. (1 ≤ max.groups) × (max.groups ≤ MOST_GROUPS) };
 
     ghost inverse = { λ n. record { groups = n } };
 }
@@ -23,9 +30,9 @@ impl Model for MaxParallelism {
 impl MaxParallelism {
     /// So many key groups, or `None` unless there are 1 to 32768.
     pub fn new(groups: u32) -> Option<MaxParallelism>
-        ensures { SomeIff result ((1 ≤ groups) × (groups ≤ 32768)) groups }
+        ensures { SomeIff result ((1 ≤ groups) × (groups ≤ MOST_GROUPS)) groups }
     {
-        if groups < 1 || groups > 32768 {
+        if groups < 1 || groups > MOST_GROUPS {
             return None;
         }
         Some(MaxParallelism { groups })
@@ -35,7 +42,7 @@ impl MaxParallelism {
     pub fn get(self) -> u32
         ensures says { result ≡ self }
         ensures positive { 1 ≤ self }
-        ensures small { self ≤ 32768 }
+        ensures small { self ≤ MOST_GROUPS }
     {
         self.groups
     }
@@ -49,12 +56,13 @@ pub struct Parallelism {
 
 impl Model for Parallelism {
     ghost use Rattle.std.specs.Prelude.{ℕ, ◌≤◌};
+    ghost use Rattle.key_groups.specs.declared.limits.TheConstants.{MOST_SUBTASKS};
 
     ghost Value = { ℕ };
 
     ghost view = { λ par. par.subtasks };
 
-    ghost invariant = { λ par. (1 ≤ par.subtasks) × (par.subtasks ≤ 64) };
+    ghost invariant = { λ par. (1 ≤ par.subtasks) × (par.subtasks ≤ MOST_SUBTASKS) };
 
     ghost inverse = { λ n. record { subtasks = n } };
 }
@@ -62,9 +70,9 @@ impl Model for Parallelism {
 impl Parallelism {
     /// So many subtasks, or `None` unless there are 1 to the lesser of 64 and the key groups.
     pub fn new(subtasks: u32, max: MaxParallelism) -> Option<Parallelism>
-        ensures { SomeIff result ((1 ≤ subtasks) × (subtasks ≤ 64) × (subtasks ≤ max)) subtasks }
+        ensures { SomeIff result ((1 ≤ subtasks) × (subtasks ≤ MOST_SUBTASKS) × (subtasks ≤ max)) subtasks }
     {
-        if subtasks < 1 || subtasks > max.get().min(64) {
+        if subtasks < 1 || subtasks > max.get().min(MOST_SUBTASKS) {
             return None;
         }
         Some(Parallelism { subtasks })
@@ -74,7 +82,7 @@ impl Parallelism {
     pub fn get(self) -> u32
         ensures says { result ≡ self }
         ensures positive { 1 ≤ self }
-        ensures small { self ≤ 64 }
+        ensures small { self ≤ MOST_SUBTASKS }
     {
         self.subtasks
     }

@@ -1,6 +1,7 @@
 -- What a scale must meet.
 use Rattle.std.specs.Prelude.{◌≡◌, ℕ, ◌≤◌, length}
 use Rattle.std.specs.List.{All}
+use Rattle.key_groups.specs.declared.limits.TheConstants.{MOST_SUBTASKS}
 use Rattle.logical_plan.specs.PlanData.{PlanData}
 pub use Rattle.layout_rules.specs.ScaleData.{FilterScale, ScaleData, IsRing, scale_data_of}
 use Rattle.layout_rules.specs.Stages.{tasks}
@@ -9,7 +10,7 @@ use Rattle.layout_rules.specs.Rules.{stages_of}
 -- 1 to the lesser of 64 and the number of key groups
 pub record IsParallelism (max n : ℕ) : Type 0 where
   pub some : 1 ≤ n
-  pub few : n ≤ 64
+  pub few : n ≤ MOST_SUBTASKS
   pub grouped : n ≤ max
 
 -- what every scale that is read by a plan meets: the layout has at most 256 tasks, with the sink's

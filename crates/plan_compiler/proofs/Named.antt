@@ -11,6 +11,7 @@ use Rattle.logical_plan.specs.declared.spec.SourceSpec.{SourceSpec}
 use Rattle.logical_plan.specs.declared.spec.FilterSpec.{FilterSpec}
 use Rattle.logical_plan.specs.PlanData.{PlanData, uids}
 use Rattle.logical_plan.specs.Requirements.{is_within}
+use Rattle.key_groups.specs.declared.limits.TheConstants.{MOST_SUBTASKS}
 use Rattle.plan_compiler.specs.declared.scale_text.OperatorText.{OperatorText}
 use Rattle.plan_compiler.specs.declared.scale_text.ScaleDraft.{ScaleDraft}
 use Rattle.plan_compiler.specs.Draft.{OperatorDraft, operator_draft_text, operators_draft_text, draft_text}
@@ -31,9 +32,9 @@ unfolding has_known_uids
 known_uids_draft plan draft = list_all-map (λ (m : List ℕ × OperatorText). list_any (bytes_eq m.0) (uids plan)) operator_draft_text draft.operators.items
 
 pub parallelism_draft : (plan : PlanData) (draft : ScaleDraft)
-    → has_parallelism plan (draft_text draft) ≡ list_all (λ (m : OperatorDraft). is_within (pos 1) (pos (min 64 plan.max)) m.part.parallelism) draft.operators.items
+    → has_parallelism plan (draft_text draft) ≡ list_all (λ (m : OperatorDraft). is_within (pos 1) (pos (min MOST_SUBTASKS plan.max)) m.part.parallelism) draft.operators.items
 unfolding has_parallelism
-parallelism_draft plan draft = list_all-map (λ (m : List ℕ × OperatorText). is_within (pos 1) (pos (min 64 plan.max)) m.1.parallelism) operator_draft_text draft.operators.items
+parallelism_draft plan draft = list_all-map (λ (m : List ℕ × OperatorText). is_within (pos 1) (pos (min MOST_SUBTASKS plan.max)) m.1.parallelism) operator_draft_text draft.operators.items
 
 given_draft : (operators : List OperatorDraft) (names : List (List ℕ))
     → list_all (λ uid. list_any (λ m. bytes_eq m.0 uid) (map operator_draft_text operators)) names ≡ list_all (λ uid. list_any (λ (m : OperatorDraft). bytes_eq (string_bytes m.name) uid) operators) names
@@ -93,19 +94,19 @@ found_passes test uid (m ∷ ms) one all =
       | inr e ↦ rw e (found_passes test uid ms one parts.1)
     ]
 
-pub within_under : (uid : List ℕ) (operators : List (List ℕ × OperatorText)) → list_all (λ m. is_within (pos 1) (pos 64) m.1.parallelism) operators ≡ true
-    → is_within (pos 1) (pos 64) (operator_under uid operators).parallelism ≡ true
-within_under uid operators all = found_passes (λ o. is_within (pos 1) (pos 64) o.parallelism) uid operators refl all
+pub within_under : (uid : List ℕ) (operators : List (List ℕ × OperatorText)) → list_all (λ m. is_within (pos 1) (pos MOST_SUBTASKS) m.1.parallelism) operators ≡ true
+    → is_within (pos 1) (pos MOST_SUBTASKS) (operator_under uid operators).parallelism ≡ true
+within_under uid operators all = found_passes (λ o. is_within (pos 1) (pos MOST_SUBTASKS) o.parallelism) uid operators refl all
 
-narrower : (max : ℕ) (n : ℤ) → is_within (pos 1) (pos (min 64 max)) n ≡ true → is_within (pos 1) (pos 64) n ≡ true
+narrower : (max : ℕ) (n : ℤ) → is_within (pos 1) (pos (min MOST_SUBTASKS max)) n ≡ true → is_within (pos 1) (pos MOST_SUBTASKS) n ≡ true
 narrower max n h = grind (arith, ints)
 
-all_narrower : (max : ℕ) (operators : List (List ℕ × OperatorText)) → list_all (λ m. is_within (pos 1) (pos (min 64 max)) m.1.parallelism) operators ≡ true → list_all (λ m. is_within (pos 1) (pos 64) m.1.parallelism) operators ≡ true
+all_narrower : (max : ℕ) (operators : List (List ℕ × OperatorText)) → list_all (λ m. is_within (pos 1) (pos (min MOST_SUBTASKS max)) m.1.parallelism) operators ≡ true → list_all (λ m. is_within (pos 1) (pos MOST_SUBTASKS) m.1.parallelism) operators ≡ true
 all_narrower max [] h = refl
 all_narrower max (m ∷ ms) h =
-    let parts = and_parts (is_within (pos 1) (pos (min 64 max)) m.1.parallelism) (list_all (λ (x : List ℕ × OperatorText). is_within (pos 1) (pos (min 64 max)) x.1.parallelism) ms) h in
+    let parts = and_parts (is_within (pos 1) (pos (min MOST_SUBTASKS max)) m.1.parallelism) (list_all (λ (x : List ℕ × OperatorText). is_within (pos 1) (pos (min MOST_SUBTASKS max)) x.1.parallelism) ms) h in
     rw (narrower max m.1.parallelism parts.0) (all_narrower max ms parts.1)
 
-pub within_64 : (plan : PlanData) (text : ScaleText) → has_parallelism plan text ≡ true → list_all (λ m. is_within (pos 1) (pos 64) m.1.parallelism) text.operators ≡ true
+pub within_64 : (plan : PlanData) (text : ScaleText) → has_parallelism plan text ≡ true → list_all (λ m. is_within (pos 1) (pos MOST_SUBTASKS) m.1.parallelism) text.operators ≡ true
 unfolding has_parallelism
 within_64 plan text h = all_narrower plan.max text.operators h

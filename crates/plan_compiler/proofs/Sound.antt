@@ -11,6 +11,7 @@ use Rattle.logical_plan.specs.declared.spec.SourceSpec.{SourceSpec}
 use Rattle.logical_plan.specs.declared.spec.FilterSpec.{FilterSpec}
 use Rattle.logical_plan.specs.PlanData.{PlanData, IsPlan}
 use Rattle.logical_plan.specs.Requirements.{is_within}
+use Rattle.key_groups.specs.declared.limits.TheConstants.{MOST_SUBTASKS}
 use Rattle.layout_rules.specs.declared.stage.FilterScale.{FilterScale}
 use Rattle.layout_rules.specs.Scale.{IsParallelism, IsScale, IsRing}
 use Rattle.layout_rules.specs.ScaleData.{ScaleData}
@@ -24,10 +25,10 @@ use Rattle.plan_compiler.specs.Requirements.{has_parallelism, has_ring, has_few_
 use Rattle.plan_compiler.proofs.Named.{found_passes}
 use Rattle.plan_compiler.proofs.TaskCount.{Fits, tasks_are}
 
-is_one : (max : ℕ) → 1 ≤ max → is_within (pos 1) (pos (min 64 max)) (pos 1) ≡ true
+is_one : (max : ℕ) → 1 ≤ max → is_within (pos 1) (pos (min MOST_SUBTASKS max)) (pos 1) ≡ true
 is_one max some = grind (arith, ints)
 
-above_zero : (max : ℕ) (z : ℤ) → is_within (pos 1) (pos (min 64 max)) z ≡ true → IsParallelism max (unsigned_abs z)
+above_zero : (max : ℕ) (z : ℤ) → is_within (pos 1) (pos (min MOST_SUBTASKS max)) z ≡ true → IsParallelism max (unsigned_abs z)
 above_zero max (pos n) h = record { some = grind (arith, ints); few = grind (arith, ints); grouped = grind (arith, ints) }
 above_zero max (negsuc n) h = absurd (grind (arith, ints))
 
@@ -38,7 +39,7 @@ ring_within (negsuc n) h = absurd (grind (arith, ints))
 under : (plan : PlanData) (text : ScaleText) → IsPlan plan → has_parallelism plan text ≡ true → (uid : List ℕ) → IsParallelism plan.max (parallelism_under uid text.operators)
 unfolding has_parallelism
 under plan text p met uid =
-    above_zero plan.max (operator_under uid text.operators).parallelism (found_passes (λ (o : OperatorText). is_within (pos 1) (pos (min 64 plan.max)) o.parallelism) uid text.operators (is_one plan.max p.grouped) met)
+    above_zero plan.max (operator_under uid text.operators).parallelism (found_passes (λ (o : OperatorText). is_within (pos 1) (pos (min MOST_SUBTASKS plan.max)) o.parallelism) uid text.operators (is_one plan.max p.grouped) met)
 
 -- the scale of a text whose parallelisms are met, but for its ring and its tasks
 pub record IsCounted (plan : PlanData) (c : ScaleData) : Type 0 where
@@ -55,7 +56,7 @@ counted plan text p met = record {
   window = under plan text p met plan.window.uid;
 }
 
-sum_small : (max : ℕ) (ns : List ℕ) → All (IsParallelism max) ns → sum ns ≤ 64 * length ns
+sum_small : (max : ℕ) (ns : List ℕ) → All (IsParallelism max) ns → sum ns ≤ MOST_SUBTASKS * length ns
 sum_small max [] h = omega arith
 sum_small max (n ∷ ns) h =
     let first = All-head (IsParallelism max) n ns h in
@@ -67,8 +68,8 @@ sum_small max (n ∷ ns) h =
 pub record IsSmall (c : ScaleData) : Type 0 where
   pub sources : sum c.sources ≤ 512
   pub filters_few : length c.filters ≤ 32
-  pub filters : All (λ f. f.parallelism ≤ 64) c.filters
-  pub window : c.window ≤ 64
+  pub filters : All (λ f. f.parallelism ≤ MOST_SUBTASKS) c.filters
+  pub window : c.window ≤ MOST_SUBTASKS
 
 pub small : (plan : PlanData) (c : ScaleData) → IsPlan plan → IsCounted plan c → IsSmall c
 small plan c p h = record {

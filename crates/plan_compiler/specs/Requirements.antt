@@ -3,6 +3,7 @@ use Rattle.std.specs.Prelude.{min, pos, nat_le, Bool, List, [], ◌∷◌, Optio
 use Rattle.std.specs.List.{list_all, list_any}
 use Rattle.logical_plan.specs.PlanData.{PlanData, uids}
 use Rattle.logical_plan.specs.Requirements.{is_within}
+use Rattle.key_groups.specs.declared.limits.TheConstants.{MOST_SUBTASKS}
 use Rattle.plan_compiler.specs.declared.fault.ScaleFault.{ScaleFault}
 use Rattle.plan_compiler.specs.declared.fault.ScaleFault.TheVariants.{UnknownUid, MissingUid, Parallelism, Ring, Tasks}
 use Rattle.layout_rules.specs.Stages.{tasks}
@@ -20,7 +21,7 @@ has_all_uids plan text = list_all (λ uid. list_any (λ m. bytes_eq m.0 uid) tex
 
 -- each parallelism is 1 to 64, and no more than there are key groups
 unfoldable pub has_parallelism : PlanData → ScaleText → Bool
-has_parallelism plan text = list_all (λ m. is_within (pos 1) (pos (min 64 plan.max)) m.1.parallelism) text.operators
+has_parallelism plan text = list_all (λ m. is_within (pos 1) (pos (min MOST_SUBTASKS plan.max)) m.1.parallelism) text.operators
 
 -- a ring holds 1 to 1,024 messages
 unfoldable pub has_ring : PlanData → ScaleText → Bool

@@ -3,6 +3,7 @@
 ghost use Rattle.std.specs.Prelude.{◌≡◌, true, map, pos, unsigned_abs, IfOk, option_copied, bytes_eq, string_bytes};
 ghost use Rattle.std.specs.List.{list_all, find};
 ghost use Rattle.logical_plan.specs.Requirements.{is_within};
+ghost use Rattle.key_groups.specs.declared.limits.TheConstants.{MOST_SUBTASKS};
 ghost use Rattle.layout_rules.specs.Scale.{IsScale};
 ghost use Rattle.plan_compiler.specs.Draft.{operators_draft_text, draft_text};
 ghost use Rattle.plan_compiler.specs.Said.{operator_under, parallelism_under, filter_under, scale_of as scale_said, single_scale};
@@ -38,7 +39,7 @@ fn operator_named(operators: &[OperatorDraft], uid: &str) -> OperatorText
 }
 
 fn narrow(parallelism: i64) -> u32
-    requires { is_within (pos 1) (pos 64) parallelism ≡ true }
+    requires { is_within (pos 1) (pos MOST_SUBTASKS) parallelism ≡ true }
     ensures { result ≡ unsigned_abs parallelism }
 {
     parallelism as u32
@@ -46,14 +47,14 @@ fn narrow(parallelism: i64) -> u32
 
 #[tactic(auto, using(crate::proofs::Named::within_under))]
 fn parallelism_of(operators: &[OperatorDraft], uid: &str) -> u32
-    requires { list_all (λ m. is_within (pos 1) (pos 64) m.1.parallelism) (operators_draft_text operators.now) ≡ true }
+    requires { list_all (λ m. is_within (pos 1) (pos MOST_SUBTASKS) m.1.parallelism) (operators_draft_text operators.now) ≡ true }
     ensures { result ≡ parallelism_under uid.now (operators_draft_text operators.now) }
 {
     narrow(operator_named(operators, uid).parallelism)
 }
 
 fn filter_of(operators: &[OperatorDraft], uid: &str) -> FilterScale
-    requires { list_all (λ m. is_within (pos 1) (pos 64) m.1.parallelism) (operators_draft_text operators.now) ≡ true }
+    requires { list_all (λ m. is_within (pos 1) (pos MOST_SUBTASKS) m.1.parallelism) (operators_draft_text operators.now) ≡ true }
     ensures { result ≡ filter_under uid.now (operators_draft_text operators.now) }
 {
     FilterScale {
@@ -67,7 +68,7 @@ fn sources_of(
     specs: &[SourceSpec],
     operators: &[OperatorDraft],
 ) -> Result<Vec<u32>, AllocError>
-    requires { list_all (λ m. is_within (pos 1) (pos 64) m.1.parallelism) (operators_draft_text operators.now) ≡ true }
+    requires { list_all (λ m. is_within (pos 1) (pos MOST_SUBTASKS) m.1.parallelism) (operators_draft_text operators.now) ≡ true }
     ensures { IfOk result (λ v. v.items ≡ map (λ s. parallelism_under s.uid (operators_draft_text operators.now)) specs.now) }
 {
     specs
@@ -81,7 +82,7 @@ fn filters_of(
     specs: &[FilterSpec],
     operators: &[OperatorDraft],
 ) -> Result<Vec<FilterScale>, AllocError>
-    requires { list_all (λ m. is_within (pos 1) (pos 64) m.1.parallelism) (operators_draft_text operators.now) ≡ true }
+    requires { list_all (λ m. is_within (pos 1) (pos MOST_SUBTASKS) m.1.parallelism) (operators_draft_text operators.now) ≡ true }
     ensures { IfOk result (λ v. v.items ≡ map (λ f. filter_under f.uid (operators_draft_text operators.now)) specs.now) }
 {
     specs

@@ -8,6 +8,7 @@ ghost use Rattle.plan_compiler.specs.Draft.{draft_text};
 ghost use Rattle.plan_compiler.specs.Requirements.{has_known_uids as known_uids_are_met, has_all_uids as all_uids_are_met, has_parallelism as parallelism_is_met};
 
 use crate::scale_text::{OperatorDraft, ScaleDraft};
+use key_groups::MOST_SUBTASKS;
 use logical_plan::{FilterSpec, Plan, SourceSpec};
 
 /// Whether each member has the uid of an operator of the plan.
@@ -74,7 +75,7 @@ pub fn has_parallelism(plan: &Plan, draft: &ScaleDraft) -> bool
     ensures says { result ≡ parallelism_is_met plan.now (draft_text draft.now) }
     ensures sound { IsPlan plan.now }
 {
-    are_counts(plan.max().min(64), draft.operators.as_slice())
+    are_counts(plan.max().min(MOST_SUBTASKS), draft.operators.as_slice())
 }
 
 fn are_counts(most: u32, operators: &[OperatorDraft]) -> bool

@@ -2,6 +2,7 @@
 
 ghost use Rattle.std.specs.Prelude.{◌≡◌, ◌≤◌, ◌*◌, sum, length};
 ghost use Rattle.std.specs.List.{All};
+ghost use Rattle.key_groups.specs.declared.limits.TheConstants.{MOST_SUBTASKS};
 ghost use Rattle.plan_compiler.specs.Tasks.{only_one as only_parallelism, joins as joins_said, filter_tasks as tasks_of_filters, task_count as tasks_said};
 
 use crate::scale::Scale;
@@ -25,9 +26,9 @@ fn joins(before: Option<u32>, filter: FilterScale) -> bool
 /// The tasks of the stages that filters open. `before` is the parallelism of the stage before them, if it may be joined.
 fn filter_tasks(before: Option<u32>, filters: &[FilterScale]) -> u32
     requires few { length filters.now ≤ 32 }
-    requires small { All (λ f. f.parallelism ≤ 64) filters.now }
+    requires small { All (λ f. f.parallelism ≤ MOST_SUBTASKS) filters.now }
     ensures says { result ≡ tasks_of_filters before filters.now }
-    ensures bounded { result ≤ 64 * length filters.now }
+    ensures bounded { result ≤ MOST_SUBTASKS * length filters.now }
 {
     let mut count = 0;
     let mut before = before;
@@ -44,8 +45,8 @@ fn filter_tasks(before: Option<u32>, filters: &[FilterScale]) -> u32
 pub fn task_count(scale: &Scale) -> u32
     requires sources_small { sum scale.now.sources ≤ 512 }
     requires filters_few { length scale.now.filters ≤ 32 }
-    requires filters_small { All (λ f. f.parallelism ≤ 64) scale.now.filters }
-    requires window_small { scale.now.window ≤ 64 }
+    requires filters_small { All (λ f. f.parallelism ≤ MOST_SUBTASKS) scale.now.filters }
+    requires window_small { scale.now.window ≤ MOST_SUBTASKS }
     ensures { result ≡ tasks_said scale.now }
 {
     let sources = scale.sources();
