@@ -1,19 +1,20 @@
 -- Of places that ascend, those that fire come first.
-use Rattle.std.proofs.Common.{◌≡◌, ℤ, pos, ◌+ℤ◌, ◌-ℤ◌, Bool, true, false, cond, ◌||◌, List, [], ◌∷◌, refl, sym, ap, subst, ◌∙◌, arith, Option, Some, None, if◌then◌else◌}
+use Rattle.std.proofs.Common.{◌≡◌, ℤ, pos, ◌+ℤ◌, ◌-ℤ◌, ◌-◌, ◌<◌, length, slice_get, Bool, true, false, not, cond, ◌||◌, List, [], ◌∷◌, refl, sym, ap, subst, ◌∙◌, arith, Option, Some, None, if◌then◌else◌}
 use Rattle.std.specs.Prelude.{int_le}
-use Rattle.std.specs.List.{AllByRecursion}
+use Rattle.std.specs.List.{All, AllByRecursion}
 use Rattle.std.specs.Option.{is_some}
 use Rattle.std.specs.List.Sorted.{IsStrictlySortedBy}
-use Rattle.std.specs.Ordering.{is_eq, int_cmp, ordering_then}
+use Rattle.std.specs.Ordering.{is_eq, is_lt, int_cmp, ordering_then}
 use Rattle.std.specs.declared.cmp.Ordering.TheVariants.{Less}
 use Rattle.std.proofs.lemmas.Int.{ints}
-use Rattle.std.proofs.lemmas.List.Elements.{All-nil, All-cons, All-head, All-tail}
+use Rattle.std.proofs.lemmas.List.Elements.{All-nil, All-cons, All-head, All-tail, All-weaker}
+use Rattle.std.proofs.lemmas.Option.{get_or_from_slice_get}
 use Rattle.logical_plan.specs.declared.spec.WindowSpec.{WindowSpec}
 use Rattle.logical_plan.specs.declared.spec.Place.{Place}
 use Rattle.logical_plan.specs.Rows.{place_cmp, is_due, row_at}
 use Rattle.aggregates.specs.Kinds.{AccData}
 use Rattle.window_state.specs.Windows.{acc_at, is_place, AreOrdered}
-use Rattle.window_state.specs.Firing.{rows_due, NoneDue}
+use Rattle.window_state.specs.Firing.{rows_due, AllDue, NoneDue}
 use Rattle.window_state.specs.Parts.{with_entry, entries_at}
 use Rattle.window_state.proofs.Updates.{place_from_test}
 use Rattle.window_state.proofs.Entries.{tied}
@@ -44,17 +45,19 @@ no_rows w t es (p ∷ ps) h =
           ∙ no_rows w t es ps (All-tail (λ (q : Place). is_due w t q.start ≡ false) p ps h)
     ]
 
--- and no window that fires
-absent : (w : WindowSpec) (t : ℤ) (q : Place) (ps : List Place) → NoneDue w t ps → is_due w t q.start ≡ true → has_place ps q ≡ false
-absent w t q [] h due = refl
-absent w t q (p ∷ ps) h due = by_case (is_eq (place_cmp q p)) refl (absent w t q ps (All-tail (λ (x : Place). is_due w t x.start ≡ false) p ps h) due)
+clash : (b x y : Bool) → not b ≡ b → x ≡ y
+clash true x y h = absurd cc
+clash false x y h = absurd cc
+
+-- where all fire, or none, no other stands there
+absent : (w : WindowSpec) (t : ℤ) (q : Place) (b : Bool) (ps : List Place) → All (λ (p : Place). is_due w t p.start ≡ b) ps → is_due w t q.start ≡ not b → has_place ps q ≡ false
+absent w t q b [] h other = refl
+absent w t q b (p ∷ ps) h other = by_case (is_eq (place_cmp q p)) refl (absent w t q b ps (All-tail (λ (x : Place). is_due w t x.start ≡ b) p ps h) other)
   where
-    by_case : (b : Bool) → is_eq (place_cmp q p) ≡ b → has_place ps q ≡ false → (is_eq (place_cmp q p) || has_place ps q) ≡ false
-    by_case true e others = absurd (
-        let here : is_due w t p.start ≡ false = All-head (λ (q : Place). is_due w t q.start ≡ false) p ps h in
-        let no : true ≡ false = sym due ∙ ap (λ (x : Place). is_due w t x.start) (place_from_test q p (sym (tied q p) ∙ e)) ∙ here in
-        cc
-        )
+    by_case : (same : Bool) → is_eq (place_cmp q p) ≡ same → has_place ps q ≡ false → (is_eq (place_cmp q p) || has_place ps q) ≡ false
+    by_case true e others =
+        let here : is_due w t p.start ≡ b = All-head (λ (q : Place). is_due w t q.start ≡ b) p ps h in
+        clash b _ _ (sym other ∙ ap (λ (x : Place). is_due w t x.start) (place_from_test q p (sym (tied q p) ∙ e)) ∙ here)
     by_case false e others = ap (λ b. b || has_place ps q) e ∙ others
 
 none_there : (o : Option AccData) → is_some o ≡ false → o ≡ None
@@ -67,8 +70,31 @@ pub left_over : (w : WindowSpec) (t : ℤ) (q : Place) (ps : List Place) (m n : 
 left_over w t q ps m n order none later = by_case (is_due w t q.start) refl
   where
     by_case : (b : Bool) → is_due w t q.start ≡ b → acc_at n q ≡ cond b None (acc_at m q)
-    by_case true due = none_there (acc_at n q) (sym (order.those q) ∙ absent w t q ps none due)
+    by_case true due = none_there (acc_at n q) (sym (order.those q) ∙ absent w t q false ps none due)
     by_case false due = later due
+
+not_after : (a b k l size t : ℤ) → int_le (a +ℤ size -ℤ pos 1) t ≡ true → is_lt (ordering_then (int_cmp a b) (int_cmp k l)) ≡ false → int_le (b +ℤ size -ℤ pos 1) t ≡ true
+not_after a b k l size t h least = grind (arith, ints)
+
+-- where the last fires, each does
+pub all_due : (w : WindowSpec) (t : ℤ) (p : Place) (ps : List Place) → All (λ (q : Place). is_lt (place_cmp p q) ≡ false) ps → is_due w t p.start ≡ true → AllDue w t ps
+all_due w t p ps greatest h =
+    All-weaker (λ (q : Place). is_lt (place_cmp p q) ≡ false) (λ (q : Place). is_due w t q.start ≡ true) (λ q least. not_after p.start q.start p.key q.key w.size t h least) ps greatest
+
+-- and only then
+pub last_due : (w : WindowSpec) (t : ℤ) (p : Place) (ps : List Place) → slice_get ps (length ps - 1) ≡ Some p → AllDue w t ps → is_due w t p.start ≡ true
+last_due w t p [] last h = absurd cc
+last_due w t p (x ∷ ps) last h =
+    let inside : length (x ∷ ps) - 1 < length (x ∷ ps) = omega arith in
+    subst (λ (q : Place). is_due w t q.start ≡ true) (get_or_from_slice_get (x ∷ ps) (length (x ∷ ps) - 1) p p last) (h (length (x ∷ ps) - 1) p inside)
+
+-- then nothing is left
+pub none_left : (w : WindowSpec) (t : ℤ) (q : Place) (ps : List Place) (m n : List (Place × AccData)) → AreOrdered ps m → AllDue w t ps → n ≡ [] → acc_at n q ≡ (if is_due w t q.start then None else acc_at m q)
+none_left w t q ps m n order all empty = ap (λ l. acc_at l q) empty ∙ by_case (is_due w t q.start) refl
+  where
+    by_case : (b : Bool) → is_due w t q.start ≡ b → None ≡ cond b None (acc_at m q)
+    by_case true due = refl
+    by_case false later = sym (none_there (acc_at m q) (sym (order.those q) ∙ absent w t q true ps all later))
 
 -- a window that does not fire stays where one that fires is taken out
 pub stays_later : (w : WindowSpec) (t : ℤ) (p q : Place) (m : List (Place × AccData)) → is_due w t p.start ≡ true → is_due w t q.start ≡ false → cond (is_place p q) None (acc_at m q) ≡ acc_at m q

@@ -1,12 +1,12 @@
 //! Windows that fire.
 
-ghost use Rattle.std.specs.Prelude.{◌≡◌, ◌∷◌, true, None, IfSome, IfNone, IfOk, if◌then◌else◌};
+ghost use Rattle.std.specs.Prelude.{◌≡◌, ◌∷◌, ◌↔◌, true, None, IfSome, IfNone, IfOk, if◌then◌else◌};
 ghost use Rattle.std.specs.List.Sorted.{IsStrictlySortedBy};
 ghost use Rattle.logical_plan.specs.Rows.{is_due as due, place_cmp, row_at};
 ghost use Rattle.aggregates.specs.Kinds.{AccData};
 ghost use Rattle.logical_plan.specs.declared.spec.Place.{Place as PlaceValue};
 ghost use Rattle.window_state.specs.Windows.{AreWindows, AreOrdered, IsOperator, IsStart, acc_at};
-ghost use Rattle.window_state.specs.Firing.{rows_due, NoneDue, IsWithout};
+ghost use Rattle.window_state.specs.Firing.{rows_due, AllDue, NoneDue, IsWithout};
 ghost use Rattle.window_state.specs.Parts.{entries_at};
 
 use crate::adding::Windows;
@@ -71,8 +71,25 @@ pub(crate) fn remove_due(windows: &mut Windows, w: &WindowSpec, watermark: i64)
     ensures order { AreOrdered windows.new.places.keys windows.new.accs.entries }
     ensures left { (q : PlaceValue) → acc_at windows.new.accs.entries q ≡ (if due w.now watermark q.start then None else acc_at windows.old.accs.entries q) }
 {
-    while let Some(place) = pop_due(&mut windows.places, w, watermark) {
-        windows.accs.swap_remove(&place);
+    // Clearing takes time for each place that the map has memory for.
+    let is_filled = windows.accs.capacity() / 4 <= windows.accs.len();
+    if is_filled && are_all_due(&windows.places, w, watermark) {
+        windows.places.clear();
+        windows.accs.clear();
+    } else {
+        while let Some(place) = pop_due(&mut windows.places, w, watermark) {
+            windows.accs.swap_remove(&place);
+        }
+    }
+}
+
+/// Whether the window of each place fires by the watermark: that of the last does.
+fn are_all_due(places: &BTreeSet<Place>, w: &WindowSpec, watermark: i64) -> bool
+    ensures { result ≡ true ↔ AllDue w.now watermark places.now.keys }
+{
+    match places.last() {
+        Some(last) => is_due(w, watermark, last.start),
+        None => true,
     }
 }
 

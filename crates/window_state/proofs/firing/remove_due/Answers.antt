@@ -2,10 +2,11 @@ use Rattle.std.proofs.Common.{◌≡◌, ◌∙◌, None, subst, FitsSigned, ℤ
 use Rattle.window_state.specs.Windows.{acc_at}
 use Rattle.window_state.proofs.Entries.{windows_taken}
 use Rattle.window_state.proofs.Ordered.{order_taken}
-use Rattle.window_state.proofs.Due.{stays_later, left_over}
+use Rattle.window_state.proofs.Due.{stays_later, left_over, none_left}
 use Rattle.std.specs.Int.{w64}
 use Rattle.std.proofs.lemmas.Int.{to_z-of_z}
 use Rattle.logical_plan.specs.Rows.{is_due}
+use Rattle.window_state.specs.Firing.{AllDue}
 use Rattle.window_state.proofs.firing.remove_due.Goals as goal
 
 pub loop-place-preserved : goal.loop-place-preserved
@@ -22,8 +23,16 @@ loop-place-preserved c =
       later = λ q undue. taken q ∙ stays_later w held p q m c.in-Some.ensures.due undue ∙ c.loop-place.invariant.later q undue;
     }
 
-pub returns-clause-left : goal.returns-clause-left
-returns-clause-left c = λ q.
+pub returns-then-are_all_due-clause-left : goal.returns-then-are_all_due-clause-left
+returns-then-are_all_due-clause-left c = λ q.
+    let w = c.args.w.now in
+    let places = c.args.windows.now.places.keys in
+    let fits : FitsSigned w64 c.args.watermark = c.ranges.watermark in
+    let all = subst (λ (t : ℤ). AllDue w t places) (to_z-of_z w64 c.args.watermark fits) (c.are_all_due.ensures.0 c.if-are_all_due.true) in
+    none_left w c.args.watermark q places c.args.windows.now.accs.entries c.clear-then-are_all_due.new.self.entries c.requires.order all c.clear-then-are_all_due.ensures.empty
+
+pub returns-in_default-clause-left : goal.returns-in_default-clause-left
+returns-in_default-clause-left c = λ q.
     let m = c.args.windows.now.accs.entries in
     let n = c.loop-place.windows.accs.entries in
     let fits : FitsSigned w64 c.args.watermark = c.ranges.watermark in

@@ -1,0 +1,18 @@
+use Rattle.std.proofs.Common.{◌≡◌, ◌∙◌, ℤ, true, sym, rules, FitsSigned, to_z, of_z}
+use Rattle.std.specs.Int.{w64}
+use Rattle.std.proofs.lemmas.Int.{to_z-of_z}
+use Rattle.logical_plan.specs.Rows.{is_due}
+use Rattle.window_state.specs.Firing.{AllDue}
+use Rattle.window_state.proofs.Due.{all_due, last_due}
+use Rattle.window_state.proofs.firing.are_all_due.Goals as goal
+
+pub returns-in-Some : goal.returns-in-Some
+returns-in-Some c =
+    let w = c.args.w.now in
+    let t = c.args.watermark in
+    let p = c.in-Some.last.now in
+    let ps = c.args.places.now.keys in
+    let fits : FitsSigned w64 t = c.ranges.watermark in
+    let start_fits : FitsSigned w64 p.start = search rules in
+    let is : c.is_due.result ≡ is_due w t p.start = c.is_due.ensures ∙ (λ i. is_due w (to_z-of_z w64 t fits i) (to_z-of_z w64 p.start start_fits i)) in
+    (λ due. all_due w t p ps c.in-Some.ensures.all_up_to (sym is ∙ due), λ all. is ∙ last_due w t p ps c.in-Some.ensures.last all)
