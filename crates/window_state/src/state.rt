@@ -85,6 +85,7 @@ impl WindowState {
         ensures failed { IsErrOf result StateFault.Failed ↔ (self.old.has_failed ≡ true) }
         ensures kept { self.old.has_failed ≡ true → self.new ≡ self.old }
     {
+        // Rows of an earlier batch may be missing, so that no more are brought in.
         if self.has_failed {
             return Err(StateFault::Failed);
         }

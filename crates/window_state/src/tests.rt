@@ -1,12 +1,13 @@
-ghost use Rattle.std.specs.Prelude.{IfOk, ◌≡◌, ◌≤◌};
+ghost use Rattle.std.specs.Prelude.{IfOk, ◌≡◌, ◌≤◌, []};
 ghost use Rattle.std.specs.List.{All};
 ghost use Rattle.plain_data.specs.Record.{at};
 ghost use Rattle.logical_plan.specs.Windows.{IsTime};
 ghost use Rattle.window_state.specs.Windows.{CanAggregate};
+ghost use Rattle.window_state.specs.Parts.{IsPartOf};
 
 use super::*;
 use columns::Batch;
-use logical_plan::{Aggregate, WindowSpec};
+use logical_plan::{Aggregate, Place, WindowSpec};
 use plain_data::{Items, Text};
 use std::alloc::{AllocError, Global};
 use std::test::Fail;
@@ -43,6 +44,13 @@ fn batch(alloc: Global, records: &[(i32, i64)]) -> Result<Batch, Fail>
     Ok(Batch::from_rows(alloc, &rows, 2)?)
 }
 
+// A batch of no records.
+fn empty(alloc: Global) -> Result<Batch, Fail>
+    ensures { IfOk result (λ b. b ≡ record { width = 2; rows = [] }) }
+{
+    Ok(Batch::from_rows(alloc, &[], 2)?)
+}
+
 // The state of such windows that the records have reached.
 fn state(
     alloc: Global,
@@ -59,6 +67,14 @@ fn state(
     Ok(state)
 }
 
+// The count and the sum, which are all the numbers.
+fn numbers(numbers: &[i128]) -> Result<(i128, i128), Fail> {
+    match numbers {
+        [count, sum] => Ok((*count, *sum)),
+        _ => Err(Fail::new("not two numbers")),
+    }
+}
+
 // The starts, ends, keys, counts and sums of the rows that fire by the watermark.
 fn fired(
     alloc: Global,
@@ -69,10 +85,8 @@ fn fired(
 {
     let mut fired = Vec::new(alloc);
     for row in state.fire(watermark)?.iter() {
-        let values = row.values.as_slice();
-        let count = values.first().ok_or("no count")?;
-        let sum = values.last().ok_or("no sum")?;
-        fired.push((row.start, row.end, row.key, *count, *sum))?;
+        let (count, sum) = numbers(row.values.as_slice())?;
+        fired.push((row.start, row.end, row.key, count, sum))?;
     }
     Ok(fired)
 }
@@ -152,18 +166,34 @@ fn faults_have_their_codes(rt: HostRuntime) -> Result<(), Fail> {
     Ok(())
 }
 
-// The start, key and count of each part.
-fn contents(alloc: Global, parts: &[Part]) -> Result<Vec<(i64, i64, u64)>, Fail> {
+// The start and key, the count of records, and the two numbers of each part.
+fn contents(alloc: Global, parts: &[Part]) -> Result<Vec<(i64, i64, u64, i128, i128)>, Fail> {
     let mut contents = Vec::new(alloc);
     for part in parts {
-        contents.push((part.place.start, part.place.key, part.acc.count()))?;
+        let Place { start, key } = part.place;
+        let (count, sum) = numbers(part.acc.numbers())?;
+        contents.push((start, key, part.acc.count(), count, sum))?;
     }
     Ok(contents)
 }
 
 // What is held at each place.
-fn held(alloc: Global, state: &WindowState) -> Result<Vec<(i64, i64, u64)>, Fail> {
+fn held(alloc: Global, state: &WindowState) -> Result<Vec<(i64, i64, u64, i128, i128)>, Fail> {
     contents(alloc, &state.parts(alloc)?)
+}
+
+// The parts of the state that the records have reached.
+fn parts_of(
+    alloc: Global,
+    keys: HashKeys,
+    window: &WindowSpec,
+    records: &[(i32, i64)],
+) -> Result<Vec<Part>, Fail>
+    requires time { window.now.time ≡ 0 }
+    requires aggregates { CanAggregate 2 window.now }
+    ensures { IfOk result (λ parts. All (IsPartOf window.now) parts.items) }
+{
+    Ok(state(alloc, keys, window, records)?.parts(alloc)?)
 }
 
 // The state that the parts of a state make which the records have reached.
@@ -176,7 +206,7 @@ fn made_again(
     requires time { window.now.time ≡ 0 }
     requires aggregates { CanAggregate 2 window.now }
 {
-    let parts = state(alloc, keys, window, records)?.parts(alloc)?;
+    let parts = parts_of(alloc, keys, window, records)?;
     Ok(WindowState::from_parts(alloc, keys, window, &parts)?)
 }
 
@@ -188,7 +218,7 @@ fn a_state_has_its_parts(rt: HostRuntime) -> Result<(), Fail> {
     let state = state(alloc, HashKeys::random(&rt)?, &window, &records)?;
     assert_eq!(rt;
         held(alloc, &state)?.as_slice(),
-        [(0, -4, 1), (0, 7, 2), (10, 7, 1)].as_slice()
+        [(0, -4, 1, 1, -4), (0, 7, 2, 2, 14), (10, 7, 1, 1, 7)].as_slice()
     );
     Ok(())
 }
@@ -201,9 +231,38 @@ fn parts_make_the_state_again(rt: HostRuntime) -> Result<(), Fail> {
     let mut again = made_again(alloc, HashKeys::random(&rt)?, &window, &records)?;
     assert_eq!(rt;
         held(alloc, &again)?.as_slice(),
-        [(0, -4, 1), (0, 7, 2), (10, 7, 1)].as_slice()
+        [(0, -4, 1, 1, -4), (0, 7, 2, 2, 14), (10, 7, 1, 1, 7)].as_slice()
     );
     assert_eq!(rt; fired(alloc, &mut again, 9)?.len(), 2);
+    Ok(())
+}
+
+// The state that two states' parts make, those of the first before those of the second.
+fn made_of_both(
+    alloc: Global,
+    keys: HashKeys,
+    window: &WindowSpec,
+    first: &[(i32, i64)],
+    second: &[(i32, i64)],
+) -> Result<WindowState, Fail>
+    requires time { window.now.time ≡ 0 }
+    requires aggregates { CanAggregate 2 window.now }
+{
+    let mut parts = parts_of(alloc, keys, window, first)?;
+    parts.extend_from_slice(&parts_of(alloc, keys, window, second)?)?;
+    Ok(WindowState::from_parts(alloc, keys, window, &parts)?)
+}
+
+#[test]
+fn the_first_part_of_a_place_counts(rt: HostRuntime) -> Result<(), Fail> {
+    let alloc = rt.alloc();
+    let window = window(alloc, 10, 10)?;
+    let (first, second) = ([(0, 7), (9, 7), (9, -4)], [(3, 7), (14, 7)]);
+    let state = made_of_both(alloc, HashKeys::random(&rt)?, &window, &first, &second)?;
+    assert_eq!(rt;
+        held(alloc, &state)?.as_slice(),
+        [(0, -4, 1, 1, -4), (0, 7, 2, 2, 14), (10, 7, 1, 1, 7)].as_slice()
+    );
     Ok(())
 }
 
@@ -259,6 +318,17 @@ fn rising_watermarks_fire_each_window_once(rt: HostRuntime) -> Result<(), Fail> 
     Ok(())
 }
 
+#[test]
+fn all_windows_fire_in_one_go(rt: HostRuntime) -> Result<(), Fail> {
+    let alloc = rt.alloc();
+    let window = window(alloc, 10, 10)?;
+    let mut state = hundred(alloc, &window, HashKeys::random(&rt)?)?;
+    assert_eq!(rt; fired(alloc, &mut state, 999)?.len(), 100);
+    assert!(rt; held(alloc, &state)?.is_empty());
+    assert!(rt; fired(alloc, &mut state, i64::MAX)?.is_empty());
+    Ok(())
+}
+
 // What an `add` to a new state answers, and the state.
 fn added(
     alloc: Global,
@@ -268,6 +338,7 @@ fn added(
 ) -> Result<(Result<(), StateFault>, WindowState), Fail>
     requires time { window.now.time ≡ 0 }
     requires aggregates { CanAggregate 2 window.now }
+    ensures window { IfOk result (λ added. added.1.window ≡ window.now) }
 {
     let mut state = WindowState::new(alloc, keys, window)?;
     let answer = state.add(&batch(alloc, records)?);
@@ -283,6 +354,7 @@ fn a_state_that_found_no_memory_has_failed(rt: HostRuntime) -> Result<(), Fail> 
     let (answer, mut state) = added(alloc, keys, &window, &[(3, 7), (14, 7), (25, 8)])?;
     if answer.is_err() {
         assert_eq!(rt; answer, Err(StateFault::Memory));
+        assert_eq!(rt; state.add(&empty(alloc)?), Err(StateFault::Failed));
         assert_eq!(rt; state.fire(i64::MAX).err(), Some(StateFault::Failed));
         assert_eq!(rt; state.parts(alloc).err(), Some(StateFault::Failed));
     }

@@ -1,8 +1,7 @@
-use Rattle.std.proofs.Common.{◌≡◌, ◌∙◌, ℤ, true, sym, rules, FitsSigned, to_z, of_z}
+use Rattle.std.proofs.Common.{◌≡◌, ◌∙◌, sym, rules, FitsSigned}
 use Rattle.std.specs.Int.{w64}
 use Rattle.std.proofs.lemmas.Int.{to_z-of_z}
 use Rattle.logical_plan.specs.Rows.{is_due}
-use Rattle.window_state.specs.Firing.{AllDue}
 use Rattle.window_state.proofs.Due.{all_due, last_due}
 use Rattle.window_state.proofs.firing.are_all_due.Goals as goal
 
