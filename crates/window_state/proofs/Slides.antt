@@ -193,20 +193,6 @@ room_rows w rs i old now h few room is q a b has reached =
     let most = count_old w rs old q all.0 all.1 room (omega (arith, whole, count_at w rs q, few)) in
     omega (arith, count, one, part, whole, most)
 
-pub rows_none : (w : WindowSpec) (q : Place) → aggregate_at w [] q ≡ None
-rows_none w q = same_either (is_start w q.start)
-  where
-    same_either : (b : Bool) → (let none : Option Aggregated = None in cond b none none ≡ none)
-    same_either true = refl
-    same_either false = refl
-
-merge_None : (ks : List Aggregate) (x : Option Aggregated) → merge ks x None ≡ x
-merge_None ks None = refl
-merge_None ks (Some x) = refl
-
-pub rows_start : (w : WindowSpec) (q : Place) (x : Option Aggregated) → x ≡ merge w.aggregates x (aggregate_at w [] q)
-rows_start w q x = sym (ap (merge w.aggregates x) (rows_none w q) ∙ merge_None w.aggregates x)
-
 -- ---- the numbers of a window as the code holds them
 
 pub record Sliding (w : WindowSpec) (r : Record) (n m rest : ℕ) : Type 0 where
