@@ -11,8 +11,8 @@ Each FILE has a line of names first, and is one partition of the source SOURCE. 
     customer:name   a text, by its number in the file of --names: names that it has keep theirs, new ones are added
     status:ge:500   1 where the whole number is at least 500, else 0; eq, ne, lt, le and gt stand for the other comparisons
 
-An entry has at most 4,096 rows, or as many as --rows says. With --bound N the first column is the time, and each entry is
-followed by a watermark: the greatest time so far less N less 1. A record at or below a watermark is late and refused.
+An entry has at most 4,096 rows, or as many as --rows says. With --bound N the first column is the time, and a watermark stands
+between two entries: the greatest time so far less N less 1. A record at or below a watermark is late and refused.
 
 What cannot be kept exactly is refused with status 1, as `FILE:LINE: COLUMN: ..`. No number passes through a float. What
 stands on standard output is then no whole document, and streamjob refuses it, too.
@@ -54,6 +54,8 @@ def milliseconds(text):
     parts = TIME.fullmatch(text)
     if parts is None:
         raise Refused(f"{text!r} is no time with a zone, as 2026-03-01T12:00:00.5Z")
+    if len(parts[3] or "") > 3:
+        raise Refused(f"{text!r} is finer than milliseconds")
     zone = "+00:00" if parts[4] == "Z" else parts[4]
     try:
         time = datetime.datetime.fromisoformat(f"{parts[1]}T{parts[2]}{zone}")
@@ -83,21 +85,28 @@ def records(path, columns):
     """Each record of a file, with the number of its line."""
     with open(path, encoding="utf-8-sig", newline="") as file:
         lines = csv.reader(file, strict=True)
-        header = next(lines, [])
-        for field, _ in columns:
-            if header.count(field) != 1:
-                raise Refused(f"{path}:1: there has to be one column {field!r}; there are {', '.join(header)}")
-        places = [(field, header.index(field), number) for field, number in columns]
-        for cells in lines:
-            if len(cells) != len(header):
-                raise Refused(f"{path}:{lines.line_num}: {len(cells)} cells, and the first line has {len(header)}")
-            row = []
-            for field, place, number in places:
-                try:
-                    row.append(number(cells[place]))
-                except Refused as why:
-                    raise Refused(f"{path}:{lines.line_num}: {field}: {why}") from None
-            yield lines.line_num, row
+        try:
+            yield from rows_of(path, lines, columns)
+        except (csv.Error, UnicodeDecodeError) as why:
+            raise Refused(f"{path}: after line {lines.line_num}: {why}") from None
+
+
+def rows_of(path, lines, columns):
+    header = next(lines, [])
+    for field, _ in columns:
+        if header.count(field) != 1:
+            raise Refused(f"{path}:1: there has to be one column {field!r}; there are {', '.join(header)}")
+    places = [(field, header.index(field), number) for field, number in columns]
+    for cells in lines:
+        if len(cells) != len(header):
+            raise Refused(f"{path}:{lines.line_num}: {len(cells)} cells, and the first line has {len(header)}")
+        row = []
+        for field, place, number in places:
+            try:
+                row.append(number(cells[place]))
+            except Refused as why:
+                raise Refused(f"{path}:{lines.line_num}: {field}: {why}") from None
+        yield lines.line_num, row
 
 
 def entries(path, columns, bound, most):
@@ -166,15 +175,18 @@ def main():
     words = argparse.ArgumentParser(description=__doc__, formatter_class=argparse.RawDescriptionHelpFormatter)
     words.add_argument("--names", metavar="FILE")
     words.add_argument("--bound", type=int, metavar="N")
-    words.add_argument("--rows", type=int, metavar="N", default=MOST_ROWS, choices=range(1, MOST_ROWS + 1))
+    words.add_argument("--rows", type=int, metavar="N", default=MOST_ROWS)
     words.add_argument("--columns", required=True, metavar="COLUMN,..")
     words.add_argument("sources", nargs="+", metavar="SOURCE=FILE[,FILE..]")
     said = words.parse_args()
+    if not 1 <= said.rows <= MOST_ROWS:
+        raise Refused(f"--rows is 1 to {MOST_ROWS}")
     names = read_names(said.names)
     columns = [reader_of(column, names) for column in said.columns.split(",")]
     if said.names is None and any(column.endswith(":name") for column in said.columns.split(",")):
         raise Refused("a column of names needs --names FILE, so that the numbers can be read back")
     write_input(sources_of(said.sources), columns, said, sys.stdout)
+    sys.stdout.flush()
     if said.names is not None:
         write_names(said.names, names)
 
