@@ -10,6 +10,7 @@ Each FILE has a line of names first, and is one partition of the source SOURCE. 
     at:ms           a time in ISO 8601 with its zone, in milliseconds since 1970: 2026-03-01T12:00:00.5Z
     customer:name   a text, by its number in the file of --names: names that it has keep theirs, new ones are added
     status:ge:500   1 where the whole number is at least 500, else 0; eq, ne, lt, le and gt stand for the other comparisons
+    paid:eq:yes     1 where the text is just this, else 0; ne for the opposite
 
 An entry has at most 4,096 rows, or as many as --rows says. With --bound N the first column is the time, and a watermark stands
 between two entries: the greatest time so far less N less 1. A record at or below a watermark is late and refused.
@@ -64,6 +65,13 @@ def milliseconds(text):
     return (time - EPOCH) // datetime.timedelta(milliseconds=1) + scaled("0." + (parts[3] or "0"), 3)
 
 
+def bound_of(column, text):
+    try:
+        return scaled(text, 0)
+    except Refused as why:
+        raise Refused(f"--columns: {column}: {why}") from None
+
+
 def reader_of(column, names):
     """The field of a column, and the function from its text to its number."""
     field, *how = column.split(":")
@@ -76,8 +84,12 @@ def reader_of(column, names):
     if len(how) == 1 and re.fullmatch("[0-9]{1,2}", how[0]):
         return field, lambda text: scaled(text, int(how[0]))
     if len(how) == 2 and how[0] in ("eq", "ne", "lt", "le", "gt", "ge"):
-        compare, bound = getattr(operator, how[0]), scaled(how[1], 0)
-        return field, lambda text: int(compare(scaled(text, 0), bound))
+        compare = getattr(operator, how[0])
+        if DECIMAL.fullmatch(how[1]) is not None:
+            bound = bound_of(column, how[1])
+            return field, lambda text: int(compare(scaled(text, 0), bound))
+        if how[0] in ("eq", "ne"):
+            return field, lambda text: int(compare(text, how[1]))
     raise Refused(f"--columns: {column!r} is not understood")
 
 
