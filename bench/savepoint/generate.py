@@ -7,6 +7,11 @@ import struct
 import sys
 
 MAX = 128
+# The canonical record of the plan: 3 columns, 128 key groups, time and key; windows of 60,000; the source `s`; no filter;
+# count, and sum, least and greatest of column 2; no having condition.
+RECORD = bytes.fromhex(
+    "03 0080 00 01  000000000000ea60 000000000000ea60 0000000000000000  01 01 73  00  04 0000 0102 0202 0302  00"
+)
 
 
 def murmur_hash(code):
@@ -37,12 +42,11 @@ def entry(key):
 
 
 def main(path, entries):
-    record = bytes.fromhex("030080000100000000000000ea60000000000000ea600000000000000000") + bytes.fromhex("010173000400000102020203020000")[:13]
     groups = {}
     for key in range(entries):
         groups.setdefault(group_of(key), []).append(key)
     with open(path, "wb") as out:
-        out.write(b"WSP1" + struct.pack(">QH", 1, len(record)) + record + struct.pack(">H", MAX))
+        out.write(b"WSP1" + struct.pack(">QH", 1, len(RECORD)) + RECORD + struct.pack(">H", MAX))
         out.write(b"\x01\x01s\x01" + struct.pack(">Qq", 10, 59_999))
         out.write(b"\x01w\x04\x00\x01\x02\x03" + struct.pack(">H", len(groups)))
         for group in sorted(groups):
