@@ -8,13 +8,15 @@ use Rattle.std.proofs.lemmas.List.{length-map, drop-replicate}
 use Rattle.std.proofs.lemmas.List.Elements.{All-nil, All-cons, All-append, All-replicate, All-head, All-tail}
 use Rattle.std.proofs.Math.Seq.{take-append_seam, drop-append_seam}
 use Rattle.plain_data.specs.Record.{Record}
-use Rattle.logical_plan.specs.declared.spec.Aggregate.{Aggregate}
-use Rattle.logical_plan.specs.declared.spec.Aggregate.TheVariants as aggregate
-use Rattle.logical_plan.specs.Aggregates.{number_of, merge_numbers}
+use Rattle.plan_model.specs.declared.spec.Aggregate.{Aggregate}
+use Rattle.plan_model.specs.declared.spec.Aggregate.TheVariants as aggregate
+use Rattle.plan_model.specs.Aggregates.{number_of, merge_numbers}
 use Rattle.aggregates.specs.declared.kind.Kind.{Kind}
 use Rattle.aggregates.specs.declared.kind.Kind.TheVariants.{Count, Sum, Least, Greatest}
 use Rattle.aggregates.specs.declared.acc.Acc.TheInside.{Inside}
-use Rattle.aggregates.specs.Kinds.{AccData, IsAcc, kind_of, merge_by, merge_all, is_i64, is_number, are_numbers, padded}
+use Rattle.byte_fields.specs.Fields.{is_i64}
+use Rattle.byte_fields.proofs.Exact.{is_i64_from}
+use Rattle.aggregates.specs.Kinds.{AccData, IsAcc, kind_of, merge_by, merge_all, is_number, are_numbers, padded}
 use Rattle.aggregates.specs.Inside.{acc_view, IsInside}
 use Rattle.aggregates.specs.Fields.{length-front}
 
@@ -115,9 +117,6 @@ merge_numbers-kinds (aggregate.Count ∷ aggregates) (x ∷ xs) (y ∷ ys) = ap 
 merge_numbers-kinds (aggregate.Sum c ∷ aggregates) (x ∷ xs) (y ∷ ys) = ap (λ l. (x +ℤ y) ∷ l) (merge_numbers-kinds aggregates xs ys)
 merge_numbers-kinds (aggregate.Least c ∷ aggregates) (x ∷ xs) (y ∷ ys) = ap (λ l. int_min x y ∷ l) (merge_numbers-kinds aggregates xs ys)
 merge_numbers-kinds (aggregate.Greatest c ∷ aggregates) (x ∷ xs) (y ∷ ys) = ap (λ l. int_max x y ∷ l) (merge_numbers-kinds aggregates xs ys)
-
-pub is_i64-from : (z : ℤ) → FitsSigned w64 z → is_i64 z ≡ true
-is_i64-from z h = grind (arith, ints)
 
 one_number : (a : Aggregate) (r : Record) → is_i64 (number_of a r []) ≡ true → is_number 1 (kind_of a) (number_of a r []) ≡ true
 one_number aggregate.Count r h = refl

@@ -1,10 +1,11 @@
 -- Kinds of aggregates, and the numbers that they can have.
-use Rattle.std.specs.Prelude.{◌≡◌, ℕ, ℤ, pos, ◌+ℤ◌, ◌-◌, ◌*◌, ◌^◌, ◌≤◌, nat_le, int_le, neg_ℤ, unsigned_abs, Bool, true, false, ◌&&◌, List, [], ◌∷◌, ◌++◌, length, replicate}
+use Rattle.std.specs.Prelude.{◌≡◌, ℕ, ℤ, pos, ◌+ℤ◌, ◌-◌, ◌*◌, ◌^◌, ◌≤◌, nat_le, unsigned_abs, Bool, true, false, ◌&&◌, List, [], ◌∷◌, ◌++◌, length, replicate}
 use Rattle.std.specs.Int.{int_min, int_max}
 use Rattle.std.specs.Ordering.{int_eq}
-use Rattle.logical_plan.specs.declared.spec.Aggregate.{Aggregate}
-use Rattle.logical_plan.specs.declared.spec.Aggregate.TheVariants as aggregate
-use Rattle.logical_plan.specs.Aggregates.{Aggregated}
+use Rattle.byte_fields.specs.Fields.{is_i64}
+use Rattle.plan_model.specs.declared.spec.Aggregate.{Aggregate}
+use Rattle.plan_model.specs.declared.spec.Aggregate.TheVariants as aggregate
+use Rattle.plan_model.specs.Aggregates.{Aggregated}
 use Rattle.aggregates.specs.declared.kind.Kind.{Kind}
 use Rattle.aggregates.specs.declared.kind.Kind.TheVariants.{Count, Sum, Least, Greatest}
 
@@ -24,9 +25,6 @@ merge_by Greatest a b = int_max a b
 abbrev pub merge_all : List Kind → List ℤ → List ℤ → List ℤ
 merge_all (k ∷ ks) (x ∷ xs) (y ∷ ys) = merge_by k x y ∷ merge_all ks xs ys
 merge_all ks xs ys = []
-
-abbrev pub is_i64 : ℤ → Bool
-is_i64 z = int_le (neg_ℤ (pos (2 ^ 63))) z && int_le z (pos (2 ^ 63 - 1))
 
 -- a number that so many records can come to: the count itself, a sum of at most 2^63 for each, or one of the records' numbers
 abbrev pub is_number : ℕ → Kind → ℤ → Bool

@@ -1,14 +1,14 @@
 ghost use Rattle.std.specs.Prelude.{◌≡◌, ◌≤◌, ◌<◌, ◌+◌, ◌^◌, pos, [], ◌∷◌, map, length, slice_index_or, Option, Some, is_some, IfSome, List};
 ghost use Rattle.std.specs.List.{All};
-ghost use Rattle.logical_plan.specs.declared.spec.Aggregate.{Aggregate};
-ghost use Rattle.logical_plan.specs.PlanData.{has_column};
-ghost use Rattle.logical_plan.specs.Aggregates.{aggregate_of, merge};
+ghost use Rattle.plan_model.specs.declared.spec.Aggregate.{Aggregate};
+ghost use Rattle.plan_model.specs.PlanData.{has_column};
+ghost use Rattle.plan_model.specs.Aggregates.{aggregate_of, merge};
 ghost use Rattle.aggregates.specs.Kinds.{IsAcc, kind_of, is_entry};
 
 use crate::kind::Kind;
 use crate::numbers::{are_numbers, merge_into, write_kinds, write_numbers};
 use columns::Batch;
-use logical_plan::WindowSpec;
+use plan_model::WindowSpec;
 use std::marker::Model;
 
 /// The greatest number of aggregates.

@@ -1,7 +1,8 @@
 ghost use Rattle.std.specs.Prelude.{◌≡◌, ◌≤◌, ◌^◌};
-ghost use Rattle.aggregates.specs.Kinds.{kind_of, is_number, is_i64 as fits_i64};
+ghost use Rattle.byte_fields.specs.Fields as fields;
+ghost use Rattle.aggregates.specs.Kinds.{kind_of, is_number};
 
-use logical_plan::Aggregate;
+use plan_model::Aggregate;
 
 /// How an aggregate brings numbers together, whatever its column.
 #[derive(Clone, Copy, Debug, PartialEq, Eq)]
@@ -40,7 +41,7 @@ impl Kind {
 }
 
 fn is_i64(number: i128) -> bool
-    ensures { result ≡ fits_i64 number }
+    ensures { result ≡ fields.is_i64 number }
 {
     -(1 << 63) <= number && number <= (1 << 63) - 1
 }

@@ -2,13 +2,14 @@
 
 ghost use Rattle.std.specs.Prelude.{◌≡◌, true, ◌≤◌, ◌<◌, ◌+◌, ◌^◌, [], ◌∷◌, ◌++◌, map, take, drop, length, slice_index_or, unsigned_abs};
 ghost use Rattle.std.specs.List.{All};
-ghost use Rattle.logical_plan.specs.PlanData.{has_column};
-ghost use Rattle.logical_plan.specs.Aggregates.{number_of};
-ghost use Rattle.aggregates.specs.Kinds.{merge_by, merge_all, kind_of, are_numbers as numbers_are, is_i64 as fits_i64};
+ghost use Rattle.plan_model.specs.PlanData.{has_column};
+ghost use Rattle.plan_model.specs.Aggregates.{number_of};
+ghost use Rattle.byte_fields.specs.Fields as fields;
+ghost use Rattle.aggregates.specs.Kinds.{merge_by, merge_all, kind_of, are_numbers as numbers_are};
 
 use crate::kind::Kind;
 use columns::Batch;
-use logical_plan::Aggregate;
+use plan_model::Aggregate;
 
 /// The aggregate's number of one record.
 pub(crate) fn number_of_one(aggregate: Aggregate, batch: &Batch, row: usize) -> i64
@@ -48,7 +49,7 @@ pub(crate) fn write_numbers(
     requires row_in { row < length batch.now.rows }
     requires columns_in { All (has_column batch.now.width) aggregates.now }
     requires room { length aggregates.now ≤ length numbers.old }
-    ensures fit { All (λ a. fits_i64 (number_of a (slice_index_or batch.now.rows row []) []) ≡ true) aggregates.now }
+    ensures fit { All (λ a. fields.is_i64 (number_of a (slice_index_or batch.now.rows row []) []) ≡ true) aggregates.now }
     ensures written { numbers.new
         ≡ map (λ a. number_of a (slice_index_or batch.now.rows row []) []) aggregates.now ++ drop (length aggregates.now) numbers.old }
 {

@@ -1,15 +1,15 @@
 ghost use Rattle.std.specs.Prelude.{IfOk, ◌≡◌, length};
 ghost use Rattle.std.specs.List.{All};
-ghost use Rattle.logical_plan.specs.PlanData.{has_column};
+ghost use Rattle.plan_model.specs.PlanData.{has_column};
 
 use super::*;
 use columns::Batch;
-use logical_plan::{Aggregate, WindowSpec};
 use plain_data::{Items, Text};
+use plan_model::{Aggregate, Uid, WindowSpec};
 use std::alloc::{AllocError, Global};
 use std::test::Fail;
 
-// A window with an aggregate of each kind, over column 0.
+/// A window with an aggregate of each kind, over column 0.
 fn window(alloc: Global) -> Result<WindowSpec, AllocError>
     ensures all { IfOk result (λ w. All (has_column 1) w.aggregates) }
     ensures four { IfOk result (λ w. length w.aggregates ≡ 4) }
@@ -21,7 +21,7 @@ fn window(alloc: Global) -> Result<WindowSpec, AllocError>
         Aggregate::Greatest(0),
     ]?;
     Ok(WindowSpec {
-        uid: Text::from_string(String::new(alloc)),
+        uid: Uid::from_text(Text::from_string(String::from_str(alloc, "w")?)),
         time: 0,
         key: 0,
         size: 10,
@@ -32,7 +32,7 @@ fn window(alloc: Global) -> Result<WindowSpec, AllocError>
     })
 }
 
-// A batch of one column.
+/// A batch of one column.
 fn column(alloc: Global, numbers: &[i64]) -> Result<Batch, Fail> {
     let mut rows = Vec::new(alloc);
     for number in numbers {

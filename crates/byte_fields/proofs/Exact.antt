@@ -1,13 +1,13 @@
 -- A format is exact where what is read is spelled so, and what is spelled so is read. Each combinator keeps that, so a layout
 -- that is put together of them is exact by its definition alone.
 use Rattle.std.proofs.Common.{◌≡◌, ℕ, zero, suc, ◌-◌, ◌+◌, ◌*◌, ◌/◌, ◌%◌, ◌^◌, ◌<◌, ◌≤◌, ℤ, pos, negsuc, Bool, true, false, cond, ltb, eqb, ◌&&◌, List, [], ◌∷◌, ◌++◌, length, get_or, take, drop, Option, Some, None, Result, Ok, Err, refl, sym, ap, subst, ◌∙◌, append_assoc, arith, inl, inr}
-use Rattle.std.specs.Prelude.{FitsSigned, nat_lt, bytes_eq}
+use Rattle.std.specs.Prelude.{FitsSigned, nat_le, nat_lt, bytes_eq}
 use Rattle.std.proofs.lemmas.Slice.Eq.{bytes_eq-Decides}
 use Rattle.std.proofs.lemmas.Grind.{common_steps}
 use Rattle.std.proofs.lemmas.List.Elements.{All-nil, All-cons, All-head, All-tail}
 use Rattle.std.proofs.lemmas.Option.{slice_get_read}
 use Rattle.std.proofs.Math.Seq.{get_or-append_seam}
-use Rattle.std.specs.List.{All, flat_map}
+use Rattle.std.specs.List.{All, flat_map, list_all}
 use Rattle.std.specs.Int.{Width, w8, w16, w64, w128, byte_len, from_be_bytes, to_be_bytes, cast_signed, cast_unsigned}
 use Rattle.std.proofs.Math.Facts.{sfits_to_z, Fits-of_z}
 use Rattle.std.proofs.lemmas.Int.{to_z-of_z, of_z-to_z}
@@ -15,12 +15,12 @@ use Rattle.std.proofs.lemmas.Bool.{cases_lt, ltb-false, le-ltb, lt-ltb, ltb-true
 use Rattle.std.proofs.lemmas.List.{take_at, drop_at, take-append-drop, length-append, length-take, get_or-drop, get_or-take, get_or_past, append-nil, nil_from_length}
 use Rattle.std.proofs.lemmas.Nat.{be_bytes_2, be_bytes_8, from_be_bytes-to_be_bytes_2, from_be_bytes-to_be_bytes_8}
 use Rattle.byte_fields.specs.declared.fault.FieldFault.{FieldFault}
-use Rattle.byte_fields.specs.declared.fault.FieldFault.TheVariants.{Magic, Truncated, Trailing}
+use Rattle.byte_fields.specs.declared.fault.FieldFault.TheVariants.{Magic, Truncated, Trailing, Range}
 use Rattle.byte_fields.specs.declared.fault.ReadFault.{ReadFault}
 use Rattle.byte_fields.specs.declared.fault.ReadFault.TheVariants as faults
 use Rattle.byte_fields.specs.Format.{◌>>=◌, Format, raw, number, where_it, before, seen_as, as_record, marked, whole}
-use Rattle.byte_fields.specs.Lists.{nothing, as_list, chain, last_of, with_length, the_list, counted, sized}
-use Rattle.byte_fields.specs.Fields.{u8_field, u16_field, u64_field, i64_field, u128_field, i128_field, is_i64, is_i128}
+use Rattle.byte_fields.specs.Lists.{nothing, as_list, chain, last_of, with_length, the_list, counted, listed, sized}
+use Rattle.byte_fields.specs.Fields.{u8_field, few_field, u16_field, u64_field, i64_field, u128_field, i128_field, is_i64, is_i128}
 use Rattle.byte_fields.specs.Reads.{Fails}
 
 abbrev pub IsBytes : List ℕ → Type 0
@@ -266,6 +266,10 @@ pub u8_exact : IsExact u8_field
 unfolding u8_field
 u8_exact = number_exact w8 wide8
 
+pub few_exact : (most : ℕ) → IsExact (few_field most)
+unfolding few_field
+few_exact most = where_exact (λ n. nat_le 1 n && nat_le n most) Range u8_field u8_exact
+
 pub u16_exact : IsExact u16_field
 unfolding u16_field
 u16_exact = number_exact w16 wide16
@@ -278,11 +282,11 @@ u128_exact : IsExact u128_field
 unfolding u128_field u64_field
 u128_exact = seen_exact (λ p. p.0 * 2 ^ 64 + p.1) (λ n. (n / 2 ^ 64, n % 2 ^ 64)) (λ n. nat_lt n (2 ^ 128)) (before u64_field (λ _. u64_field)) (before_exact u64_field (λ _. u64_field) u64_exact (λ _. u64_exact)) wide_there wide_back
 
-fits_long : (z : ℤ) → is_i64 z ≡ true → FitsSigned w64 z
+pub fits_long : (z : ℤ) → is_i64 z ≡ true → FitsSigned w64 z
 fits_long (pos n) h = record { sfits = ltb-true _ _ h }
 fits_long (negsuc n) h = record { sfits = ltb-true _ _ h }
 
-is_i64_from : (z : ℤ) → FitsSigned w64 z → is_i64 z ≡ true
+pub is_i64_from : (z : ℤ) → FitsSigned w64 z → is_i64 z ≡ true
 is_i64_from (pos n) h = lt-ltb _ _ h.sfits
 is_i64_from (negsuc n) h = lt-ltb _ _ h.sfits
 
@@ -434,6 +438,27 @@ unfolding counted
 counted_exact {X} count item exact items =
     with_its_length (before count (λ n. chain item None n)) (before_exact count (λ n. chain item None n) exact (λ n. chain_exact item items None n))
     (λ x h. chain-length item None x.0 x.1 (both (count.fits x.0) ((chain item None x.0).fits x.1) h).1)
+
+-- items that do not depend on one another fit where each of them does
+chain-each : {X : Type 0} (item : Format X) (last : Option X) (xs : List X) → (chain (λ _. item) last (length xs)).fits xs ≡ list_all item.fits xs
+unfolding chain
+chain-each item last [] = refl
+chain-each item last (x ∷ xs) = ap (λ (b : Bool). item.fits x && b) (chain-each item (Some x) xs)
+
+listed-fits : {X : Type 0} (count : Format ℕ) (item : Format X) (xs : List X) → (counted count (λ _. item)).fits xs ≡ (listed count item).fits xs
+unfolding counted
+listed-fits count item xs = ap (λ (b : Bool). count.fits (length xs) && b) (chain-each item None xs)
+
+pub listed_exact : {X : Type 0} (count : Format ℕ) (item : Format X) → IsExact count → IsExact item → IsExact (listed count item)
+listed_exact {X} count item exact items =
+    let all = counted_exact count (λ _. item) exact (λ _. items) in
+    let spelled = counted-spell count (λ _. item) item.spell (λ last x. refl) in
+    record {
+      takes = λ bytes x fits e.
+          let t = all.takes bytes x fits e in
+          record { parts = t.parts ∙ ap (λ (front : List ℕ). front ++ x.1) (spelled x.0); rest_fits = t.rest_fits; fits = sym (listed-fits count item x.0) ∙ t.fits };
+      again = λ x rest h. ap (λ (front : List ℕ). (counted count (λ _. item)).read (front ++ rest)) (sym (spelled x)) ∙ all.again x rest (listed-fits count item x ∙ h);
+    }
 
 pub sized_exact : (count : Format ℕ) → IsExact count → IsExact (sized count)
 unfolding sized

@@ -1,10 +1,15 @@
 -- The fields of numbers. Opaque, so that goals show the field and not its bytes.
-use Rattle.std.specs.Prelude.{ℕ, ◌+◌, ◌*◌, ◌/◌, ◌%◌, ◌^◌, ℤ, pos, negsuc, Bool, nat_lt}
+use Rattle.std.specs.Prelude.{ℕ, ◌+◌, ◌*◌, ◌/◌, ◌%◌, ◌^◌, ℤ, pos, negsuc, Bool, ◌&&◌, nat_le, nat_lt}
 use Rattle.std.specs.Int.{w8, w16, w64, w128, cast_signed, cast_unsigned}
-use Rattle.byte_fields.specs.Format.{Format, number, before, seen_as}
+use Rattle.byte_fields.specs.declared.fault.FieldFault.TheVariants.{Range}
+use Rattle.byte_fields.specs.Format.{Format, number, where_it, before, seen_as}
 
 unfoldable pub u8_field : Format ℕ
 u8_field = number w8
+
+-- a number from 1 to a bound, in a byte
+unfoldable pub few_field : ℕ → Format ℕ
+few_field most = where_it (λ n. nat_le 1 n && nat_le n most) Range u8_field
 
 unfoldable pub u16_field : Format ℕ
 u16_field = number w16

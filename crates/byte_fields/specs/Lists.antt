@@ -1,5 +1,6 @@
 -- Lists with their count before them.
-use Rattle.std.specs.Prelude.{ℕ, zero, suc, Bool, true, false, List, [], ◌∷◌, length, ◌-◌, slice_get, Option, Some, None, Ok}
+use Rattle.std.specs.Prelude.{ℕ, zero, suc, Bool, true, false, ◌&&◌, List, [], ◌∷◌, ◌++◌, length, ◌-◌, slice_get, Option, Some, None, Ok}
+use Rattle.std.specs.List.{flat_map, list_all}
 use Rattle.byte_fields.specs.Format.{◌>>=◌, Format, raw, before, seen_as}
 
 abbrev pub is_empty : {X : Type 0} → List X → Bool
@@ -41,6 +42,14 @@ unfoldable pub counted : {X : Type 0} → Format ℕ → (Option X → Format X)
 counted {X} count item =
     let both : Format (ℕ × List X) = before count (λ n. chain item None n) in
     seen_as the_list with_length (λ xs. both.fits (with_length xs)) both
+
+-- the same of items that do not depend on one another
+abbrev pub listed : {X : Type 0} → Format ℕ → Format X → Format (List X)
+listed count item = record {
+  spell = λ xs. count.spell (length xs) ++ flat_map item.spell xs;
+  fits = λ xs. count.fits (length xs) && list_all item.fits xs;
+  read = (counted count (λ _. item)).read;
+}
 
 -- a length, and so many bytes
 unfoldable pub sized : Format ℕ → Format (List ℕ)

@@ -1,9 +1,9 @@
 //! The fields read from the front of bytes: each with the bytes behind it.
 
-ghost use Rattle.std.specs.Prelude.{◌≡◌};
+ghost use Rattle.std.specs.Prelude.{◌≡◌, ◌≤◌, IfOk};
 ghost use Rattle.byte_fields.specs.Reads.{Reads};
 ghost use Rattle.byte_fields.specs.Format.{raw};
-ghost use Rattle.byte_fields.specs.Fields.{u8_field, u16_field, u64_field, i64_field, u128_field, i128_field};
+ghost use Rattle.byte_fields.specs.Fields.{u8_field, few_field, u16_field, u64_field, i64_field, u128_field, i128_field};
 
 use crate::fault::FieldFault;
 
@@ -35,6 +35,24 @@ pub fn read_u8(bytes: &[u8]) -> Result<(u8, &[u8]), FieldFault>
     }
     let (front, rest) = bytes.split_at(1);
     Ok((u8::from_be_bytes([front[0]]), rest))
+}
+
+/// A number from 1 to a bound, in a byte.
+///
+/// # Errors
+///
+/// `Truncated`, or `Range` where it is another number.
+#[tactic(auto, unfolding(crate::specs::Fields::few_field))]
+pub fn read_few(most: u8, bytes: &[u8]) -> Result<(u8, &[u8]), FieldFault>
+    ensures read { Reads (λ x. (x.0, x.1.now)) result ((few_field most).read bytes.now) }
+    ensures some { IfOk result (λ x. 1 ≤ x.0) }
+    ensures few { IfOk result (λ x. x.0 ≤ most) }
+{
+    let (count, rest) = read_u8(bytes)?;
+    if count < 1 || count > most {
+        return Err(FieldFault::Range);
+    }
+    Ok((count, rest))
 }
 
 /// A number of two bytes.

@@ -1,6 +1,6 @@
 -- The elements that a mask keeps.
 use Rattle.std.proofs.Common.{◌≡◌, ℕ, ◌+◌, ◌<◌, ◌≤◌, Bool, true, false, cond, List, [], ◌∷◌, ◌++◌, length, map, take, get_or, set, inl, inr, eq-eqb, ◌==◌, refl, sym, ap, ◌∙◌, arith}
-use Rattle.std.specs.List.{All, filter, range_with_len}
+use Rattle.std.specs.List.{All, range_with_len}
 use Rattle.std.proofs.lemmas.List.Elements.{All-nil, All-cons, All-head, All-tail, All-from_get_or}
 use Rattle.std.proofs.lemmas.List.FromFn.{fill_by_all, map-range_with_len_more, length-range_with_len, get_or-range_with_len}
 use Rattle.std.proofs.lemmas.List.{length-take-le, take_more, take-map, map-id, append-nil, length-map, get_or-map, get_or-set_same, get_or-set_other}
@@ -35,15 +35,6 @@ length-kept [] xs = omega arith
 length-kept (b ∷ bs) [] = omega arith
 length-kept (true ∷ bs) (x ∷ xs) = omega (arith, length-kept bs xs)
 length-kept (false ∷ bs) (x ∷ xs) = omega (arith, length-kept bs xs)
-
--- a mask of a test's answers keeps what the test passes
-pub kept-map_test : {X : Type 0} (test : X → Bool) (xs : List X) → kept (map test xs) xs ≡ filter test xs
-kept-map_test test [] = refl
-kept-map_test test (x ∷ xs) = one_more x xs (test x) (map test xs) (filter test xs) (kept-map_test test xs)
-  where
-    one_more : {X : Type 0} (x : X) (xs : List X) (b : Bool) (bs : List Bool) (ys : List X) → kept bs xs ≡ ys → kept (b ∷ bs) (x ∷ xs) ≡ cond b (x ∷ ys) ys
-    one_more x xs true bs ys e = ap (λ t. x ∷ t) e
-    one_more x xs false bs ys e = e
 
 -- the places below n that a mask keeps are below n, and at most n
 pub places_below : (mask : List Bool) (n : ℕ) → All (λ place. place < n) (kept mask (range_with_len 0 n))

@@ -41,7 +41,7 @@ impl Model for Batch {
 }
 
 impl Batch {
-    /// The batch of 1 to 16 columns that have `count` rows each, at most 4,096. No number is copied.
+    /// The batch of 1 to 16 columns that have `count` rows each, at most [`MOST_ROWS`]. No number is copied.
     pub fn from_columns(columns: Vec<Vec<i64>>, count: usize) -> Batch
         requires { AreColumns columns.items count }
         ensures { result ≡ record {
@@ -52,7 +52,7 @@ impl Batch {
         Batch { columns, count }
     }
 
-    /// How many rows there are: at most 4,096.
+    /// How many rows there are: at most [`MOST_ROWS`].
     pub fn len(&self) -> usize
         ensures says { result ≡ length self.now.rows }
         ensures small { length self.now.rows ≤ MOST_ROWS }

@@ -1,4 +1,5 @@
-// Batches made of the rows of one.
+//! Batches made of the rows of one.
+
 ghost use Rattle.std.specs.Prelude.{IfErr, IfOk, [], ◌<◌, ◌==◌, ◌≡◌, ◌≤◌, ℕ, length, map, pos, slice_index_or};
 ghost use Rattle.std.specs.List.{All, range_with_len};
 ghost use Rattle.columns.specs.Parts.{kept, kept_rows, piece, with_rows};
@@ -10,6 +11,10 @@ use std::alloc::{AllocError, Global};
 
 impl Batch {
     /// The rows whose place in the mask is true, in order. The mask has a place for each row.
+    ///
+    /// # Errors
+    ///
+    /// Only where memory runs out.
     pub fn keep(&self, alloc: Global, mask: &[bool]) -> Result<Batch, BatchFault>
         requires { length mask.now ≡ length self.now.rows }
         ensures kept { IfOk result (λ batch. batch ≡ with_rows self.now (kept_rows mask.now self.now.rows)) }
@@ -21,6 +26,10 @@ impl Batch {
 
     /// The rows in `n` pieces: piece t has the rows with target t, in order. There is a target below `n`
     /// for each row.
+    ///
+    /// # Errors
+    ///
+    /// Only where memory runs out.
     pub fn split(&self, alloc: Global, targets: &[u32], n: u32) -> Result<Vec<Batch>, BatchFault>
         requires alike { length targets.now ≡ length self.now.rows }
         requires below { All (λ target. target < n) targets.now }
@@ -35,6 +44,10 @@ impl Batch {
     }
 
     /// The same rows again.
+    ///
+    /// # Errors
+    ///
+    /// Only where memory runs out.
     pub fn copy(&self, alloc: Global) -> Result<Batch, BatchFault>
         ensures same { IfOk result (λ batch. batch ≡ self.now) }
         ensures only_memory { IfErr result (λ fault. fault ≡ BatchFault.Memory) }
@@ -49,7 +62,7 @@ impl Batch {
         })
     }
 
-    // The rows at some places, in the order of the places.
+    /// The rows at some places, in the order of the places.
     fn rows_at(&self, alloc: Global, places: &[usize]) -> Result<Batch, AllocError>
         requires inside { All (λ place. place < length self.now.rows) places.now }
         requires few { length places.now ≤ length self.now.rows }
@@ -66,7 +79,7 @@ impl Batch {
     }
 }
 
-// The numbers at some places of a column.
+/// The numbers at some places of a column.
 fn numbers_at(alloc: Global, column: &[i64], places: &[usize]) -> Result<Vec<i64>, AllocError>
     requires { All (λ place. place < length column.now) places.now }
     ensures { IfOk result (λ numbers. numbers.items ≡ map (λ place. slice_index_or column.now place (pos 0)) places.now) }
@@ -78,7 +91,7 @@ fn numbers_at(alloc: Global, column: &[i64], places: &[usize]) -> Result<Vec<i64
     Ok(numbers)
 }
 
-// The places at which the mask is true.
+/// The places at which the mask is true.
 fn true_places(alloc: Global, mask: &[bool]) -> Result<Vec<usize>, AllocError>
     ensures { IfOk result (λ places. places.items ≡ kept mask.now (range_with_len 0 (length mask.now))) }
 {
@@ -91,7 +104,7 @@ fn true_places(alloc: Global, mask: &[bool]) -> Result<Vec<usize>, AllocError>
     Ok(places)
 }
 
-// For each target below n the places at which it stands.
+/// For each target below n the places at which it stands.
 fn places_by_target(alloc: Global, targets: &[u32], n: u32) -> Result<Vec<Vec<usize>>, AllocError>
     requires { All (λ target. target < n) targets.now }
     ensures { IfOk result (λ lists. map (λ places. places.items) lists.items ≡ map (λ t. kept (map (λ target. target == t) targets.now) (range_with_len 0 (length targets.now))) (range_with_len 0 n)) }

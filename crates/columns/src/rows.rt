@@ -1,4 +1,5 @@
-// A batch of rows that are given one by one.
+//! A batch of rows that are given one by one.
+
 ghost use Rattle.std.specs.Prelude.{IfErr, IfNone, IfOk, OnOk, None, Some, ◌<◌, ◌==◌, ◌≡◌, ◌≢◌, ◌≤◌, length, map, not};
 ghost use Rattle.std.specs.List.{All, position, range_with_len};
 ghost use Rattle.plain_data.specs.Record.{column_of};
@@ -12,7 +13,9 @@ use std::alloc::{AllocError, Global};
 impl Batch {
     /// The batch of some rows, which have `width` numbers each: 1 to 16.
     ///
-    /// The first row of another length is refused by its place from 0, then more than 4,096 rows.
+    /// # Errors
+    ///
+    /// The first row of another length by its place from 0, then more than [`MOST_ROWS`] rows; `Memory`.
     pub fn from_rows(alloc: Global, rows: &[Vec<i64>], width: usize) -> Result<Batch, BatchFault>
         requires wide { 1 ≤ width }
         requires narrow { width ≤ 16 }
@@ -27,7 +30,7 @@ impl Batch {
     }
 }
 
-// The first row of another length.
+/// The first row of another length.
 fn odd_row(rows: &[Vec<i64>], width: usize) -> Option<usize>
     ensures first { result ≡ position (λ row. not (length row.items == width)) rows.now }
     ensures even { IfNone result (All (λ row. length row.items ≡ width) rows.now) }
@@ -35,7 +38,7 @@ fn odd_row(rows: &[Vec<i64>], width: usize) -> Option<usize>
     rows.iter().position(|row| row.len() != width)
 }
 
-// The first cause why rows make no batch.
+/// The first cause why rows make no batch.
 fn fault_in(rows: &[Vec<i64>], width: usize) -> Option<BatchFault>
     ensures first { result ≡ first_fault (rows_in rows.now) width }
     ensures even { IfNone result (All (λ row. length row.items ≡ width) rows.now) }
@@ -50,7 +53,7 @@ fn fault_in(rows: &[Vec<i64>], width: usize) -> Option<BatchFault>
     None
 }
 
-// The columns of rows of one width.
+/// The columns of rows of one width.
 fn columns_of(alloc: Global, rows: &[Vec<i64>], width: usize) -> Result<Vec<Vec<i64>>, AllocError>
     requires { All (λ row. length row.items ≡ width) rows.now }
     ensures { IfOk result (λ columns. map (λ c. c.items) columns.items ≡ map (λ c. column_of c (rows_in rows.now)) (range_with_len 0 width)) }
@@ -62,7 +65,7 @@ fn columns_of(alloc: Global, rows: &[Vec<i64>], width: usize) -> Result<Vec<Vec<
     Ok(columns)
 }
 
-// The number at c of each row.
+/// The number at c of each row.
 fn column_at(alloc: Global, rows: &[Vec<i64>], c: usize) -> Result<Vec<i64>, AllocError>
     requires { All (λ row. c < length row.items) rows.now }
     ensures { IfOk result (λ column. column.items ≡ column_of c (rows_in rows.now)) }
@@ -74,7 +77,7 @@ fn column_at(alloc: Global, rows: &[Vec<i64>], c: usize) -> Result<Vec<i64>, All
     Ok(column)
 }
 
-// The batch of rows of one width.
+/// The batch of rows of one width.
 fn batch_of(alloc: Global, rows: &[Vec<i64>], width: usize) -> Result<Batch, AllocError>
     requires sized { IsWidth width }
     requires even { All (λ row. length row.items ≡ width) rows.now }

@@ -6,7 +6,7 @@ fn row(alloc: Global, numbers: &[i64]) -> Result<Vec<i64>, AllocError> {
     Vec::from_slice(alloc, numbers)
 }
 
-// The rows 1, 2, 3 and on of one column.
+/// The rows 1, 2, 3 and on of one column.
 fn counted(alloc: Global, count: i64) -> Result<Vec<Vec<i64>>, AllocError> {
     let mut rows = Vec::new(alloc);
     for number in 1..=count {

@@ -1,26 +1,27 @@
 -- Records brought into a window state, part by part.
-use Rattle.std.proofs.Common.{◌≡◌, ℕ, ◌+◌, ◌^◌, ◌≤◌, false, List, [], ◌∷◌, ◌++◌, length, take, drop, get_or, ◌<◌, refl, sym, ap, subst, ◌∙◌, arith, length-append, Option, Some, None}
+use Rattle.std.proofs.Common.{◌≡◌, ℕ, ◌+◌, ◌^◌, ◌≤◌, false, List, [], ◌∷◌, ◌++◌, length, take, get_or, ◌<◌, refl, sym, ap, subst, ◌∙◌, arith, Option, Some, None}
 use Rattle.std.specs.List.{filter, flat_map}
 use Rattle.std.specs.FinMap.{FinMap, get, empty, get-empty}
 use Rattle.std.proofs.lemmas.List.Elements.{filter-append}
-use Rattle.std.proofs.lemmas.List.{take_more, take-append-drop, append-nil}
-use Rattle.std.proofs.lemmas.List.Concat.{flat_map-append}
+use Rattle.std.proofs.lemmas.List.{take_more, flat_map_more}
+use Rattle.std.proofs.lemmas.List.Folds.{length-flat_map-take}
+use Rattle.std.proofs.lemmas.List.Sums.{length-filter, count_by-le-length}
 use Rattle.plain_data.specs.Record.{Record}
-use Rattle.logical_plan.specs.declared.spec.FilterSpec.{FilterSpec}
-use Rattle.logical_plan.specs.declared.spec.Place.{Place}
-use Rattle.logical_plan.specs.declared.spec.WindowSpec.{WindowSpec}
-use Rattle.logical_plan.specs.PlanData.{PlanData}
-use Rattle.logical_plan.specs.Windows.{passes}
-use Rattle.logical_plan.specs.Aggregates.{Aggregated, merge}
-use Rattle.logical_plan.specs.Rows.{place_cmp, aggregate_at}
-use Rattle.logical_plan.proofs.Aggs.{merge_assoc}
-use Rattle.logical_plan.proofs.PlaceTotals.{aggregate_at-append}
-use Rattle.stream_input.specs.PlanRows.{passing, plan_aggregate}
+use Rattle.plan_model.specs.declared.spec.FilterSpec.{FilterSpec}
+use Rattle.plan_model.specs.declared.spec.Pane.{Pane}
+use Rattle.plan_model.specs.declared.spec.WindowSpec.{WindowSpec}
+use Rattle.plan_model.specs.PlanData.{PlanData}
+use Rattle.plan_model.specs.Windows.{passes}
+use Rattle.plan_model.specs.Aggregates.{Aggregated, merge}
+use Rattle.plan_model.specs.Rows.{pane_cmp, aggregate_at}
+use Rattle.plan_model.proofs.Facts.{merge_assoc}
+use Rattle.plan_model.proofs.Facts.{aggregate_at-append}
+use Rattle.stream_model.specs.PlanRows.{passing, plan_aggregate}
 use Rattle.window_state.specs.State.{StateData, HasRoomFor}
-use Rattle.window_state.proofs.Slides.{count_or, count_merge, count_at, length-filter}
+use Rattle.plan_model.proofs.Facts.{count_or, count_at, count_merge}
 use Rattle.job.specs.Folding.{CanTake, TakesIn, HasAll, HasRoom}
 
-plan_aggregate-append : (plan : PlanData) (xs ys : List Record) (q : Place)
+plan_aggregate-append : (plan : PlanData) (xs ys : List Record) (q : Pane)
     → plan_aggregate plan (xs ++ ys) q ≡ merge plan.window.aggregates (plan_aggregate plan xs q) (plan_aggregate plan ys q)
 plan_aggregate-append plan xs ys q =
     ap (λ rs. aggregate_at plan.window rs q) (filter-append (passes plan.filters) xs ys) ∙ aggregate_at-append plan.window (passing plan xs) (passing plan ys) q
@@ -37,7 +38,7 @@ takes_more plan xs ys a b c h k = record {
   whole = k.whole ∙ h.whole;
 }
 
-count_room : (n : ℕ) (m : FinMap place_cmp Aggregated) (q : Place) → HasRoom n m → n ≤ 2 ^ 41 → count_or (get m q) + n ≤ 2 ^ 41
+count_room : (n : ℕ) (m : FinMap pane_cmp Aggregated) (q : Pane) → HasRoom n m → n ≤ 2 ^ 41 → count_or (get m q) + n ≤ 2 ^ 41
 count_room n m q room few = by_case (get m q) refl
   where
     by_case : (o : Option Aggregated) → get m q ≡ o → count_or (get m q) + n ≤ 2 ^ 41
@@ -58,6 +59,7 @@ can_take_more plan all n xs a b can takes few = record {
         count_merge plan.window.aggregates (get a.windows q) (plan_aggregate plan xs q),
         count_at plan.window (passing plan xs) q,
         length-filter (passes plan.filters) xs,
+        count_by-le-length (passes plan.filters) xs,
         count_room all a.windows q can.room (omega (arith, most)),
         few,
       );
@@ -87,7 +89,7 @@ no_filters (f ∷ fs) h = absurd (omega arith)
 pub takes_all : (plan : PlanData) (records : List Record) (a b : StateData) → a.window ≡ plan.window → a.windows ≡ empty → a.has_failed ≡ false → TakesIn plan records a b → HasAll plan records b
 takes_all plan records a b window none whole takes = record {
   window = takes.window ∙ window;
-  all = λ q. takes.added q ∙ ap (λ m. merge plan.window.aggregates (get m q) (plan_aggregate plan records q)) none ∙ ap (λ o. merge plan.window.aggregates o (plan_aggregate plan records q)) (get-empty place_cmp q);
+  all = λ q. takes.added q ∙ ap (λ m. merge plan.window.aggregates (get m q) (plan_aggregate plan records q)) none ∙ ap (λ o. merge plan.window.aggregates o (plan_aggregate plan records q)) (get-empty pane_cmp q);
   whole = takes.whole ∙ whole;
 }
 
@@ -95,27 +97,18 @@ pub can_take_all : (plan : PlanData) (n : ℕ) (a : StateData) → a.window ≡ 
 can_take_all plan n a window none whole few = record {
   window = window;
   whole = whole;
-  room = λ q x has. absurd (let nothing : None ≡ Some x = sym (get-empty place_cmp q) ∙ ap (λ m. get m q) (sym none) ∙ has in cc);
+  room = λ q x has. absurd (let nothing : None ≡ Some x = sym (get-empty pane_cmp q) ∙ ap (λ m. get m q) (sym none) ∙ has in cc);
   few = few;
 }
 
 -- ---- one part after another
 
 parts_next : {X : Type 0} (f : X → List Record) (xs : List X) (i : ℕ) (x : X) → i < length xs → x ≡ get_or xs i x → flat_map f (take (i + 1) xs) ≡ flat_map f (take i xs) ++ f x
-parts_next f xs i x h is =
-    ap (flat_map f) (take_more xs i x h)
-    ∙ flat_map-append f (take i xs) (get_or xs i x ∷ [])
-    ∙ ap (λ y. flat_map f (take i xs) ++ flat_map f (y ∷ [])) (sym is)
-    ∙ ap (λ l. flat_map f (take i xs) ++ l) (append-nil (f x))
+parts_next f xs i x h is = ap (flat_map f) (take_more xs i x h) ∙ ap (λ y. flat_map f (take i xs ++ y ∷ [])) (sym is) ∙ sym (flat_map_more f [] (take i xs) x)
 
 -- the part at i fits beside those before it
 parts_fit : {X : Type 0} (f : X → List Record) (xs : List X) (i : ℕ) (x : X) → i < length xs → x ≡ get_or xs i x → length (flat_map f (take i xs)) + length (f x) ≤ length (flat_map f xs)
-parts_fit f xs i x h is =
-    let front : length (flat_map f (take (i + 1) xs)) ≡ length (flat_map f (take i xs)) + length (f x) = ap (length {A = Record}) (parts_next f xs i x h is) ∙ length-append (flat_map f (take i xs)) (f x) in
-    let whole : length (flat_map f xs) ≡ length (flat_map f (take (i + 1) xs)) + length (flat_map f (drop (i + 1) xs)) =
-    ap (λ l. length (flat_map f l)) (sym (take-append-drop (i + 1) xs)) ∙ ap (length {A = Record}) (flat_map-append f (take (i + 1) xs) (drop (i + 1) xs))
-    ∙ length-append (flat_map f (take (i + 1) xs)) (flat_map f (drop (i + 1) xs)) in
-    omega (arith, front, whole)
+parts_fit f xs i x h is = let fits = length-flat_map-take f xs i x h in let same = ap (λ y. length (f y)) is in omega (arith, fits, same)
 
 -- the parts, as a loop goes over them
 pub can_take_part : {X : Type 0} (f : X → List Record) (xs items : List X) (i : ℕ) (x : X) (plan : PlanData) (a b : StateData) → items ≡ xs → i < length items → x ≡ get_or items i x

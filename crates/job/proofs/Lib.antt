@@ -1,9 +1,7 @@
-pub mod Masks
-pub mod Folds
-pub mod PlanText
-pub mod Refusals
-pub mod Numerals
-pub mod Lines
-pub mod Laid
-pub mod LayoutAnswers
-pub mod ShowAnswers
+mod Folds
+mod PlanText
+mod Refusals
+mod Numerals
+mod Lines
+mod LayoutAnswers
+mod ShowAnswers

@@ -1,24 +1,24 @@
 -- What a job answers, from what reading its texts answers.
 use Rattle.std.proofs.Common.{◌≡◌, ◌∙◌, ℕ, List, Option, Result, Ok, Err, IsErr, IsErrAnd, MatchResult, refl, sym, ap, subst}
 use Rattle.std.specs.Io.KnownBytes.{Appends}
-use Rattle.logical_plan.specs.PlanData.{PlanData}
+use Rattle.plan_model.specs.PlanData.{PlanData}
 use Rattle.logical_plan.specs.Answer.{plan_of_bytes}
 use Rattle.logical_plan.specs.Answer as plans
 use Rattle.logical_plan.specs.declared.fault.PlanFault.{PlanFault}
 use Rattle.logical_plan.specs.declared.fault.PlanFault.TheVariants as plan
-use Rattle.stream_input.specs.InputData.{InputData}
+use Rattle.stream_model.specs.InputData.{InputData}
 use Rattle.stream_input.specs.Answer.{input_of_bytes}
 use Rattle.stream_input.specs.Answer as inputs
-use Rattle.stream_input.specs.PlanRows.{plan_rows}
-use Rattle.stream_input.specs.Text.{IsTextOf}
+use Rattle.stream_model.specs.PlanRows.{plan_rows}
+use Rattle.stream_model.specs.Text.{IsTextOf}
 use Rattle.stream_input.specs.declared.fault.InputFault.{InputFault}
 use Rattle.stream_input.specs.declared.fault.InputFault.TheVariants as input
 use Rattle.layout_rules.specs.ScaleData.{ScaleData}
-use Rattle.plan_compiler.specs.Answer as scales
-use Rattle.plan_compiler.specs.declared.fault.ScaleFault.{ScaleFault}
-use Rattle.plan_compiler.specs.declared.fault.ScaleFault.TheVariants as scale
+use Rattle.plan_scale.specs.Answer as scales
+use Rattle.plan_scale.specs.declared.fault.ScaleFault.{ScaleFault}
+use Rattle.plan_scale.specs.declared.fault.ScaleFault.TheVariants as scale
 use Rattle.job.specs.declared.fault.JobFault.{JobFault}
-use Rattle.job.specs.declared.fault.JobFault.TheVariants.{Plan, Input, Scale, Write, Memory}
+use Rattle.job.specs.declared.fault.JobFault.TheVariants.{Plan, Input, Scale, Write}
 use Rattle.job.specs.Fault.{plan_fault, input_fault, scale_fault}
 use Rattle.job.specs.Tells.{Tells}
 use Rattle.job.specs.Run.{Answers, WritesRows, input_said, plan_said, run_said}
@@ -33,7 +33,7 @@ pub tells_err : {X : Type 0} (writes : X → Type 0) (said : Result X JobFault) 
 tells_err writes said fault result fails gives told = subst (λ r. Tells writes said r) (sym (err_is result fault fails gives)) told
 
 -- the plan's refusal, once it is known that reading the plan gives it
-pub tells_plan : {X : Type 0} (writes : X → Type 0) (said : Result X JobFault) (from : Result PlanData PlanFault) (fault : PlanFault) → plans.Fails fault from → (from ≡ Err fault → said ≡ Err (Plan fault))
+pub tells_plan : {X : Type 0} (writes : X → Type 0) (said : Result X JobFault) (from : Result PlanData PlanFault) (fault : PlanFault) → plans.Fails plans.is_memory fault from → (from ≡ Err fault → said ≡ Err (Plan fault))
     → Tells writes said (Err (plan_fault fault))
 tells_plan writes said from plan.Memory is next = tt
 tells_plan writes said from plan.NotJson is next = next is
@@ -52,7 +52,7 @@ tells_plan writes said from plan.WindowOffset is next = next is
 tells_plan writes said from plan.Panes is next = next is
 tells_plan writes said from plan.Aggregates is next = next is
 
-pub tells_input : {X : Type 0} (writes : X → Type 0) (said : Result X JobFault) (from : Result InputData InputFault) (fault : InputFault) → inputs.Fails fault from → (from ≡ Err fault → said ≡ Err (Input fault))
+pub tells_input : {X : Type 0} (writes : X → Type 0) (said : Result X JobFault) (from : Result InputData InputFault) (fault : InputFault) → inputs.Fails inputs.is_memory fault from → (from ≡ Err fault → said ≡ Err (Input fault))
     → Tells writes said (Err (input_fault fault))
 tells_input writes said from input.Memory is next = tt
 tells_input writes said from input.NotJson is next = next is
@@ -66,7 +66,7 @@ tells_input writes said from input.TimeRange is next = next is
 tells_input writes said from input.TooMany is next = next is
 tells_input writes said from (input.LateRecord source partition entry) is next = next is
 
-pub tells_scale : {X : Type 0} (writes : X → Type 0) (said : Result X JobFault) (from : Result ScaleData ScaleFault) (fault : ScaleFault) → scales.Fails fault from → (from ≡ Err fault → said ≡ Err (Scale fault))
+pub tells_scale : {X : Type 0} (writes : X → Type 0) (said : Result X JobFault) (from : Result ScaleData ScaleFault) (fault : ScaleFault) → scales.Fails scales.is_memory fault from → (from ≡ Err fault → said ≡ Err (Scale fault))
     → Tells writes said (Err (scale_fault fault))
 tells_scale writes said from scale.Memory is next = tt
 tells_scale writes said from scale.NotJson is next = next is
@@ -86,14 +86,14 @@ tells_written writes said x result read wrote = subst (λ s. Tells writes s resu
     by_case (Ok u) written = written
     by_case (Err fault) failed = subst (λ f. Tells writes (Ok x) (Err f)) (sym failed) refl
 
-pub plan_refused : (bytes input : List ℕ) (fault : PlanFault) (result : Result (Unit {0}) JobFault) (old new : Option (List ℕ)) → plans.Fails fault (plan_of_bytes bytes)
+pub plan_refused : (bytes input : List ℕ) (fault : PlanFault) (result : Result (Unit {0}) JobFault) (old new : Option (List ℕ)) → plans.Fails plans.is_memory fault (plan_of_bytes bytes)
     → IsErr result → IsErrAnd result (λ e. e ≡ plan_fault fault) → Answers (run_said bytes input) result old new
 unfolding run_said
 plan_refused bytes input fault result old new is fails gives =
     tells_err (WritesRows old new) (run_said bytes input) (plan_fault fault) result fails gives (tells_plan (WritesRows old new) (run_said bytes input) (plan_of_bytes bytes) fault is (λ e. ap (plan_said input) e))
 
 pub input_refused : (bytes input : List ℕ) (plan : PlanData) (fault : InputFault) (result : Result (Unit {0}) JobFault) (old new : Option (List ℕ)) → plan_of_bytes bytes ≡ Ok plan
-    → inputs.Fails fault (input_of_bytes plan input) → IsErr result → IsErrAnd result (λ e. e ≡ input_fault fault) → Answers (run_said bytes input) result old new
+    → inputs.Fails inputs.is_memory fault (input_of_bytes plan input) → IsErr result → IsErrAnd result (λ e. e ≡ input_fault fault) → Answers (run_said bytes input) result old new
 unfolding run_said
 input_refused bytes input plan fault result old new read is fails gives =
     tells_err (WritesRows old new) (run_said bytes input) (input_fault fault) result fails gives

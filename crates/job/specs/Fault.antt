@@ -3,8 +3,8 @@ use Rattle.logical_plan.specs.declared.fault.PlanFault.{PlanFault}
 use Rattle.logical_plan.specs.declared.fault.PlanFault.TheVariants as plan
 use Rattle.stream_input.specs.declared.fault.InputFault.{InputFault}
 use Rattle.stream_input.specs.declared.fault.InputFault.TheVariants as input
-use Rattle.plan_compiler.specs.declared.fault.ScaleFault.{ScaleFault}
-use Rattle.plan_compiler.specs.declared.fault.ScaleFault.TheVariants as scale
+use Rattle.plan_scale.specs.declared.fault.ScaleFault.{ScaleFault}
+use Rattle.plan_scale.specs.declared.fault.ScaleFault.TheVariants as scale
 use Rattle.savepoint_codec.specs.declared.fault.SaveFault.{SaveFault}
 use Rattle.savepoint_codec.specs.declared.fault.SaveFault.TheVariants as save
 use Rattle.job.specs.declared.fault.JobFault.{JobFault}

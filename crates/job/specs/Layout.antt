@@ -1,20 +1,20 @@
 -- What printing a layout answers.
 use Rattle.std.specs.Prelude.{ℕ, List, Option, Result, Ok, Err}
 use Rattle.std.specs.Io.KnownBytes.{Appends}
-use Rattle.logical_plan.specs.PlanData.{PlanData}
+use Rattle.plan_model.specs.PlanData.{PlanData}
 use Rattle.logical_plan.specs.Answer.{plan_of_bytes}
 use Rattle.logical_plan.specs.declared.fault.PlanFault.{PlanFault}
 use Rattle.layout_rules.specs.ScaleData.{ScaleData}
-use Rattle.layout_rules.specs.Rules.{stages_of}
-use Rattle.plan_compiler.specs.Answer.{scale_of_bytes}
-use Rattle.plan_compiler.specs.declared.fault.ScaleFault.{ScaleFault}
+use Rattle.plan_compiler.specs.LayoutData.{layout_of}
+use Rattle.plan_scale.specs.Answer.{scale_of_bytes}
+use Rattle.plan_scale.specs.declared.fault.ScaleFault.{ScaleFault}
 use Rattle.job.specs.declared.fault.JobFault.{JobFault}
 use Rattle.job.specs.declared.fault.JobFault.TheVariants.{Plan, Scale}
 use Rattle.job.specs.LayoutText.{layout_text}
 use Rattle.job.specs.Tells.{Tells}
 
 abbrev pub scale_said : PlanData → Result ScaleData ScaleFault → Result (List ℕ) JobFault
-scale_said plan (Ok scale) = Ok (layout_text plan (stages_of plan scale))
+scale_said plan (Ok scale) = Ok (layout_text plan (layout_of plan scale))
 scale_said plan (Err fault) = Err (Scale fault)
 
 abbrev pub plan_said : List ℕ → Result PlanData PlanFault → Result (List ℕ) JobFault

@@ -3,18 +3,15 @@ use Rattle.std.specs.Prelude.{ℕ, List, [], ◌∷◌, ◌++◌, codes, length,
 use Rattle.std.specs.List.{flat_map, range_with_len}
 use Rattle.std.specs.Option.{option_map_or}
 use Rattle.std.specs.Fmt.{decimal}
-use Rattle.dataflow_model.specs.Task.{is_source}
-use Rattle.key_groups.specs.declared.ranges.GroupRange.{GroupRange}
-use Rattle.key_groups.specs.Ranges.{group_range}
-use Rattle.logical_plan.specs.PlanData.{PlanData}
+use Rattle.dataflow_model.specs.Role.{is_source, is_window}
+use Rattle.plan_model.specs.PlanData.{PlanData}
 use Rattle.layout_rules.specs.declared.stage.Operator.{Operator}
 use Rattle.layout_rules.specs.declared.stage.Operator.TheVariants.{Source, Filter, Window, Sink}
 use Rattle.layout_rules.specs.declared.stage.Edge.{Edge}
 use Rattle.layout_rules.specs.declared.stage.Edge.TheVariants.{Forward, ByGroup, Rebalance}
 use Rattle.layout_rules.specs.declared.stage.Stage.{Stage}
-use Rattle.layout_rules.specs.declared.stage.TaskPlace.{TaskPlace}
-use Rattle.layout_rules.specs.Stages.{role_of, is_window, after, stage_at, width, tasks, place_of, partitions_of}
-use Rattle.layout_rules.specs.Layouts.{partition_counts}
+use Rattle.layout_rules.specs.Stages.{next_stage, stage_at, task_count, stage_of, subtask_of, task_role, partitions_of, groups_of}
+use Rattle.plan_compiler.specs.LayoutData.{LayoutData}
 
 -- a space, and the number in decimal
 abbrev pub spaced : ℕ → List ℕ
@@ -27,52 +24,40 @@ name_of p (Filter f) = option_map_or (λ f. f.uid) (slice_get p.filters f) []
 name_of p Window = p.window.uid
 name_of p Sink = codes "(sink)"
 
--- stage a: its number, its parallelism, its operators
-abbrev pub stage_line : PlanData → ℕ → Stage → List ℕ
-stage_line p a s = codes "stage" ++ spaced a ++ spaced s.parallelism ++ flat_map (λ o. 32 ∷ name_of p o) s.operators ++ 10 ∷ []
+-- the line of stage a: its number, its parallelism, its operators
+abbrev pub stage_text : PlanData → List Stage → ℕ → List ℕ
+stage_text p stages a = codes "stage" ++ spaced a ++ spaced (stage_at stages a).parallelism ++ flat_map (λ o. 32 ∷ name_of p o) (stage_at stages a).operators ++ 10 ∷ []
 
 abbrev pub edge_name : Edge → List ℕ
 edge_name Forward = codes "forward"
 edge_name ByGroup = codes "group"
 edge_name Rebalance = codes "rebalance"
 
--- the edge from stage a to stage b
+-- the line of the edge from one stage to another
 abbrev pub edge_line : ℕ → ℕ → Edge → List ℕ
-edge_line a b edge = codes "edge" ++ spaced a ++ spaced b ++ 32 ∷ edge_name edge ++ 10 ∷ []
+edge_line from into edge = codes "edge" ++ spaced from ++ spaced into ++ 32 ∷ edge_name edge ++ 10 ∷ []
 
--- the partitions of a source's subtask
-abbrev pub partitions_line : TaskPlace → List ℕ → List ℕ
-partitions_line place partitions = codes "partitions" ++ spaced place.stage ++ spaced place.subtask ++ flat_map spaced partitions ++ 10 ∷ []
-
--- the key groups of the window's subtask
-abbrev pub groups_line : TaskPlace → GroupRange → List ℕ
-groups_line place range = codes "groups" ++ spaced place.stage ++ spaced place.subtask ++ spaced range.first ++ spaced range.last ++ 10 ∷ []
-
--- the lines of stage a, and of the edge that leads out of it
-abbrev pub stage_text : PlanData → List Stage → ℕ → List ℕ
-stage_text p stages a = stage_line p a (stage_at stages a)
-
+-- the line of the edge that leads out of stage a
 abbrev pub edge_text : List Stage → ℕ → List ℕ
-edge_text stages a = option_map_or (edge_line a (after stages a)) (stage_at stages a).edge []
+edge_text stages a = option_map_or (edge_line a (next_stage stages a)) (stage_at stages a).edge []
 
--- where a task stands, as a source's subtask with these partitions, and as the window's
-abbrev pub partitions_at : List Stage → TaskPlace → List ℕ → List ℕ
-partitions_at stages place partitions = if is_source (role_of (stage_at stages place.stage).operators) then partitions_line place partitions else []
+-- the line of a task: a word, where it stands, numbers
+abbrev pub task_line : List ℕ → List Stage → ℕ → List ℕ → List ℕ
+task_line word stages t numbers = word ++ spaced (stage_of stages t) ++ spaced (subtask_of stages t) ++ flat_map spaced numbers ++ 10 ∷ []
 
-abbrev pub groups_at : ℕ → List Stage → TaskPlace → List ℕ
-groups_at max stages place = if is_window (role_of (stage_at stages place.stage).operators) then groups_line place (group_range max (width stages place.stage) place.subtask) else []
+-- the partitions of a task, if it reads a source, and its key groups, if it has windows
+abbrev pub partitions_text : LayoutData → ℕ → List ℕ
+partitions_text l t = if is_source (task_role l.stages t) then task_line (codes "partitions") l.stages t (partitions_of l.partitions l.stages t) else []
 
--- the same of task t
-abbrev pub partitions_text : List ℕ → List Stage → ℕ → List ℕ
-partitions_text counts stages t = partitions_at stages (place_of stages t) (partitions_of counts stages t)
-
-abbrev pub groups_text : ℕ → List Stage → ℕ → List ℕ
-groups_text max stages t = groups_at max stages (place_of stages t)
+abbrev pub groups_text : LayoutData → ℕ → List ℕ
+groups_text l t =
+    let range = groups_of l.max l.stages t in
+    if is_window (task_role l.stages t) then task_line (codes "groups") l.stages t (range.first ∷ range.last ∷ []) else []
 
 -- what a text says of each number below n, one after the other
 abbrev pub of_each : ℕ → (ℕ → List ℕ) → List ℕ
 of_each n said = flat_map said (range_with_len 0 n)
 
-abbrev pub layout_text : PlanData → List Stage → List ℕ
-layout_text p stages =
-    of_each (length stages) (stage_text p stages) ++ of_each (length stages) (edge_text stages) ++ of_each (tasks stages) (partitions_text (partition_counts p) stages) ++ of_each (tasks stages) (groups_text p.max stages)
+abbrev pub layout_text : PlanData → LayoutData → List ℕ
+layout_text p l =
+    of_each (length l.stages) (stage_text p l.stages) ++ of_each (length l.stages) (edge_text l.stages) ++ of_each (task_count l.stages) (partitions_text l) ++ of_each (task_count l.stages) (groups_text l)

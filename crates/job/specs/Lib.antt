@@ -5,7 +5,6 @@ pub mod Group
 pub mod Layout
 pub mod LayoutText
 pub mod Run
-pub mod Subtask
 pub mod Tells
 pub mod ShowText
 pub mod Show

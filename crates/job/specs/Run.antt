@@ -1,12 +1,12 @@
 -- What running a job answers.
 use Rattle.std.specs.Prelude.{ℕ, List, Option, Result, Ok, Err}
 use Rattle.std.specs.Io.KnownBytes.{Appends}
-use Rattle.logical_plan.specs.PlanData.{PlanData}
+use Rattle.plan_model.specs.PlanData.{PlanData}
 use Rattle.logical_plan.specs.Answer.{plan_of_bytes}
-use Rattle.stream_input.specs.InputData.{InputData}
+use Rattle.stream_model.specs.InputData.{InputData}
 use Rattle.stream_input.specs.Answer.{input_of_bytes}
-use Rattle.stream_input.specs.PlanRows.{plan_rows}
-use Rattle.stream_input.specs.Text.{IsTextOf}
+use Rattle.stream_model.specs.PlanRows.{plan_rows}
+use Rattle.stream_model.specs.Text.{IsTextOf}
 use Rattle.logical_plan.specs.declared.fault.PlanFault.{PlanFault}
 use Rattle.stream_input.specs.declared.fault.InputFault.{InputFault}
 use Rattle.job.specs.declared.fault.JobFault.{JobFault}

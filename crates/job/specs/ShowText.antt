@@ -1,34 +1,28 @@
 -- The text of a savepoint: a line for its number, for the key groups, for each partition, for the window, and for each entry.
-use Rattle.std.specs.Prelude.{ℕ, ℤ, List, [], ◌∷◌, ◌++◌, codes}
+use Rattle.std.specs.Prelude.{ℕ, List, [], ◌∷◌, ◌++◌, codes}
 use Rattle.std.specs.List.{flat_map, enumerate_from}
-use Rattle.std.specs.Fmt.{decimal, signed_decimal}
-use Rattle.logical_plan.specs.declared.spec.Place.{Place}
+use Rattle.plan_model.specs.declared.spec.Pane.{Pane}
 use Rattle.savepoint_codec.specs.declared.savepoint.SavedPartition.{SavedPartition}
 use Rattle.savepoint_codec.specs.declared.savepoint.SavedSource.{SavedSource}
 use Rattle.savepoint_codec.specs.declared.savepoint.SavedGroup.{SavedGroup}
 use Rattle.savepoint_codec.specs.declared.savepoint.Contents.{Contents}
 use Rattle.savepoint_codec.specs.EntriesData.{EntryData}
-
--- a space and a number, which may be negative in the second
-abbrev pub count_word : ℕ → List ℕ
-count_word n = 32 ∷ decimal n
-
-abbrev pub number_word : ℤ → List ℕ
-number_word z = 32 ∷ signed_decimal z
+use Rattle.stream_model.specs.Text.{spaced}
+use Rattle.job.specs.LayoutText.{spaced as count_word}
 
 abbrev pub partition_line : List ℕ → ℕ × SavedPartition → List ℕ
-partition_line uid p = codes "source " ++ uid ++ count_word p.0 ++ count_word p.1.offset ++ number_word p.1.watermark ++ 10 ∷ []
+partition_line uid p = codes "source " ++ uid ++ count_word p.0 ++ count_word p.1.offset ++ spaced p.1.watermark ++ 10 ∷ []
 
 -- the lines of a source's partitions, which are numbered from 0
 abbrev pub source_lines : SavedSource → List ℕ
 source_lines s = flat_map (partition_line s.uid) (enumerate_from 0 s.partitions)
 
 -- where an entry stands, and how many records it has
-abbrev pub entry_head : ℕ → Place → ℕ → List ℕ
-entry_head group q count = codes "entry" ++ count_word group ++ number_word q.start ++ number_word q.key ++ count_word count
+abbrev pub entry_head : ℕ → Pane → ℕ → List ℕ
+entry_head group q count = codes "entry" ++ count_word group ++ spaced q.start ++ spaced q.key ++ count_word count
 
 abbrev pub entry_line : ℕ → EntryData → List ℕ
-entry_line group e = entry_head group e.place e.total.count ++ flat_map number_word e.total.numbers ++ 10 ∷ []
+entry_line group e = entry_head group e.pane e.total.count ++ flat_map spaced e.total.numbers ++ 10 ∷ []
 
 abbrev pub group_lines : SavedGroup → List ℕ
 group_lines g = flat_map (entry_line g.group) g.entries.entries

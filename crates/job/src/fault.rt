@@ -2,44 +2,33 @@ ghost use Rattle.std.specs.Prelude.{◌≡◌, Ok, IfErr, MatchResult};
 ghost use Rattle.job.specs.declared.fault.JobFault.TheVariants.{Memory};
 ghost use Rattle.job.specs.Fault.{plan_fault, input_fault, scale_fault, save_fault};
 
-use columns::BatchFault;
 use logical_plan::PlanFault;
 use plan_compiler::ScaleFault;
 use savepoint_codec::SaveFault;
 use std::alloc::{AllocError, AllocFailed};
 use stream_input::InputFault;
-use thiserror::Error;
 use window_state::StateFault;
 
-/// Why a call of the job has no answer.
-#[derive(Clone, Copy, Debug, PartialEq, Eq, Error)]
+/// Why a call of the job has no answer. [`FaultLine`](crate::FaultLine) is its text.
+#[derive(Clone, Copy, Debug, PartialEq, Eq)]
 pub enum JobFault {
     /// The plan's text is refused.
-    #[error(transparent)]
     Plan(PlanFault),
     /// The input's text is refused.
-    #[error(transparent)]
     Input(InputFault),
     /// The scale's text is refused.
-    #[error(transparent)]
     Scale(ScaleFault),
     /// The savepoint's bytes are refused.
-    #[error(transparent)]
     Save(SaveFault),
     /// A word of the command line is no cut.
-    #[error("C1 Cut")]
     Cut,
     /// A word of the command line is no number in its range.
-    #[error("C2 Number")]
     Number,
     /// A file could not be read.
-    #[error("F1 Read")]
     Read,
     /// What was to be written could not be, and nothing is known of how much was.
-    #[error("F2 Write")]
     Write,
     /// No memory was to be had.
-    #[error("memory")]
     Memory,
 }
 
@@ -84,17 +73,6 @@ impl From<SaveFault> for JobFault {
             SaveFault::Memory => JobFault::Memory,
             other => JobFault::Save(other),
         }
-    }
-}
-
-/// The answer of a call that takes parts of a batch, which fails for want of memory alone.
-pub(crate) fn of_batch<T>(answer: Result<T, BatchFault>) -> Result<T, JobFault>
-    requires { IfErr answer (λ fault. fault ≡ BatchFault.Memory) }
-    ensures { MatchResult result (λ x. answer ≡ Ok x) (λ fault. fault ≡ JobFault.Memory) }
-{
-    match answer {
-        Ok(x) => Ok(x),
-        Err(_) => Err(JobFault::Memory),
     }
 }
 

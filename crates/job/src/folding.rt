@@ -2,16 +2,17 @@
 
 ghost use Rattle.std.specs.Prelude.{◌≡◌, length, IfOk, MatchResult};
 ghost use Rattle.std.specs.List.{All};
-ghost use Rattle.stream_input.specs.InputData.{BelongsTo, IsEntry, IsInput, records_of_entry, records_in, records_in_source, all_records};
-ghost use Rattle.stream_input.specs.declared.entry.Entry.TheVariants.{Rows};
+ghost use Rattle.stream_model.specs.InputData.{BelongsTo, IsEntry, IsInput, records_of_entry, records_in, records_in_source, all_records};
+ghost use Rattle.stream_model.specs.declared.entry.Entry.TheVariants.{Rows};
 ghost use Rattle.job.specs.Folding.{TakesIn, CanTake, HasAll};
 
 use crate::fault::{JobFault, of_state};
-use crate::filtering::passing;
 use columns::Batch;
+use filtering::passing;
 use logical_plan::Plan;
 use std::alloc::Global;
-use stream_input::{Entry, Input, Partition, Source};
+use stream_input::Input;
+use stream_model::{Entry, Partition, Source};
 use window_state::{HashKeys, WindowState};
 
 /// Brings the rows of a batch in that pass the plan's filters.

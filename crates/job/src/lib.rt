@@ -2,7 +2,6 @@
 #![tactic(auto)]
 
 mod fault;
-mod filtering;
 mod folding;
 mod group;
 mod layout;

@@ -1,9 +1,9 @@
 //! A job from bytes to bytes.
 
 ghost use Rattle.std.specs.Prelude.{◌≡◌, MatchResult, string_bytes};
-ghost use Rattle.stream_input.specs.InputData.{BelongsTo};
-ghost use Rattle.stream_input.specs.PlanRows.{plan_rows};
-ghost use Rattle.stream_input.specs.Text.{IsTextOf};
+ghost use Rattle.stream_model.specs.InputData.{BelongsTo};
+ghost use Rattle.stream_model.specs.PlanRows.{plan_rows};
+ghost use Rattle.stream_model.specs.Text.{IsTextOf};
 ghost use Rattle.std.specs.Io.KnownBytes.{Appends};
 ghost use Rattle.job.specs.Run.{Answers, run_said};
 ghost use Rattle.job.specs.Tells.{KeepsWriter};
@@ -15,7 +15,7 @@ use logical_plan::Plan;
 use std::alloc::Global;
 use std::io::Write;
 use stream_input::Input;
-use window_state::HashKeys;
+use window_state::{HashKeys, keep_rows};
 
 /// The text of the plan's rows on an input.
 fn rows_text(alloc: Global, keys: HashKeys, plan: &Plan, input: &Input) -> Result<String, JobFault>
@@ -23,8 +23,9 @@ fn rows_text(alloc: Global, keys: HashKeys, plan: &Plan, input: &Input) -> Resul
     ensures { MatchResult result (λ text. IsTextOf (plan_rows plan.now input.now.sources) (string_bytes text)) (λ fault. fault ≡ JobFault.Memory) }
 {
     let mut state = state_of(alloc, keys, plan, input)?;
-    let rows = of_state(state.fire(i64::MAX))?;
-    Ok(text_of(alloc, plan.window().having.as_slice(), &rows)?)
+    let mut rows = of_state(state.fire(i64::MAX))?;
+    keep_rows(plan.window().having.as_slice(), &mut rows);
+    Ok(text_of(alloc, &rows)?)
 }
 
 /// Runs a plan on a bounded input, and writes the text of the plan's rows: one line for each key and

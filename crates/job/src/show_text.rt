@@ -3,10 +3,10 @@
 ghost use Rattle.std.specs.Prelude.{◌≡◌, ◌++◌, OnOk, IfOk, string_bytes};
 ghost use Rattle.std.specs.List.{flat_map, enumerate_from};
 ghost use Rattle.savepoint_codec.specs.EntriesView.{entry_data};
-ghost use Rattle.job.specs.ShowText.{number_word, partition_line, source_lines, entry_head, entry_line, group_lines, number_line, max_line, window_line, savepoint_text};
+ghost use Rattle.job.specs.ShowText.{partition_line, source_lines, entry_head, entry_line, group_lines, number_line, max_line, window_line, savepoint_text};
 
-use crate::number::push_number;
-use logical_plan::Place;
+use crate::number::{push_number, push_numbers};
+use plan_model::Pane;
 use savepoint_codec::{Contents, Entries, Entry, SavedGroup, SavedPartition, SavedSource};
 use std::alloc::{AllocError, Global};
 
@@ -54,35 +54,21 @@ fn write_sources(text: &mut String, sources: &[SavedSource]) -> Result<(), Alloc
     Ok(())
 }
 
-fn write_numbers(text: &mut String, numbers: &[i128]) -> Result<(), AllocError>
-    ensures { OnOk result (string_bytes text.new ≡ string_bytes text.old ++ flat_map number_word numbers.now) }
-{
-    for number in numbers {
-        push_number(text, *number)?;
-    }
-    Ok(())
-}
-
-fn write_entry_head(
-    text: &mut String,
-    group: u16,
-    place: Place,
-    count: u64,
-) -> Result<(), AllocError>
-    ensures { OnOk result (string_bytes text.new ≡ string_bytes text.old ++ entry_head group place count) }
+fn write_entry_head(text: &mut String, group: u16, pane: Pane, count: u64) -> Result<(), AllocError>
+    ensures { OnOk result (string_bytes text.new ≡ string_bytes text.old ++ entry_head group pane count) }
 {
     text.push_str("entry")?;
     push_number(text, group)?;
-    push_number(text, place.start)?;
-    push_number(text, place.key)?;
+    push_number(text, pane.start)?;
+    push_number(text, pane.key)?;
     push_number(text, count)
 }
 
 fn write_entry(text: &mut String, group: u16, entry: Entry<'_>) -> Result<(), AllocError>
     ensures { OnOk result (string_bytes text.new ≡ string_bytes text.old ++ entry_line group (entry_data entry.entry)) }
 {
-    write_entry_head(text, group, entry.place, entry.count)?;
-    write_numbers(text, entry.numbers)?;
+    write_entry_head(text, group, entry.pane, entry.count)?;
+    push_numbers(text, entry.numbers)?;
     text.push_str("\n")
 }
 

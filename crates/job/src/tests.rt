@@ -6,7 +6,7 @@ use stream_input::InputFault;
 
 mod writers;
 
-const PLAN: &str =
+pub const PLAN: &str =
     r#"{"columns":3,"maxParallelism":128,"time":0,"key":1,"sources":[{"uid":"s","partitions":2}],"window":{"uid":"w","size":10,"slide":10,"offset":0,"aggregates":[{"fn":"count"},{"fn":"sum","column":2},{"fn":"least","column":2},{"fn":"greatest","column":2}]}}"#;
 
 const INPUT: &str =
@@ -28,51 +28,53 @@ fn rows_by_start_and_key(rt: HostRuntime) -> Result<(), Fail> {
     Ok(())
 }
 
-// The plan with a piece of its text replaced, run on entries of the first partition.
+const ALL: &str =
+    r#"{"fn":"count"},{"fn":"sum","column":2},{"fn":"least","column":2},{"fn":"greatest","column":2}"#;
+
+/// A piece of the plan's text, what stands in its place, the rows of the first partition, and the text of the answer.
+const OTHER_PLANS: [(&str, &str, &str, &str); 7] = [
+    (
+        ALL,
+        r#"{"fn":"count"}"#,
+        "[-1,1,0],[-10,1,0],[-11,1,0]",
+        "-20 -10 1 1\n-10 0 1 2\n",
+    ),
+    (
+        r#"10,"slide":10,"offset":0"#,
+        r#"10,"slide":4,"offset":1"#,
+        "[8,7,0]",
+        "1 11 7 1 0 0 0\n5 15 7 1 0 0 0\n",
+    ),
+    (r#"10,"slide":10"#, r#"3,"slide":5"#, "[4,1,0]", ""),
+    (
+        r#""window""#,
+        r#""filters":[{"uid":"f","column":2,"op":"eq","value":17}],"window""#,
+        "[5,1,16],[5,1,17],[5,1,18]",
+        "0 10 1 1 17 17 17\n",
+    ),
+    (
+        r#""aggregates""#,
+        r#""having":[{"aggregate":0,"op":"ge","value":2}],"aggregates""#,
+        "[1,1,5],[12,1,7],[15,0,-3],[13,1,2]",
+        "10 20 1 2 9 2 7\n",
+    ),
+    (
+        "",
+        "",
+        "[1,1,-9223372036854775808],[1,1,-9223372036854775808]",
+        "0 10 1 2 -18446744073709551616 -9223372036854775808 -9223372036854775808\n",
+    ),
+    (
+        r#""size":10,"slide":10"#,
+        r#""size":1099511627776"#,
+        "[-4611686018427387904,1,0]",
+        "-4611686018427387904 -4611684918915760128 1 1 0 0 0\n",
+    ),
+];
+
 #[test]
 fn rows_of_other_plans(rt: HostRuntime) -> Result<(), Fail> {
-    let all =
-        r#"{"fn":"count"},{"fn":"sum","column":2},{"fn":"least","column":2},{"fn":"greatest","column":2}"#;
-    let count = r#"{"fn":"count"}"#;
-    for (old, new, rows, want) in [
-        (
-            all,
-            count,
-            "[-1,1,0],[-10,1,0],[-11,1,0]",
-            "-20 -10 1 1\n-10 0 1 2\n",
-        ),
-        (
-            r#"10,"slide":10,"offset":0"#,
-            r#"10,"slide":4,"offset":1"#,
-            "[8,7,0]",
-            "1 11 7 1 0 0 0\n5 15 7 1 0 0 0\n",
-        ),
-        (r#"10,"slide":10"#, r#"3,"slide":5"#, "[4,1,0]", ""),
-        (
-            r#""window""#,
-            r#""filters":[{"uid":"f","column":2,"op":"eq","value":17}],"window""#,
-            "[5,1,16],[5,1,17],[5,1,18]",
-            "0 10 1 1 17 17 17\n",
-        ),
-        (
-            r#""aggregates""#,
-            r#""having":[{"aggregate":0,"op":"ge","value":2}],"aggregates""#,
-            "[1,1,5],[12,1,7],[15,0,-3],[13,1,2]",
-            "10 20 1 2 9 2 7\n",
-        ),
-        (
-            "",
-            "",
-            "[1,1,-9223372036854775808],[1,1,-9223372036854775808]",
-            "0 10 1 2 -18446744073709551616 -9223372036854775808 -9223372036854775808\n",
-        ),
-        (
-            r#""size":10,"slide":10"#,
-            r#""size":1099511627776"#,
-            "[-4611686018427387904,1,0]",
-            "-4611686018427387904 -4611684918915760128 1 1 0 0 0\n",
-        ),
-    ] {
+    for (old, new, rows, want) in OTHER_PLANS {
         let plan = PLAN.replacen(rt.alloc(), old, new, 1)?;
         let input = format!(in rt.alloc(); "{{\"s\":[[{{\"rows\":[{rows}]}}],[]]}}")?;
         let mut out = Vec::new(rt.alloc());

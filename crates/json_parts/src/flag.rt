@@ -1,3 +1,5 @@
+//! Flags.
+
 ghost use Rattle.serde_json.specs.View.{view};
 ghost use Rattle.json_parts.specs.Parts.{Reads};
 ghost use Rattle.json_parts.specs.Flags.{flag_or as flag_at_or};

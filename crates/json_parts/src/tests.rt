@@ -1,7 +1,8 @@
 use crate::{
-    Cell, OtherForm, PartError, flag_or, has_only, list_of, list_or_empty, text, text_of, value_of,
+    OtherForm, PartError, flag_or, has_only, list_of, list_or_empty, text, text_of, value_of,
     whole, whole_or,
 };
+use plain_data::Items;
 use std::test::Fail;
 
 const TEXT: &str = r#"{"a":-7,"b":"x","c":[1,2.5],"d":[[3],[]],"e":null,"f":false}"#;
@@ -20,10 +21,10 @@ fn parts(rt: HostRuntime) -> Result<(), Fail> {
     );
     assert!(rt; has_only(&value, &["f", "e", "d", "c", "b", "a"]));
     assert!(rt; !has_only(&value, &["a", "b", "c", "d", "f"]));
-    let cells = list_of::<Cell>(alloc, &value, "c")?;
-    assert_eq!(rt; cells.as_slice(), [Cell(Some(1)), Cell(None)].as_slice());
-    assert_eq!(rt; list_or_empty::<Cell>(alloc, &value, "z")?.len(), 0);
-    assert_eq!(rt; list_of::<Vec<Cell>>(alloc, &value, "d")?.len(), 2);
+    let cells = list_of::<Option<i64>>(alloc, &value, "c")?;
+    assert_eq!(rt; cells.as_slice(), [Some(1), None].as_slice());
+    assert_eq!(rt; list_or_empty::<Option<i64>>(alloc, &value, "z")?.len(), 0);
+    assert_eq!(rt; list_of::<Items<Option<i64>>>(alloc, &value, "d")?.len(), 2);
     Ok(())
 }
 
@@ -38,7 +39,7 @@ fn refusals(rt: HostRuntime) -> Result<(), Fail> {
     for name in ["b", "e", "z"] {
         assert_eq!(rt; whole(&value, name).err(), Some(OtherForm), "at {name}");
         assert_eq!(rt;
-            list_of::<Cell>(alloc, &value, name).err(),
+            list_of::<Option<i64>>(alloc, &value, name).err(),
             form,
             "at {name}"
         );
@@ -47,7 +48,13 @@ fn refusals(rt: HostRuntime) -> Result<(), Fail> {
     assert_eq!(rt; flag_or(&value, "e", true).err(), Some(OtherForm));
     assert_eq!(rt; flag_or(&value, "a", true).err(), Some(OtherForm));
     assert_eq!(rt; text_of(&value, "a").err(), Some(OtherForm));
-    assert_eq!(rt; list_or_empty::<Cell>(alloc, &value, "e").err(), form);
-    assert_eq!(rt; list_of::<Vec<Cell>>(alloc, &value, "c").err(), form);
+    assert_eq!(rt;
+        list_or_empty::<Option<i64>>(alloc, &value, "e").err(),
+        form
+    );
+    assert_eq!(rt;
+        list_of::<Items<Option<i64>>>(alloc, &value, "c").err(),
+        form
+    );
     Ok(())
 }

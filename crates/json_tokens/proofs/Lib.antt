@@ -1,5 +1,6 @@
-pub mod Converted
-pub mod ItemTurns
-pub mod MemberTurns
+pub mod Facts
+mod Converted
+mod ItemTurns
+mod MemberTurns
 mod NumberTexts
 mod RowLists

@@ -4,7 +4,7 @@ ghost use Rattle.std.specs.Int.{w64};
 ghost use Rattle.serde_json.specs.Data.{unsigned as positive, negative as below_zero};
 ghost use Rattle.serde_json.specs.Read.{number_of, number_from};
 ghost use Rattle.serde_json.specs.Find.{as_i64};
-ghost use Rattle.json_parts.specs.Parts.{whole as whole_said};
+ghost use Rattle.json_parts.specs.Parts as parts;
 ghost use Rattle.json_tokens.specs.Ahead.{part};
 
 use fast_float::Numeral;
@@ -66,9 +66,13 @@ fn whole(text: &str) -> Option<i64>
 }
 
 /// The next value, a whole number of 64 bits. Neither `-0` nor `3.0` is one.
+///
+/// # Errors
+///
+/// [`OtherForm`] where the next value is written otherwise, or is none.
 #[inline(always)]
 pub fn next_whole(reader: &mut Reader<'_>) -> Result<i64, OtherForm>
-    ensures said { IfOk result (λ n. (depth : ℕ) → part whole_said depth reader.old ≡ Some (n, reader.new)) }
+    ensures said { IfOk result (λ n. (depth : ℕ) → part parts.whole depth reader.old ≡ Some (n, reader.new)) }
     ensures shorter { OnOk result (length reader.new < length reader.old) }
     ensures fits { IfOk result (λ n. FitsSigned w64 n) }
 {

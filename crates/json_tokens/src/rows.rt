@@ -65,6 +65,10 @@ fn rows_onto(
 
 /// The next value, a list of rows of `width` whole numbers each. Their numbers, row after row, are put
 /// behind what `cells` holds.
+///
+/// # Errors
+///
+/// `Other` where the next value is written otherwise, or is none; `Memory`.
 pub fn next_rows(
     reader: &mut Reader<'_>,
     cells: &mut Vec<i64>,

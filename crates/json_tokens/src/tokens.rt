@@ -7,6 +7,10 @@ use json::{Reader, Token};
 use json_parts::OtherForm;
 
 /// Passes the bracket that opens a list. `Reader::take_end_array` passes the one that closes it.
+///
+/// # Errors
+///
+/// [`OtherForm`] where no list comes next.
 #[inline(always)]
 pub fn open_list(reader: &mut Reader<'_>) -> Result<(), OtherForm>
     ensures passed { OnOk result (reader.old ≡ begin_array ∷ reader.new) }
@@ -19,6 +23,10 @@ pub fn open_list(reader: &mut Reader<'_>) -> Result<(), OtherForm>
 }
 
 /// Passes the brace that opens an object.
+///
+/// # Errors
+///
+/// [`OtherForm`] where no object comes next.
 #[inline(always)]
 pub fn open_object(reader: &mut Reader<'_>) -> Result<(), OtherForm>
     ensures passed { OnOk result (reader.old ≡ begin_object ∷ reader.new) }
@@ -31,6 +39,10 @@ pub fn open_object(reader: &mut Reader<'_>) -> Result<(), OtherForm>
 }
 
 /// The name of the next member of an object, or None past the brace that closes it.
+///
+/// # Errors
+///
+/// [`OtherForm`] where no name comes next that is written without escapes.
 #[inline(always)]
 pub fn next_key<'a>(reader: &mut Reader<'a>) -> Result<Option<&'a str>, OtherForm>
     ensures said { IfOk result (λ k. read_key reader.old ≡ Some (option_map (λ s. s.now) k, reader.new)) }
@@ -43,6 +55,10 @@ pub fn next_key<'a>(reader: &mut Reader<'a>) -> Result<Option<&'a str>, OtherFor
 }
 
 /// The name of the next member of an object, which has one.
+///
+/// # Errors
+///
+/// [`OtherForm`] where no name comes next that is written without escapes.
 #[inline(always)]
 pub fn next_name<'a>(reader: &mut Reader<'a>) -> Result<&'a str, OtherForm>
     ensures said { IfOk result (λ name. read_key reader.old ≡ Some (Some name.now, reader.new)) }
@@ -56,6 +72,10 @@ pub fn next_name<'a>(reader: &mut Reader<'a>) -> Result<&'a str, OtherForm>
 }
 
 /// Passes the brace that closes an object.
+///
+/// # Errors
+///
+/// [`OtherForm`] where the object goes on.
 #[inline(always)]
 pub fn close_object(reader: &mut Reader<'_>) -> Result<(), OtherForm>
     ensures said { OnOk result (read_key reader.old ≡ Some (None, reader.new)) }
@@ -69,6 +89,10 @@ pub fn close_object(reader: &mut Reader<'_>) -> Result<(), OtherForm>
 }
 
 /// Nothing but white space is left of the text.
+///
+/// # Errors
+///
+/// [`OtherForm`] where more of the text is left.
 #[inline(always)]
 pub fn end(reader: &mut Reader<'_>) -> Result<(), OtherForm>
     ensures passed { OnOk result (reader.old ≡ []) }

@@ -20,12 +20,15 @@ holds Ge x c = int_le c x
 abbrev pub narrowed : Cmp → ℤ → List ℤ → List Bool → List Bool
 narrowed cmp c xs ms = zip2 (λ x m. m && holds cmp x c) xs ms
 
+-- the first element, with each further one brought in
+abbrev pub folded : (ℤ → ℤ → ℤ) → List ℤ → Option ℤ
+folded f [] = None
+folded f (x ∷ xs) = Some (fold f x xs)
+
 -- the least element
 abbrev pub least_of : List ℤ → Option ℤ
-least_of [] = None
-least_of (x ∷ xs) = Some (fold int_min x xs)
+least_of xs = folded int_min xs
 
 -- the greatest element
 abbrev pub greatest_of : List ℤ → Option ℤ
-greatest_of [] = None
-greatest_of (x ∷ xs) = Some (fold int_max x xs)
+greatest_of xs = folded int_max xs

@@ -1,9 +1,11 @@
-pub mod Rows
-pub mod Shape
-pub mod LayoutLaws
-pub mod Partitions
-pub mod Shapes
-pub mod Once
-pub mod Groups
-pub mod Counted
-pub mod FiveStages
+mod Rows
+mod Shape
+mod LayoutLaws
+mod Partitions
+mod Shapes
+mod Once
+mod Groups
+mod Counted
+mod FiveStages
+mod Legs
+pub mod Facts

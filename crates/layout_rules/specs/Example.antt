@@ -1,17 +1,18 @@
 -- A worked layout: sources with 2 and 3 subtasks, two chained filters with 2, a window with 3.
-use Rattle.std.specs.Prelude.{◌≡◌, ℕ, List, [], ◌∷◌, Bool, true, Some, None}
-use Rattle.logical_plan.specs.declared.spec.SourceSpec.{SourceSpec}
-use Rattle.logical_plan.specs.declared.spec.FilterSpec.{FilterSpec}
-use Rattle.logical_plan.specs.declared.spec.WindowSpec.{WindowSpec}
-use Rattle.logical_plan.specs.PlanData.{PlanData, plan_data_of}
-use Rattle.dataflow_model.specs.Layout.{task_of, place_of, part}
+use Rattle.std.specs.Prelude.{◌≡◌, ℕ, List, [], ◌∷◌, true, Some, None}
+use Rattle.plan_model.specs.declared.spec.SourceSpec.{SourceSpec}
+use Rattle.plan_model.specs.declared.spec.FilterSpec.{FilterSpec}
+use Rattle.plan_model.specs.declared.spec.WindowSpec.{WindowSpec}
+use Rattle.plan_model.specs.PlanData.{PlanData, plan_data_of}
+use Rattle.dataflow_model.specs.Leg.{Leg}
+use Rattle.dataflow_model.specs.AbstractLayout.{reader_of, place_in_reader, partition_read}
 use Rattle.layout_rules.specs.declared.stage.Operator.TheVariants.{Source, Filter, Window, Sink}
 use Rattle.layout_rules.specs.declared.stage.Edge.TheVariants.{Forward, ByGroup, Rebalance}
 use Rattle.layout_rules.specs.declared.stage.Stage.{Stage}
 use Rattle.layout_rules.specs.Stages.{stage_from, inputs_of, outputs_of, partitions_of}
 use Rattle.layout_rules.specs.Rules.{IsCompiled}
 use Rattle.layout_rules.specs.Scale.{FilterScale, ScaleData, scale_data_of}
-use Rattle.layout_rules.specs.Layouts.{partition_counts, Entries, layout_of, input_of}
+use Rattle.layout_rules.specs.Layouts.{partition_counts, Entries, abstract_layout, abstract_input}
 
 -- a plan with two sources of 5 partitions and two filters
 abbrev pub five_partitions : List ℕ → SourceSpec
@@ -35,15 +36,15 @@ five =
     ∷ stage_from 1 (Sink ∷ []) None ∷ []
 
 -- partition 4 of the second source, the last of ten, is at place 1 of task 3
-abbrev pub LastPartition : List ℕ → List ℕ → FilterSpec → FilterSpec → WindowSpec → Entries → (ℕ → ℕ → ℕ) → Bool → Type 0
-LastPartition s r f g w e cut stops =
-    let i = input_of (two_sources s r f g w) e in
-    let l = layout_of (two_sources s r f g w) e cut stops five 3 in
+abbrev pub LastPartition : List ℕ → List ℕ → FilterSpec → FilterSpec → WindowSpec → Entries → Leg → Type 0
+LastPartition s r f g w e leg =
+    let i = abstract_input (two_sources s r f g w) e in
+    let l = abstract_layout (two_sources s r f g w) e leg five 3 in
     (i.partitions ≡ 10)
-    × (task_of i l 9 ≡ 3)
-    × (place_of i l 9 ≡ 1)
-    × (part i l 3 1 ≡ 9)
-    × ((l.task 3).limit 1 ≡ cut 1 4)
+    × (reader_of i l 9 ≡ 3)
+    × (place_in_reader i l 9 ≡ 1)
+    × (partition_read i l 3 1 ≡ 9)
+    × ((l.task 3).limit 0 1 ≡ leg.limit 0 1 4)
 
 abbrev pub FiveStages : Type 0
 FiveStages = (s r : List ℕ) (f g : FilterSpec) (w : WindowSpec)
@@ -58,4 +59,4 @@ FiveStages = (s r : List ℕ) (f g : FilterSpec) (w : WindowSpec)
     × (outputs_of five 10 ≡ [])
     × (partitions_of (partition_counts (two_sources s r f g w)) five 3 ≡ 1 ∷ 4 ∷ [])
     × (partitions_of (partition_counts (two_sources s r f g w)) five 5 ≡ [])
-    × ((e : Entries) (cut : ℕ → ℕ → ℕ) (stops : Bool) → LastPartition s r f g w e cut stops)
+    × ((e : Entries) (leg : Leg) → LastPartition s r f g w e leg)

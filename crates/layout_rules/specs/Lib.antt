@@ -1,4 +1,4 @@
-pub mod Places
+pub mod Below
 pub mod ScaleData
 pub mod Stages
 pub mod Rules

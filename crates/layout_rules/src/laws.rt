@@ -1,6 +1,6 @@
 //! Laws of the definitions, each the contract of a function that does nothing.
 
-ghost use Rattle.layout_rules.specs.Laws.{CompiledIsLayout, CompiledOnce, CompiledEver, OneMore, StagesAlike, TasksCounted};
+ghost use Rattle.layout_rules.specs.Laws.{CompiledIsLayout, CompiledOnce, CompiledEver, OneMore, StagesAlike, StagesAreBounded, TasksAreOneLeg, TasksCounted};
 ghost use Rattle.layout_rules.specs.Example.{FiveStages};
 
 /// The stages of a plan at a scale are a layout: its tasks and rings go together, each key has an output that
@@ -30,10 +30,21 @@ pub fn stages_alike()
     ensures { StagesAlike }
 {}
 
+/// The stages of the sources stand first, each stage has a parallelism that the plan's key groups allow, and there
+/// are at most [`MOST_TASKS`](crate::MOST_TASKS) tasks.
+pub fn stages_are_bounded()
+    ensures { StagesAreBounded }
+{}
+
 /// How many tasks the layout of a plan has at a scale: those of the sources, of each filter that opens a
 /// stage, of the window, and the sink's.
 pub fn tasks_counted()
     ensures { TasksCounted }
+{}
+
+/// In a leg from a start over cuts that rise to its end, all tasks of a layout are the tasks of one leg.
+pub fn tasks_are_one_leg()
+    ensures { TasksAreOneLeg }
 {}
 
 /// A worked layout: two sources with 2 and 3 subtasks, two chained filters with 2 and a window with 3. Tasks

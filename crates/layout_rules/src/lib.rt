@@ -6,6 +6,9 @@
 #![tactic(auto)]
 
 pub mod laws;
+mod limits;
 mod stage;
 
+pub use dataflow_model::Role;
+pub use limits::{MOST_CAPACITY, MOST_TASKS};
 pub use stage::{Edge, FilterScale, Operator, Stage, TaskPlace};

@@ -31,6 +31,24 @@ map_insert_key {B = B} cmp f (x ∷ keys) key =
       | Greater ↦ ap (λ (ys : List B). f x ∷ ys) (map_insert_key cmp f keys key)
     ]
 
+-- no more keys than there were
+length-insert_key : {K : Type 0} (cmp : K → K → Ordering) (keys : List K) (key : K) → length (insert_key cmp keys key) ≤ length keys + 1
+length-insert_key cmp [] key = omega arith
+length-insert_key cmp (x ∷ keys) key =
+    let rest = length-insert_key cmp keys key in
+    elim (cmp key x) as (λ o. length (match_ordering o (key ∷ x ∷ keys) (x ∷ keys) (x ∷ insert_key cmp keys key)) ≤ length (x ∷ keys) + 1) [
+      | Less ↦ omega arith
+      | Equal ↦ omega arith
+      | Greater ↦ omega (arith, rest)
+    ]
+
+length-folded : {K : Type 0} (cmp : K → K → Ordering) (set keys : List K) → length (fold (insert_key cmp) set keys) ≤ length set + length keys
+length-folded cmp set [] = omega arith
+length-folded cmp set (x ∷ keys) = omega (arith, length-folded cmp (insert_key cmp set x) keys, length-insert_key cmp set x)
+
+pub length-ascending : {K : Type 0} (cmp : K → K → Ordering) (keys : List K) → length (ascending cmp keys) ≤ length keys
+length-ascending cmp keys = omega (arith, length-folded cmp [] keys)
+
 pub one_more : (added : Bool) (m n i : ℕ) → m ≡ n + cond added 1 0 → n ≤ i → m ≤ i + 1
 one_more true m n i e le = omega arith
 one_more false m n i e le = omega arith

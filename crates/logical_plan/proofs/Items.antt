@@ -1,16 +1,13 @@
 -- Lists that are mapped, and tests of them.
 use Rattle.std.proofs.Common.{◌≡◌, ℕ, ◌+◌, Bool, true, false, cond, not, ◌&&◌, List, [], ◌∷◌, map, refl, ap}
 use Rattle.std.specs.List.{list_all, prefix_len, position}
-use Rattle.std.proofs.lemmas.List.{map-id, length-map}
+use Rattle.std.proofs.lemmas.List.{length-map}
 use Rattle.std.proofs.lemmas.List.Folds.{list_all-map, list_all-append}
-use Rattle.logical_plan.specs.declared.plan_text.SourceText.{SourceText}
-use Rattle.logical_plan.specs.declared.plan_text.FilterText.{FilterText}
-use Rattle.logical_plan.specs.declared.plan_text.PlanText.{PlanText}
-use Rattle.logical_plan.specs.Uids.{is_uid}
+use Rattle.logical_plan.specs.declared.text.SourceText.{SourceText}
+use Rattle.logical_plan.specs.declared.text.FilterText.{FilterText}
+use Rattle.logical_plan.specs.declared.text.PlanText.{PlanText}
+use Rattle.plan_model.specs.Uids.{is_uid}
 use Rattle.logical_plan.specs.Requirements.{has_uids}
-
-pub map_same : {A : Type 0} (xs : List A) → map (λ (x : A). x) xs ≡ xs
-map_same xs = map-id xs
 
 and_true : (a : Bool) → (a && true) ≡ a
 and_true true = refl

@@ -11,15 +11,18 @@ use Rattle.std.proofs.lemmas.List.Elements.{All-map}
 use Rattle.std.proofs.lemmas.List.Folds.{list_all-append, list_all-map}
 use Rattle.std.proofs.lemmas.List.Sums.{AllPass-from_list_all, list_all-from_AllPass}
 use Rattle.std.specs.Int.Signed.{le_z_yes, lt_z_yes}
-use Rattle.logical_plan.specs.Uids.{is_nat_within, is_uid, are_distinct}
-use Rattle.logical_plan.specs.declared.plan_text.SourceText.{SourceText}
-use Rattle.logical_plan.specs.declared.plan_text.FilterText.{FilterText}
-use Rattle.logical_plan.specs.declared.plan_text.AggregateText.{AggregateText}
-use Rattle.logical_plan.specs.declared.plan_text.AggregateText.TheVariants as text
-use Rattle.logical_plan.specs.declared.plan_text.PlanText.{PlanText}
+use Rattle.json_parts.specs.Answer.{first_unmet}
+use Rattle.json_parts.proofs.Facts.{met_first}
+use Rattle.json_parts.specs.Tests.{is_within, is_place}
+use Rattle.plan_model.specs.Uids.{is_nat_within, is_uid, are_distinct}
+use Rattle.logical_plan.specs.declared.text.SourceText.{SourceText}
+use Rattle.logical_plan.specs.declared.text.FilterText.{FilterText}
+use Rattle.logical_plan.specs.declared.text.AggregateText.{AggregateText}
+use Rattle.logical_plan.specs.declared.text.AggregateText.TheVariants as text
+use Rattle.logical_plan.specs.declared.text.PlanText.{PlanText}
 use Rattle.logical_plan.specs.declared.fault.PlanFault.{PlanFault}
-use Rattle.logical_plan.specs.PlanData.{PlanData, IsPlan, IsWindow, has_column, uids}
-use Rattle.logical_plan.specs.Requirements.{is_within, is_place, is_aggregate_of, text_uids, first_unmet, requirements, has_columns, has_column_indices, has_max, has_sources, has_partitions, has_uids, has_distinct_uids, has_filters, has_size, has_slide, has_offset, has_panes, has_aggregates}
+use Rattle.plan_model.specs.PlanData.{PlanData, IsPlan, IsWindow, has_column, uids}
+use Rattle.logical_plan.specs.Requirements.{is_aggregate_of, text_uids, requirements, has_columns, has_column_indices, has_max, has_sources, has_partitions, has_uids, has_distinct_uids, has_filters, has_size, has_slide, has_offset, has_panes, has_aggregates}
 use Rattle.logical_plan.specs.Answer.{source_data, filter_data, aggregate_data, having_data, plan_data}
 
 -- what the requirements say, one by one
@@ -44,10 +47,6 @@ pub record Meets (t : PlanText) : Type 0 where
   pub aggregates : is_nat_within 1 8 (length t.window.aggregates) ≡ true
   pub places : list_all (λ h. is_place (pos (length t.window.aggregates)) h.aggregate) t.window.having ≡ true
 
-met_first : (b : Bool) (rest : Option PlanFault) (f : PlanFault) → cond b rest (Some f) ≡ None → (b ≡ true) × (rest ≡ None)
-met_first true rest f h = (refl, h)
-met_first false rest f h = absurd cc
-
 pub both : (a b : Bool) → (a && b) ≡ true → (a ≡ true) × (b ≡ true)
 both true b h = (refl, h)
 both false b h = absurd cc
@@ -55,19 +54,19 @@ both false b h = absurd cc
 pub meets : (t : PlanText) → first_unmet requirements t ≡ None → Meets t
 unfolding requirements has_columns has_column_indices has_max has_sources has_partitions has_uids has_distinct_uids has_filters has_size has_slide has_offset has_panes has_aggregates
 meets t h =
-    let columns = met_first (has_columns t) _ _ h in
-    let indices = met_first (has_column_indices t) _ _ columns.1 in
-    let max = met_first (has_max t) _ _ indices.1 in
-    let sources = met_first (has_sources t) _ _ max.1 in
-    let partitions = met_first (has_partitions t) _ _ sources.1 in
-    let named = met_first (has_uids t) _ _ partitions.1 in
-    let distinct = met_first (has_distinct_uids t) _ _ named.1 in
-    let filters = met_first (has_filters t) _ _ distinct.1 in
-    let size = met_first (has_size t) _ _ filters.1 in
-    let slide = met_first (has_slide t) _ _ size.1 in
-    let offset = met_first (has_offset t) _ _ slide.1 in
-    let panes = met_first (has_panes t) _ _ offset.1 in
-    let aggregates = met_first (has_aggregates t) _ _ panes.1 in
+    let columns = met_first _ (has_columns t) _ h in
+    let indices = met_first _ (has_column_indices t) _ columns.1 in
+    let max = met_first _ (has_max t) _ indices.1 in
+    let sources = met_first _ (has_sources t) _ max.1 in
+    let partitions = met_first _ (has_partitions t) _ sources.1 in
+    let named = met_first _ (has_uids t) _ partitions.1 in
+    let distinct = met_first _ (has_distinct_uids t) _ named.1 in
+    let filters = met_first _ (has_filters t) _ distinct.1 in
+    let size = met_first _ (has_size t) _ filters.1 in
+    let slide = met_first _ (has_slide t) _ size.1 in
+    let offset = met_first _ (has_offset t) _ slide.1 in
+    let panes = met_first _ (has_panes t) _ offset.1 in
+    let aggregates = met_first _ (has_aggregates t) _ panes.1 in
     let on_aggregates = both (is_place t.columns t.time && is_place t.columns t.key && list_all (λ (f : FilterText). is_place t.columns f.column) t.filters) _ indices.0 in
     let on_filters = both (is_place t.columns t.time && is_place t.columns t.key) _ on_aggregates.0 in
     let on_window = both (is_place t.columns t.time) (is_place t.columns t.key) on_filters.0 in
@@ -94,6 +93,24 @@ meets t h =
       panes = panes.0;
       aggregates = kinds.0;
       places = kinds.1;
+    }
+
+-- the uids of sources, filters and window, each a uid
+pub record NamedParts (t : PlanText) : Type 0 where
+  pub sources : list_all (λ s. is_uid s.uid) t.sources ≡ true
+  pub filters : list_all (λ f. is_uid f.uid) t.filters ≡ true
+  pub window : is_uid t.window.uid ≡ true
+
+pub named_parts : (t : PlanText) → Meets t → NamedParts t
+named_parts t m =
+    let sources = map (λ (s : SourceText). s.uid) t.sources in
+    let filters = map (λ (f : FilterText). f.uid) t.filters in
+    let last = both (list_all is_uid (sources ++ filters)) (is_uid t.window.uid && true) (sym (list_all-append is_uid (sources ++ filters) (t.window.uid ∷ [])) ∙ m.uids) in
+    let front = both (list_all is_uid sources) (list_all is_uid filters) (sym (list_all-append is_uid sources filters) ∙ last.0) in
+    record {
+      sources = sym (list_all-map is_uid (λ (s : SourceText). s.uid) t.sources) ∙ front.0;
+      filters = sym (list_all-map is_uid (λ (f : FilterText). f.uid) t.filters) ∙ front.1;
+      window = (both (is_uid t.window.uid) true last.1).0;
     }
 
 nat_within : (low high n : ℕ) → is_nat_within low high n ≡ true → (low ≤ n) × (n ≤ high)

@@ -2,10 +2,10 @@
 use Rattle.std.specs.Prelude.{◌≡◌, ℕ, ℤ, List, map, bytes_eq}
 use Rattle.std.specs.List.{list_any}
 use Rattle.plain_data.specs.Record.{Record}
-use Rattle.logical_plan.specs.PlanData.{PlanData, IsPlan}
+use Rattle.plan_model.specs.PlanData.{PlanData, IsPlan}
 use Rattle.logical_plan.specs.PlanRecord.{plan_record}
-use Rattle.logical_plan.specs.Windows.{passes, is_window_of}
-use Rattle.logical_plan.specs.Rows.{keeps}
+use Rattle.plan_model.specs.Windows.{passes, is_window_of}
+use Rattle.plan_model.specs.Rows.{keeps}
 
 pub record IsAlike (p q : PlanData) : Type 0 where
   pub columns : p.columns ≡ q.columns

@@ -1,26 +1,28 @@
 -- What reading a plan answers of the bytes.
-use Rattle.std.specs.Prelude.{◌≡◌, ℕ, List, map, unsigned_abs, Result, Ok, Err}
+use Rattle.std.specs.Prelude.{ℕ, Bool, true, false, List, map, unsigned_abs, Result, Err}
 use Rattle.std.specs.Option.{option_map_or}
 use Rattle.serde_json.specs.Data.{Data}
 use Rattle.json_parts.specs.Parts.{json_of}
+use Rattle.json_parts.specs.Answer.{value_or_fault}
+pub use Rattle.json_parts.specs.Answer.{Fails, Gives}
 use Rattle.json_parts.specs.declared.error.PartError.{PartError}
 use Rattle.json_parts.specs.declared.error.PartError.TheVariants as part
-use Rattle.logical_plan.specs.declared.plan_text.SourceText.{SourceText}
-use Rattle.logical_plan.specs.declared.plan_text.FilterText.{FilterText}
-use Rattle.logical_plan.specs.declared.plan_text.AggregateText.{AggregateText}
-use Rattle.logical_plan.specs.declared.plan_text.AggregateText.TheVariants as text
-use Rattle.logical_plan.specs.declared.plan_text.HavingText.{HavingText}
-use Rattle.logical_plan.specs.declared.plan_text.WindowText.{WindowText}
-use Rattle.logical_plan.specs.declared.plan_text.PlanText.{PlanText}
-use Rattle.logical_plan.specs.declared.spec.SourceSpec.{SourceSpec}
-use Rattle.logical_plan.specs.declared.spec.FilterSpec.{FilterSpec}
-use Rattle.logical_plan.specs.declared.spec.Aggregate.{Aggregate}
-use Rattle.logical_plan.specs.declared.spec.Aggregate.TheVariants.{Count, Sum, Least, Greatest}
-use Rattle.logical_plan.specs.declared.spec.Having.{Having}
-use Rattle.logical_plan.specs.declared.spec.WindowSpec.{WindowSpec}
-use Rattle.logical_plan.specs.PlanData.{PlanData, plan_data_of}
+use Rattle.logical_plan.specs.declared.text.SourceText.{SourceText}
+use Rattle.logical_plan.specs.declared.text.FilterText.{FilterText}
+use Rattle.logical_plan.specs.declared.text.AggregateText.{AggregateText}
+use Rattle.logical_plan.specs.declared.text.AggregateText.TheVariants as text
+use Rattle.logical_plan.specs.declared.text.HavingText.{HavingText}
+use Rattle.logical_plan.specs.declared.text.WindowText.{WindowText}
+use Rattle.logical_plan.specs.declared.text.PlanText.{PlanText}
+use Rattle.plan_model.specs.declared.spec.SourceSpec.{SourceSpec}
+use Rattle.plan_model.specs.declared.spec.FilterSpec.{FilterSpec}
+use Rattle.plan_model.specs.declared.spec.Aggregate.{Aggregate}
+use Rattle.plan_model.specs.declared.spec.Aggregate.TheVariants.{Count, Sum, Least, Greatest}
+use Rattle.plan_model.specs.declared.spec.Having.{Having}
+use Rattle.plan_model.specs.declared.spec.WindowSpec.{WindowSpec}
+use Rattle.plan_model.specs.PlanData.{PlanData, plan_data_of}
 use Rattle.logical_plan.specs.PlanText.{plan_text}
-use Rattle.logical_plan.specs.Requirements.{requirements, first_unmet}
+use Rattle.logical_plan.specs.Requirements.{requirements}
 use Rattle.logical_plan.specs.declared.fault.PlanFault.{PlanFault}
 use Rattle.logical_plan.specs.declared.fault.PlanFault.TheVariants.{NotJson, Member, Memory}
 
@@ -57,7 +59,7 @@ abbrev pub plan_data : PlanText → PlanData
 plan_data t = plan_data_of (unsigned_abs t.columns) (unsigned_abs t.max) (map source_data t.sources) (map filter_data t.filters) (window_data (unsigned_abs t.time) (unsigned_abs t.key) t.window)
 
 abbrev pub plan_or_fault : PlanText → Result PlanData PlanFault
-plan_or_fault t = option_map_or Err (first_unmet requirements t) (Ok (plan_data t))
+plan_or_fault = value_or_fault requirements plan_data
 
 -- the plan that a JSON value is, or the first fault
 unfoldable pub plan_of_json : Data → Result PlanData PlanFault
@@ -67,15 +69,10 @@ plan_of_json d = option_map_or plan_or_fault (plan_text d) (Err Member)
 unfoldable pub plan_of_bytes : List ℕ → Result PlanData PlanFault
 plan_of_bytes bytes = option_map_or plan_of_json (json_of bytes) (Err NotJson)
 
--- the fault is the one that was to be answered, unless memory ran out
-abbrev pub Fails : {Y : Type 0} → PlanFault → Result Y PlanFault → Type 0
-Fails Memory said = Unit {0}
-Fails fault said = said ≡ Err fault
-
--- so is what was answered
-abbrev pub Gives : {X Y : Type 0} → (X → Y) → Result X PlanFault → Result Y PlanFault → Type 0
-Gives view (Ok x) said = said ≡ Ok (view x)
-Gives view (Err fault) said = Fails fault said
+-- a fault that says nothing of the text
+abbrev pub is_memory : PlanFault → Bool
+is_memory Memory = true
+is_memory fault = false
 
 -- a part of another form is the fault Member
 abbrev pub fault_of_part : PartError → PlanFault

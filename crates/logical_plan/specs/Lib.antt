@@ -1,13 +1,7 @@
-pub mod Uids
-pub mod PlanData
 pub mod PlanText
 pub mod Requirements
 pub mod Places
 pub mod Answer
 pub mod PlanRecord
-pub mod Bag
-pub mod Windows
-pub mod Aggregates
-pub mod Rows
 pub mod Alike
 pub mod Laws

@@ -1,39 +1,29 @@
 -- The canonical record of a plan: plans with equal records count, keep and group alike.
 -- Partitions, the uids of filters and window, and the order of filters are not in it.
-use Rattle.std.specs.Prelude.{ℕ, ℤ, List, [], ◌∷◌, ◌++◌, map, fold, length}
-use Rattle.std.specs.Int.{w16, w64, to_be_bytes, cast_unsigned, int_rem_euclid}
-use Rattle.std.specs.List.{flat_map}
+use Rattle.std.specs.Prelude.{ℕ, zero, suc, ℤ, Bool, true, false, ◌==◌, List, [], map, fold}
+use Rattle.std.specs.Int.{int_rem_euclid}
 use Rattle.std.specs.Ordering.{nat_cmp, int_cmp, ordering_then}
 use Rattle.std.specs.Cmp.Lexicographic.{slice_cmp}
 use Rattle.std.specs.BTreeSet.{insert_key}
 use Rattle.std.specs.declared.cmp.Ordering.{Ordering}
 use Rattle.lane_kernels.specs.declared.Cmp.{Cmp}
 use Rattle.lane_kernels.specs.declared.Cmp.TheVariants.{Eq, Ne, Lt, Le, Gt, Ge}
-use Rattle.logical_plan.specs.declared.spec.FilterSpec.{FilterSpec}
-use Rattle.logical_plan.specs.declared.spec.Aggregate.{Aggregate}
-use Rattle.logical_plan.specs.declared.spec.Aggregate.TheVariants.{Count, Sum, Least, Greatest}
-use Rattle.logical_plan.specs.declared.spec.Having.{Having}
-use Rattle.logical_plan.specs.declared.spec.WindowSpec.{WindowSpec}
+use Rattle.byte_fields.specs.declared.fault.FieldFault.TheVariants.{Range}
+use Rattle.byte_fields.specs.Format.{Format, where_it, before, as_record}
+use Rattle.byte_fields.specs.Lists.{listed}
+use Rattle.byte_fields.specs.Fields.{u8_field, u16_field, i64_field}
+use Rattle.plan_model.specs.declared.spec.FilterSpec.{FilterSpec}
+use Rattle.plan_model.specs.declared.spec.Aggregate.{Aggregate}
+use Rattle.plan_model.specs.declared.spec.Aggregate.TheVariants.{Count, Sum, Least, Greatest}
+use Rattle.plan_model.specs.declared.spec.Having.{Having}
+use Rattle.plan_model.specs.declared.spec.WindowSpec.{WindowSpec}
+use Rattle.plan_model.specs.PlanData.{PlanData}
+use Rattle.plan_model.specs.Uids.{uid_field}
 use Rattle.logical_plan.specs.declared.record.Condition.{Condition}
-use Rattle.logical_plan.specs.PlanData.{PlanData}
-
--- two and eight bytes, the highest first; a negative number in two's complement
-unfoldable pub short_bytes : ℕ → List ℕ
-short_bytes n = to_be_bytes w16 n
-
-unfoldable pub number_bytes : ℤ → List ℕ
-number_bytes z = to_be_bytes w64 (cast_unsigned w64 z)
 
 -- each of the keys once, in order
 abbrev pub ascending : {K : Type 0} → (K → K → Ordering) → List K → List K
 ascending cmp keys = fold (insert_key cmp) [] keys
-
--- how many items, in a byte, and then each of them
-abbrev pub listed : {X : Type 0} → (X → List ℕ) → List X → List ℕ
-listed bytes_of items = length items ∷ flat_map bytes_of items
-
-abbrev pub uid_bytes : List ℕ → List ℕ
-uid_bytes uid = length uid ∷ uid
 
 abbrev pub cmp_code : Cmp → ℕ
 cmp_code Eq = 0
@@ -53,27 +43,64 @@ having_condition h = record { subject = h.aggregate; op = cmp_code h.cmp; value 
 abbrev pub condition_cmp : Condition → Condition → Ordering
 condition_cmp a b = ordering_then (nat_cmp a.subject b.subject) (ordering_then (nat_cmp a.op b.op) (int_cmp a.value b.value))
 
-abbrev pub condition_bytes : Condition → List ℕ
-condition_bytes c = c.subject ∷ c.op ∷ number_bytes c.value
+unfoldable pub condition_field : Format Condition
+condition_field =
+    as_record (λ x. record { subject = x.0; op = x.1.0; value = x.1.1 }) (λ c. (c.subject, (c.op, c.value)))
+    (before u8_field (λ _. before u8_field (λ _. i64_field)))
 
 -- a kind and a column, which is 0 for a count
-abbrev pub aggregate_bytes : Aggregate → List ℕ
-aggregate_bytes Count = 0 ∷ 0 ∷ []
-aggregate_bytes (Sum column) = 1 ∷ column ∷ []
-aggregate_bytes (Least column) = 2 ∷ column ∷ []
-aggregate_bytes (Greatest column) = 3 ∷ column ∷ []
+abbrev pub aggregate_code : Aggregate → ℕ × ℕ
+aggregate_code Count = (0, 0)
+aggregate_code (Sum column) = (1, column)
+aggregate_code (Least column) = (2, column)
+aggregate_code (Greatest column) = (3, column)
 
--- columns, groups, time and key; the window's numbers, of which the offset is taken modulo the slide
-abbrev pub head_bytes : PlanData → List ℕ
-head_bytes p = p.columns ∷ (short_bytes p.max ++ p.window.time ∷ p.window.key ∷ [])
+abbrev pub aggregate_coded : ℕ → ℕ → Aggregate
+aggregate_coded zero column = Count
+aggregate_coded (suc zero) column = Sum column
+aggregate_coded (suc (suc zero)) column = Least column
+aggregate_coded (suc (suc (suc n))) column = Greatest column
 
-abbrev pub span_bytes : WindowSpec → List ℕ
-span_bytes w = number_bytes w.size ++ number_bytes w.slide ++ number_bytes (int_rem_euclid w.offset w.slide)
+abbrev pub is_aggregate_code : ℕ → ℕ → Bool
+is_aggregate_code zero column = column == 0
+is_aggregate_code (suc zero) column = true
+is_aggregate_code (suc (suc zero)) column = true
+is_aggregate_code (suc (suc (suc zero))) column = true
+is_aggregate_code (suc (suc (suc (suc n)))) column = false
+
+unfoldable pub aggregate_field : Format Aggregate
+aggregate_field = as_record (λ x. aggregate_coded x.0 x.1) aggregate_code (where_it (λ x. is_aggregate_code x.0 x.1) Range (before u8_field (λ _. u8_field)))
+
+-- columns, key groups, and the columns of time and key
+abbrev pub Head : Type 0
+Head = ℕ × (ℕ × (ℕ × ℕ))
+
+abbrev pub head_of : PlanData → Head
+head_of p = (p.columns, (p.max, (p.window.time, p.window.key)))
+
+unfoldable pub head_field : Format Head
+head_field = before u8_field (λ _. before u16_field (λ _. before u8_field (λ _. u8_field)))
+
+-- size, slide, and the offset modulo the slide
+abbrev pub Span : Type 0
+Span = ℤ × (ℤ × ℤ)
+
+abbrev pub span_of : WindowSpec → Span
+span_of w = (w.size, (w.slide, int_rem_euclid w.offset w.slide))
+
+unfoldable pub span_field : Format Span
+span_field = before i64_field (λ _. before i64_field (λ _. i64_field))
+
+-- the uids of the sources, the conditions of the filters, the aggregates, and the conditions of having
+abbrev pub RecordParts : Type 0
+RecordParts = Head × (Span × (List (List ℕ) × (List Condition × (List Aggregate × List Condition))))
+
+abbrev pub parts_of : PlanData → RecordParts
+parts_of p = (head_of p, (span_of p.window, (ascending (slice_cmp nat_cmp) (map (λ s. s.uid) p.sources), (ascending condition_cmp (map filter_condition p.filters), (p.window.aggregates, ascending condition_cmp (map having_condition p.window.having))))))
+
+unfoldable pub record_field : Format RecordParts
+record_field =
+    before head_field (λ _. before span_field (λ _. before (listed u8_field uid_field) (λ _. before (listed u8_field condition_field) (λ _. before (listed u8_field aggregate_field) (λ _. listed u8_field condition_field)))))
 
 unfoldable pub plan_record : PlanData → List ℕ
-plan_record p =
-    head_bytes p ++ span_bytes p.window
-    ++ listed uid_bytes (ascending (slice_cmp nat_cmp) (map (λ s. s.uid) p.sources))
-    ++ listed condition_bytes (ascending condition_cmp (map filter_condition p.filters))
-    ++ listed aggregate_bytes p.window.aggregates
-    ++ listed condition_bytes (ascending condition_cmp (map having_condition p.window.having))
+plan_record p = record_field.spell (parts_of p)

@@ -1,25 +1,17 @@
 -- What a JSON value says as a plan. None: a member is missing, unknown or of another form.
-use Rattle.std.specs.Prelude.{ℕ, ℤ, pos, List, [], ◌∷◌, Option, Some, None, codes, if◌then◌else◌, bytes_eq}
+use Rattle.std.specs.Prelude.{ℕ, ℤ, pos, List, [], ◌∷◌, Option, Some, None, codes}
 use Rattle.serde_json.specs.Data.{Data}
 use Rattle.serde_json.specs.Find.{get}
-use Rattle.json_parts.specs.Parts.{◌>>=◌, whole_at, whole_or, text_at, each_at, each_or_empty, has_only}
+use Rattle.json_parts.specs.Parts.{◌>>=◌, whole_at, whole_or, text_at, each_at, each_or_empty, object_of, named}
 use Rattle.lane_kernels.specs.declared.Cmp.{Cmp}
 use Rattle.lane_kernels.specs.declared.Cmp.TheVariants.{Eq, Ne, Lt, Le, Gt, Ge}
-use Rattle.logical_plan.specs.declared.plan_text.SourceText.{SourceText}
-use Rattle.logical_plan.specs.declared.plan_text.FilterText.{FilterText}
-use Rattle.logical_plan.specs.declared.plan_text.AggregateText.{AggregateText}
-use Rattle.logical_plan.specs.declared.plan_text.AggregateText.TheVariants.{Count, Sum, Least, Greatest}
-use Rattle.logical_plan.specs.declared.plan_text.HavingText.{HavingText}
-use Rattle.logical_plan.specs.declared.plan_text.WindowText.{WindowText}
-use Rattle.logical_plan.specs.declared.plan_text.PlanText.{PlanText}
-
--- an object with no member but these
-abbrev pub object_of : {X : Type 0} → List (List ℕ) → Data → Option X → Option X
-object_of names d said = if has_only names d then said else None
-
--- a value, if the name is this one, and otherwise what another says
-abbrev pub named : {X : Type 0} → List ℕ → List ℕ → Option X → Option X → Option X
-named name wanted said other = if bytes_eq name wanted then said else other
+use Rattle.logical_plan.specs.declared.text.SourceText.{SourceText}
+use Rattle.logical_plan.specs.declared.text.FilterText.{FilterText}
+use Rattle.logical_plan.specs.declared.text.AggregateText.{AggregateText}
+use Rattle.logical_plan.specs.declared.text.AggregateText.TheVariants.{Count, Sum, Least, Greatest}
+use Rattle.logical_plan.specs.declared.text.HavingText.{HavingText}
+use Rattle.logical_plan.specs.declared.text.WindowText.{WindowText}
+use Rattle.logical_plan.specs.declared.text.PlanText.{PlanText}
 
 abbrev pub cmp_named : List ℕ → Option Cmp
 cmp_named name =

@@ -3,15 +3,18 @@
 ghost use Rattle.std.specs.Prelude.{◌≡◌, ◌<◌, FitsSigned, true, None, map, pos, unsigned_abs, IfOk};
 ghost use Rattle.std.specs.Int.{w64};
 ghost use Rattle.std.specs.List.{All, list_all};
+ghost use Rattle.json_parts.specs.Answer.{first_unmet};
+ghost use Rattle.json_parts.specs.Tests.{is_within, is_place};
+ghost use Rattle.plan_model.specs.Uids.{is_uid};
 ghost use Rattle.logical_plan.specs.Places.{texts};
-ghost use Rattle.logical_plan.specs.Requirements.{is_within, is_place, is_aggregate_of, requirements, first_unmet, text_uids};
+ghost use Rattle.logical_plan.specs.Requirements.{is_aggregate_of, requirements, text_uids};
 ghost use Rattle.logical_plan.specs.Answer.{source_data, filter_data, aggregate_data, having_data, window_data, plan_data};
 
 use crate::plan::Plan;
-use crate::plan_text::{AggregateText, FilterText, HavingText, PlanText, SourceText, WindowText};
-use crate::spec::{Aggregate, FilterSpec, Having, SourceSpec, WindowSpec};
+use crate::text::{AggregateText, FilterText, HavingText, PlanText, SourceText, WindowText};
 use indexmap::IndexSet;
 use plain_data::Items;
+use plan_model::{Aggregate, FilterSpec, Having, SourceSpec, Uid, WindowSpec};
 use std::alloc::{AllocError, Global};
 
 /// A number that is known to fit.
@@ -24,18 +27,20 @@ fn narrow(n: i64) -> u32
 }
 
 fn source_spec(source: SourceText) -> SourceSpec
-    requires { is_within (pos 1) (pos 64) source.partitions ≡ true }
+    requires uid { is_uid source.uid ≡ true }
+    requires partitions { is_within (pos 1) (pos 64) source.partitions ≡ true }
     ensures { result ≡ source_data source }
 {
     let SourceText { uid, partitions } = source;
     SourceSpec {
-        uid,
+        uid: Uid::from_text(uid),
         partitions: partitions as u32,
     }
 }
 
 fn source_specs(alloc: Global, sources: Items<SourceText>) -> Result<Items<SourceSpec>, AllocError>
-    requires { list_all (λ s. is_within (pos 1) (pos 64) s.partitions) sources ≡ true }
+    requires uids { list_all (λ s. is_uid s.uid) sources ≡ true }
+    requires partitions { list_all (λ s. is_within (pos 1) (pos 64) s.partitions) sources ≡ true }
     ensures { IfOk result (λ specs. specs ≡ map source_data sources) }
 {
     let mut specs = Vec::new(alloc);
@@ -46,6 +51,7 @@ fn source_specs(alloc: Global, sources: Items<SourceText>) -> Result<Items<Sourc
 }
 
 fn filter_spec(filter: FilterText, columns: i64) -> FilterSpec
+    requires uid { is_uid filter.uid ≡ true }
     requires columns { is_within (pos 1) (pos 16) columns ≡ true }
     requires column { is_place columns filter.column ≡ true }
     ensures says { result ≡ filter_data filter }
@@ -58,7 +64,7 @@ fn filter_spec(filter: FilterText, columns: i64) -> FilterSpec
         value,
     } = filter;
     FilterSpec {
-        uid,
+        uid: Uid::from_text(uid),
         column: column as u32,
         cmp,
         value,
@@ -70,6 +76,7 @@ fn filter_specs(
     filters: Items<FilterText>,
     columns: i64,
 ) -> Result<Items<FilterSpec>, AllocError>
+    requires uids { list_all (λ f. is_uid f.uid) filters ≡ true }
     requires columns { is_within (pos 1) (pos 16) columns ≡ true }
     requires within { list_all (λ f. is_place columns f.column) filters ≡ true }
     ensures says { IfOk result (λ specs. specs ≡ map filter_data filters) }
@@ -142,6 +149,7 @@ fn window_spec(
     time: u32,
     key: u32,
 ) -> Result<WindowSpec, AllocError>
+    requires uid { is_uid window.uid ≡ true }
     requires columns { is_within (pos 1) (pos 16) columns ≡ true }
     requires aggregates { list_all (is_aggregate_of columns) window.aggregates ≡ true }
     requires having { list_all (λ h. is_place (pos 8) h.aggregate) window.having ≡ true }
@@ -157,7 +165,7 @@ fn window_spec(
         having,
     } = window;
     Ok(WindowSpec {
-        uid,
+        uid: Uid::from_text(uid),
         time,
         key,
         size,

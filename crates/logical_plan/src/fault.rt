@@ -1,3 +1,5 @@
+//! Why a plan is refused.
+
 ghost use Rattle.std.specs.Prelude.{◌≡◌};
 ghost use Rattle.logical_plan.specs.declared.fault.PlanFault.TheVariants.{Memory};
 ghost use Rattle.logical_plan.specs.Answer.{fault_of_part};

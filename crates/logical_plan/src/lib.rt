@@ -2,19 +2,17 @@
 #![tactic(auto)]
 
 mod building;
-mod check;
 mod fault;
 pub mod laws;
 mod places;
 mod plan;
-mod plan_text;
 mod reading;
 mod record;
-mod spec;
+mod requirements;
+mod text;
 
 pub use fault::PlanFault;
 pub use plan::Plan;
-pub use spec::{Aggregate, FilterSpec, Having, Place, Row, SourceSpec, WindowSpec};
 
 #[cfg(test)]
 mod tests;

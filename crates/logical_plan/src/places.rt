@@ -2,11 +2,11 @@
 
 ghost use Rattle.std.specs.Prelude.{◌≡◌, true, false, not, ◌∷◌, [], ◌++◌, map, IfOk, MatchOption, if◌then◌else◌, bytes_eq};
 ghost use Rattle.std.specs.List.{list_any};
-ghost use Rattle.logical_plan.specs.Uids.{are_distinct};
+ghost use Rattle.plan_model.specs.Uids.{are_distinct};
 ghost use Rattle.logical_plan.specs.Requirements.{text_uids};
 ghost use Rattle.logical_plan.specs.Places.{texts};
 
-use crate::plan_text::{FilterText, PlanText, SourceText};
+use crate::text::{FilterText, PlanText, SourceText};
 use indexmap::IndexSet;
 use std::alloc::{AllocError, Global};
 

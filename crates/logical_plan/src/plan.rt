@@ -1,6 +1,8 @@
-use crate::spec::{FilterSpec, SourceSpec, WindowSpec};
+//! A plan, by its type one that meets every requirement.
+
 use indexmap::IndexSet;
 use plain_data::Items;
+use plan_model::{FilterSpec, SourceSpec, WindowSpec};
 use std::marker::Model;
 
 /// A plan that meets every requirement of its format.
@@ -16,7 +18,7 @@ pub struct Plan {
 
 impl Model for Plan {
     ghost use Rattle.std.specs.Prelude.{◌≡◌};
-    ghost use Rattle.logical_plan.specs.PlanData.{PlanData, IsPlan, plan_data_of, uids};
+    ghost use Rattle.plan_model.specs.PlanData.{PlanData, IsPlan, plan_data_of, uids};
     ghost use Rattle.logical_plan.specs.Places.{texts};
 
     ghost Value = { PlanData };
@@ -29,7 +31,7 @@ impl Model for Plan {
 
 impl Plan {
     ghost use Rattle.std.specs.Prelude.{◌≡◌, position, bytes_eq};
-    ghost use Rattle.logical_plan.specs.PlanData.{IsPlan, plan_data_of, uids};
+    ghost use Rattle.plan_model.specs.PlanData.{IsPlan, plan_data_of, uids};
     ghost use Rattle.logical_plan.specs.Places.{texts};
 
     pub(crate) fn new(

@@ -2,16 +2,17 @@
 
 ghost use Rattle.std.specs.Prelude.{◌≡◌, None, MatchResult};
 ghost use Rattle.serde_json.specs.View.{view};
+ghost use Rattle.json_parts.specs.Answer.{first_unmet};
 ghost use Rattle.logical_plan.specs.Places.{texts};
-ghost use Rattle.logical_plan.specs.Requirements.{requirements, first_unmet, text_uids};
-ghost use Rattle.logical_plan.specs.Answer.{Fails, Gives, plan_or_fault, plan_of_json, plan_of_bytes};
+ghost use Rattle.logical_plan.specs.Requirements.{requirements, text_uids};
+ghost use Rattle.logical_plan.specs.Answer.{Fails, Gives, is_memory, plan_or_fault, plan_of_json, plan_of_bytes};
 
 use crate::building::plan_of;
-use crate::check;
 use crate::fault::PlanFault;
 use crate::places::{places_of, uids_of};
 use crate::plan::Plan;
-use crate::plan_text::{PlanText, text_of_plan};
+use crate::requirements;
+use crate::text::{PlanText, text_of_plan};
 use indexmap::IndexSet;
 use json_parts::{PartError, value_of};
 use serde_json::Value;
@@ -21,53 +22,53 @@ use std::alloc::Global;
 #[tactic(auto, unfolding(crate::specs::Requirements::requirements, crate::specs::Requirements::has_distinct_uids))]
 fn checked(alloc: Global, text: &PlanText) -> Result<IndexSet<String>, PlanFault>
     ensures { MatchResult result (λ places. (texts places ≡ text_uids text.now) × (first_unmet requirements text.now ≡ None))
-        (λ fault. Fails fault (plan_or_fault text.now)) }
+        (λ fault. Fails is_memory fault (plan_or_fault text.now)) }
 {
-    if !check::has_columns(text) {
+    if !requirements::has_columns(text) {
         return Err(PlanFault::Columns);
     }
-    if !check::has_column_indices(text) {
+    if !requirements::has_column_indices(text) {
         return Err(PlanFault::ColumnIndex);
     }
-    if !check::has_max(text) {
+    if !requirements::has_max(text) {
         return Err(PlanFault::MaxParallelism);
     }
-    if !check::has_sources(text) {
+    if !requirements::has_sources(text) {
         return Err(PlanFault::Sources);
     }
-    if !check::has_partitions(text) {
+    if !requirements::has_partitions(text) {
         return Err(PlanFault::Partitions);
     }
-    if !check::has_uids(text) {
+    if !requirements::has_uids(text) {
         return Err(PlanFault::Uid);
     }
     let uids = uids_of(alloc, text)?;
     let Some(places) = places_of(alloc, &uids)? else {
         return Err(PlanFault::UidTwice);
     };
-    if !check::has_filters(text) {
+    if !requirements::has_filters(text) {
         return Err(PlanFault::Filters);
     }
-    if !check::has_size(text) {
+    if !requirements::has_size(text) {
         return Err(PlanFault::WindowSize);
     }
-    if !check::has_slide(text) {
+    if !requirements::has_slide(text) {
         return Err(PlanFault::WindowSlide);
     }
-    if !check::has_offset(text) {
+    if !requirements::has_offset(text) {
         return Err(PlanFault::WindowOffset);
     }
-    if !check::has_panes(text) {
+    if !requirements::has_panes(text) {
         return Err(PlanFault::Panes);
     }
-    if !check::has_aggregates(text) {
+    if !requirements::has_aggregates(text) {
         return Err(PlanFault::Aggregates);
     }
     Ok(places)
 }
 
 fn plan_from(alloc: Global, text: PlanText) -> Result<Plan, PlanFault>
-    ensures { Gives (λ plan. plan) result (plan_or_fault text) }
+    ensures { Gives is_memory (λ plan. plan) result (plan_or_fault text) }
 {
     let places = checked(alloc, &text)?;
     Ok(plan_of(alloc, text, places)?)
@@ -75,7 +76,7 @@ fn plan_from(alloc: Global, text: PlanText) -> Result<Plan, PlanFault>
 
 #[tactic(auto, unfolding(crate::specs::Answer::plan_of_json))]
 fn plan_of_value(alloc: Global, value: &Value) -> Result<Plan, PlanFault>
-    ensures { Gives (λ plan. plan) result (plan_of_json (view value.now)) }
+    ensures { Gives is_memory (λ plan. plan) result (plan_of_json (view value.now)) }
 {
     let text = text_of_plan(alloc, value)?;
     plan_from(alloc, text)
@@ -90,7 +91,7 @@ impl Plan {
     /// whole text before the next. [`PlanFault::Memory`] where memory runs out, in place of any other.
     #[tactic(auto, unfolding(crate::specs::Answer::plan_of_bytes))]
     pub fn read(alloc: Global, bytes: &[u8]) -> Result<Plan, PlanFault>
-        ensures { Gives (λ plan. plan) result (plan_of_bytes bytes.now) }
+        ensures { Gives is_memory (λ plan. plan) result (plan_of_bytes bytes.now) }
     {
         match value_of(alloc, bytes) {
             Ok(value) => plan_of_value(alloc, &value),

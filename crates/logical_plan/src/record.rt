@@ -1,16 +1,20 @@
 //! The canonical record of a plan.
 
-ghost use Rattle.std.specs.Prelude.{◌≡◌, ◌<◌, ◌≤◌, true, ◌++◌, ◌∷◌, [], length, map, OnOk, IfOk};
+ghost use Rattle.std.specs.Prelude.{◌≡◌, ◌<◌, ◌≤◌, true, ◌++◌, length, map, OnOk, IfOk};
 ghost use Rattle.std.specs.Ordering.{nat_cmp};
 ghost use Rattle.std.specs.List.{All, list_all};
 ghost use Rattle.std.specs.Cmp.Lexicographic.{slice_cmp};
-ghost use Rattle.logical_plan.specs.Uids.{is_uid};
-ghost use Rattle.logical_plan.specs.PlanData.{IsWindow, has_column};
-ghost use Rattle.logical_plan.specs.PlanRecord.{number_bytes, short_bytes, cmp_code, filter_condition, having_condition, condition_bytes, condition_cmp, ascending, listed, uid_bytes, aggregate_bytes, head_bytes, span_bytes};
+ghost use Rattle.plan_model.specs.Uids.{is_uid};
+ghost use Rattle.plan_model.specs.PlanData.{IsWindow, has_column};
+ghost use Rattle.byte_fields.specs.Lists.{listed};
+ghost use Rattle.byte_fields.specs.Fields.{u8_field};
+ghost use Rattle.plan_model.specs.Uids.{uid_field};
+ghost use Rattle.logical_plan.specs.PlanRecord.{cmp_code, filter_condition, having_condition, condition_field, condition_cmp, ascending, aggregate_code, aggregate_field, head_of, head_field, span_of, span_field};
 
 use crate::plan::Plan;
-use crate::spec::{Aggregate, FilterSpec, Having, SourceSpec, WindowSpec};
+use byte_fields::{put_i64, put_u8, put_u16};
 use lane_kernels::Cmp;
+use plan_model::{Aggregate, FilterSpec, Having, SourceSpec, WindowSpec, put_uid};
 use std::alloc::{AllocError, Global};
 use std::collections::BTreeSet;
 
@@ -21,20 +25,6 @@ pub struct Condition {
     pub subject: u8,
     pub op: u8,
     pub value: i64,
-}
-
-#[tactic(auto, unfolding(crate::specs::PlanRecord::short_bytes))]
-fn put_short(out: &mut Vec<u8>, n: u16) -> Result<(), AllocError>
-    ensures { OnOk result (out.new.items ≡ out.old.items ++ short_bytes n) }
-{
-    out.extend_from_slice(&n.to_be_bytes())
-}
-
-#[tactic(auto, unfolding(crate::specs::PlanRecord::number_bytes))]
-fn put_number(out: &mut Vec<u8>, n: i64) -> Result<(), AllocError>
-    ensures { OnOk result (out.new.items ≡ out.old.items ++ number_bytes n) }
-{
-    out.extend_from_slice(&n.to_be_bytes())
 }
 
 fn code_of(cmp: Cmp) -> u8
@@ -99,18 +89,20 @@ fn having_conditions(alloc: Global, having: &[Having]) -> Result<BTreeSet<Condit
     Ok(conditions)
 }
 
+#[tactic(auto, unfolding(crate::specs::PlanRecord::condition_field))]
 fn put_condition(out: &mut Vec<u8>, condition: &Condition) -> Result<(), AllocError>
-    ensures { OnOk result (out.new.items ≡ out.old.items ++ condition_bytes condition.now) }
+    ensures { OnOk result (out.new.items ≡ out.old.items ++ condition_field.spell condition.now) }
 {
-    out.extend_from_slice(&[condition.subject, condition.op])?;
-    put_number(out, condition.value)
+    put_u8(out, condition.subject)?;
+    put_u8(out, condition.op)?;
+    put_i64(out, condition.value)
 }
 
 fn put_conditions(out: &mut Vec<u8>, conditions: &BTreeSet<Condition>) -> Result<(), AllocError>
     requires { length conditions.now.keys < 256 }
-    ensures { OnOk result (out.new.items ≡ out.old.items ++ listed condition_bytes conditions.now.keys) }
+    ensures { OnOk result (out.new.items ≡ out.old.items ++ (listed u8_field condition_field).spell conditions.now.keys) }
 {
-    out.push(conditions.len() as u8)?;
+    put_u8(out, conditions.len() as u8)?;
     for condition in conditions {
         put_condition(out, condition)?;
     }
@@ -118,7 +110,6 @@ fn put_conditions(out: &mut Vec<u8>, conditions: &BTreeSet<Condition>) -> Result
 }
 
 fn source_uids(alloc: Global, sources: &[SourceSpec]) -> Result<BTreeSet<&str>, AllocError>
-    requires { All (λ s. is_uid s.uid ≡ true) sources.now }
     ensures says { IfOk result (λ set. map (λ uid. uid.now) set.keys ≡ ascending (slice_cmp nat_cmp) (map (λ s. s.uid) sources.now)) }
     ensures few { IfOk result (λ set. length set.keys ≤ length sources.now) }
     ensures named { IfOk result (λ set. list_all (λ uid. is_uid uid.now) set.keys ≡ true) }
@@ -130,67 +121,71 @@ fn source_uids(alloc: Global, sources: &[SourceSpec]) -> Result<BTreeSet<&str>, 
     Ok(uids)
 }
 
-fn put_uid(out: &mut Vec<u8>, uid: &str) -> Result<(), AllocError>
-    requires { is_uid uid.now ≡ true }
-    ensures { OnOk result (out.new.items ≡ out.old.items ++ uid_bytes uid.now) }
-{
-    out.push(uid.len() as u8)?;
-    out.extend_from_slice(uid.as_bytes())
-}
-
 fn put_uids(out: &mut Vec<u8>, uids: &BTreeSet<&str>) -> Result<(), AllocError>
     requires few { length uids.now.keys < 256 }
     requires named { list_all (λ uid. is_uid uid.now) uids.now.keys ≡ true }
-    ensures { OnOk result (out.new.items ≡ out.old.items ++ listed uid_bytes (map (λ uid. uid.now) uids.now.keys)) }
+    ensures { OnOk result (out.new.items ≡ out.old.items ++ (listed u8_field uid_field).spell (map (λ uid. uid.now) uids.now.keys)) }
 {
-    out.push(uids.len() as u8)?;
+    put_u8(out, uids.len() as u8)?;
     for uid in uids {
         put_uid(out, *uid)?;
     }
     Ok(())
 }
 
+fn code_of_aggregate(aggregate: &Aggregate) -> (u8, u8)
+    requires { has_column 256 aggregate.now }
+    ensures { result ≡ aggregate_code aggregate.now }
+{
+    match aggregate {
+        Aggregate::Count => (0, 0),
+        Aggregate::Sum(column) => (1, *column as u8),
+        Aggregate::Least(column) => (2, *column as u8),
+        Aggregate::Greatest(column) => (3, *column as u8),
+    }
+}
+
+#[tactic(auto, unfolding(crate::specs::PlanRecord::aggregate_field))]
 fn put_aggregate(out: &mut Vec<u8>, aggregate: &Aggregate) -> Result<(), AllocError>
     requires { has_column 256 aggregate.now }
-    ensures { OnOk result (out.new.items ≡ out.old.items ++ aggregate_bytes aggregate.now) }
+    ensures { OnOk result (out.new.items ≡ out.old.items ++ aggregate_field.spell aggregate.now) }
 {
-    let bytes = match aggregate {
-        Aggregate::Count => [0, 0],
-        Aggregate::Sum(column) => [1, *column as u8],
-        Aggregate::Least(column) => [2, *column as u8],
-        Aggregate::Greatest(column) => [3, *column as u8],
-    };
-    out.extend_from_slice(&bytes)
+    let (kind, column) = code_of_aggregate(aggregate);
+    put_u8(out, kind)?;
+    put_u8(out, column)
 }
 
 fn put_aggregates(out: &mut Vec<u8>, aggregates: &[Aggregate]) -> Result<(), AllocError>
     requires few { length aggregates.now < 256 }
     requires columns { All (has_column 256) aggregates.now }
-    ensures { OnOk result (out.new.items ≡ out.old.items ++ listed aggregate_bytes aggregates.now) }
+    ensures { OnOk result (out.new.items ≡ out.old.items ++ (listed u8_field aggregate_field).spell aggregates.now) }
 {
-    out.push(aggregates.len() as u8)?;
+    put_u8(out, aggregates.len() as u8)?;
     for aggregate in aggregates {
         put_aggregate(out, aggregate)?;
     }
     Ok(())
 }
 
+#[tactic(auto, unfolding(crate::specs::PlanRecord::head_field))]
 fn put_head(out: &mut Vec<u8>, plan: &Plan) -> Result<(), AllocError>
-    ensures { OnOk result (out.new.items ≡ out.old.items ++ head_bytes plan.now) }
+    ensures { OnOk result (out.new.items ≡ out.old.items ++ head_field.spell (head_of plan.now)) }
 {
     let window = plan.window();
-    out.push(plan.columns() as u8)?;
-    put_short(out, plan.max() as u16)?;
-    out.extend_from_slice(&[window.time as u8, window.key as u8])
+    put_u8(out, plan.columns() as u8)?;
+    put_u16(out, plan.max() as u16)?;
+    put_u8(out, window.time as u8)?;
+    put_u8(out, window.key as u8)
 }
 
+#[tactic(auto, unfolding(crate::specs::PlanRecord::span_field))]
 fn put_span(out: &mut Vec<u8>, window: &WindowSpec) -> Result<(), AllocError>
     requires { IsWindow window.now }
-    ensures { OnOk result (out.new.items ≡ out.old.items ++ span_bytes window.now) }
+    ensures { OnOk result (out.new.items ≡ out.old.items ++ span_field.spell (span_of window.now)) }
 {
-    put_number(out, window.size)?;
-    put_number(out, window.slide)?;
-    put_number(out, window.offset.rem_euclid(window.slide))
+    put_i64(out, window.size)?;
+    put_i64(out, window.slide)?;
+    put_i64(out, window.offset.rem_euclid(window.slide))
 }
 
 impl Plan {
@@ -213,7 +208,7 @@ impl Plan {
     /// # Errors
     ///
     /// Only where memory runs out.
-    #[tactic(auto, unfolding(crate::specs::PlanRecord::plan_record))]
+    #[tactic(auto, unfolding(crate::specs::PlanRecord::plan_record, crate::specs::PlanRecord::record_field))]
     pub fn record(&self, alloc: Global) -> Result<Vec<u8>, AllocError>
         ensures { IfOk result (λ record_. record_.items ≡ plan_record self.now) }
     {

@@ -1,4 +1,5 @@
-use crate::{Aggregate, Plan, PlanFault};
+use crate::{Plan, PlanFault};
+use plan_model::Aggregate;
 use std::test::Fail;
 
 const PLAN: &str =

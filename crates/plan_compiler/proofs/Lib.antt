@@ -1,9 +1,4 @@
-pub mod Named
-pub mod TaskCount
-pub mod Sound
-pub mod Staged
-pub mod Finished
-pub mod Ranges
-pub mod TaskPlaces
-pub mod Chosen
-pub mod CompiledTasks
+mod Staged
+mod Ranges
+mod TaskPlaces
+mod Chosen

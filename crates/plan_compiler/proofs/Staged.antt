@@ -3,12 +3,12 @@ use Rattle.std.proofs.Common.{◌≡◌, ℕ, zero, suc, ◌+◌, List, [], ◌�
 use Rattle.std.proofs.Math.Seq.{take-length}
 use Rattle.std.proofs.lemmas.Bool.{false≢true}
 use Rattle.std.specs.List.{range_with_len}
-use Rattle.logical_plan.specs.PlanData.{PlanData}
+use Rattle.plan_model.specs.PlanData.{PlanData}
 use Rattle.layout_rules.specs.declared.stage.Operator.{Operator}
 use Rattle.layout_rules.specs.declared.stage.Operator.TheVariants.{Source, Filter, Window, Sink}
 use Rattle.layout_rules.specs.ScaleData.{ScaleData}
-use Rattle.layout_rules.specs.Rules.{sources_from, filters_from, in_order, onto_first, in_stages}
-use Rattle.layout_rules.proofs.Groups.{headed}
+use Rattle.layout_rules.specs.Rules.{sources_from, filters_from, in_order, onto_first, stage_operators}
+use Rattle.layout_rules.proofs.Facts.{headed}
 use Rattle.plan_compiler.specs.Compiling.{continues}
 
 sources_range : (k n : ℕ) (os : List Operator) → map Source (range_with_len k n) ++ os ≡ sources_from k n os
@@ -31,7 +31,7 @@ begun g [] = []
 begun g (h ∷ hs) = (g ++ h) ∷ hs
 
 goes_on : (p : PlanData) (c : ScaleData) (done : List (List Operator)) (g : List Operator) (o : Operator) (os : List Operator) → continues p c o os ≡ true
-    → done ++ begun (g ++ o ∷ []) (in_stages p c os) ≡ done ++ begun g (in_stages p c (o ∷ os))
+    → done ++ begun (g ++ o ∷ []) (stage_operators p c os) ≡ done ++ begun g (stage_operators p c (o ∷ os))
 goes_on p c done g o [] e = absurd (false≢true e)
 goes_on p c done g o (o' ∷ os) e =
     let h = headed p c o' os in
@@ -47,8 +47,8 @@ after_one : (x : Operator) (xs : List Operator) → after_first (x ∷ xs) ≡ x
 after_one x xs = let q : length (x ∷ xs) - 1 ≡ length xs = omega arith in ap (λ n. take n xs) q ∙ take-length xs
 
 pub stage_goes_on : (p : PlanData) (c : ScaleData) (done : List (List Operator)) (g xs : List Operator) (d : Operator) → 0 < length xs → continues p c (get_or xs 0 d) (after_first xs) ≡ true
-    → done ++ begun (g ++ get_or xs 0 d ∷ []) (in_stages p c (after_first xs)) ≡ done ++ begun g (in_stages p c xs)
+    → done ++ begun (g ++ get_or xs 0 d ∷ []) (stage_operators p c (after_first xs)) ≡ done ++ begun g (stage_operators p c xs)
 stage_goes_on p c done g [] d l e = absurd (omega (arith, l))
 stage_goes_on p c done g (x ∷ xs) d l e =
     let q = after_one x xs in
-    ap (λ ys. done ++ begun (g ++ x ∷ []) (in_stages p c ys)) q ∙ goes_on p c done g x xs (ap (continues p c x) (sym q) ∙ e)
+    ap (λ ys. done ++ begun (g ++ x ∷ []) (stage_operators p c ys)) q ∙ goes_on p c done g x xs (ap (continues p c x) (sym q) ∙ e)

@@ -1,9 +1,3 @@
-pub mod ScaleText
-pub mod Draft
-pub mod Fault
-pub mod Said
-pub mod Tasks
-pub mod Requirements
-pub mod Answer
 pub mod Compiling
 pub mod LayoutData
+pub mod Tables

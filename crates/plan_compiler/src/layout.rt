@@ -1,4 +1,8 @@
-use layout_rules::{Stage, TaskPlace};
+//! A layout, and what its users ask of it.
+
+use crate::tasks::{Links, Tasks};
+use key_groups::GroupRange;
+use layout_rules::{Role, Stage, TaskPlace};
 use plain_data::Items;
 use std::marker::Model;
 
@@ -10,110 +14,163 @@ use std::marker::Model;
 /// its subtask p mod parallelism.
 #[derive(Debug, Drop)]
 pub struct Layout {
-    stages: Items<Stage>,
-    tasks: Items<TaskPlace>,
-    inputs: Items<Items<u32>>,
-    outputs: Items<Items<u32>>,
-    partitions: Items<Items<u32>>,
+    tasks: Tasks,
+    links: Items<Links>,
     counts: Items<u32>,
-    ring: u32,
-}
-
-/// The tables of a layout, task by task.
-#[derive(Debug, Drop)]
-pub(crate) struct Tables {
-    pub tasks: Items<TaskPlace>,
-    pub inputs: Items<Items<u32>>,
-    pub outputs: Items<Items<u32>>,
-    pub partitions: Items<Items<u32>>,
+    capacity: u32,
 }
 
 impl Model for Layout {
-    ghost use Rattle.plan_compiler.specs.LayoutData.{LayoutData, layout_data_of, HasTables};
+    ghost use Rattle.std.specs.Prelude.{◌≡◌};
+    ghost use Rattle.layout_rules.specs.ScaleData.{IsCapacity};
+    ghost use Rattle.plan_compiler.specs.LayoutData.{LayoutData, layout_data_of};
+    ghost use Rattle.plan_compiler.specs.Tables.{each_task, links_of};
 
     ghost Value = { LayoutData };
 
-    ghost view = { λ l. layout_data_of l.stages l.counts l.ring };
+    ghost view = { λ l. layout_data_of l.tasks.stages l.counts l.tasks.max l.capacity };
 
-    ghost invariant = { λ l. HasTables (layout_data_of l.stages l.counts l.ring) l.tasks l.inputs l.outputs l.partitions };
+    ghost invariant = { λ l. (l.links ≡ each_task l.tasks.stages (links_of l.counts l.tasks.stages)) × IsCapacity l.capacity };
 }
 
 impl Layout {
     ghost use Rattle.std.specs.Prelude.{◌≡◌, ◌<◌, ◌≤◌, length};
-    ghost use Rattle.layout_rules.specs.Stages.{tasks as task_count, place_of, inputs_of as inputs_said, outputs_of as outputs_said, partitions_of as partitions_said};
-    ghost use Rattle.layout_rules.specs.ScaleData.{IsRing};
-    ghost use Rattle.plan_compiler.specs.LayoutData.{layout_data_of, HasTables, each_task};
+    ghost use Rattle.dataflow_model.specs.declared.role.Role.TheVariants as role;
+    ghost use Rattle.layout_rules.specs.declared.limits.TheConstants.{MOST_TASKS};
+    ghost use Rattle.layout_rules.specs.Stages as rule;
+    ghost use Rattle.layout_rules.specs.ScaleData.{IsCapacity};
+    ghost use Rattle.plan_compiler.specs.LayoutData.{layout_data_of};
+    ghost use Rattle.plan_compiler.specs.Tables.{each_task, links_of};
 
-    pub(crate) fn new(stages: Items<Stage>, counts: Items<u32>, ring: u32, tables: Tables) -> Layout
-        requires { HasTables (layout_data_of stages counts ring) tables.tasks tables.inputs tables.outputs tables.partitions }
-        ensures { result ≡ layout_data_of stages counts ring }
+    pub(crate) fn new(
+        tasks: Tasks,
+        links: Items<Links>,
+        counts: Items<u32>,
+        capacity: u32,
+    ) -> Layout
+        requires links { links ≡ each_task tasks.stages (links_of counts tasks.stages) }
+        requires bounded { IsCapacity capacity }
+        ensures { result ≡ layout_data_of tasks.stages counts tasks.max capacity }
     {
-        let Tables {
-            tasks,
-            inputs,
-            outputs,
-            partitions,
-        } = tables;
         Layout {
-            stages,
             tasks,
-            inputs,
-            outputs,
-            partitions,
+            links,
             counts,
-            ring,
+            capacity,
         }
     }
 
     /// The stages: those of the sources in plan order, of the filters, the window's and the sink's.
     pub fn stages(&self) -> &[Stage]
-        ensures { result.now ≡ self.now.stages }
+        ensures says { result.now ≡ self.now.stages }
+        ensures few { length result.now ≤ MOST_TASKS }
     {
-        self.stages.as_slice()
+        self.tasks.stages.as_slice()
+    }
+
+    /// The stage that the edge out of a stage leads to: from each source's the first after them, from any other the
+    /// one after it. No edge leads out of the sink's.
+    pub fn next_stage(&self, stage: u32) -> u32
+        requires { stage < length self.now.stages }
+        ensures { result ≡ rule.next_stage self.now.stages stage }
+    {
+        self.tasks.next_stage(stage)
     }
 
     /// The place of each task: at most 256.
     #[tactic(auto, using(crate::proofs::TaskPlaces::place_count))]
     pub fn tasks(&self) -> &[TaskPlace]
-        ensures says { result.now ≡ each_task self.now.stages (place_of self.now.stages) }
-        ensures counted { length result.now ≡ task_count self.now.stages }
-        ensures few { length result.now ≤ 256 }
+        ensures says { result.now ≡ each_task self.now.stages (rule.place_of self.now.stages) }
+        ensures counted { length result.now ≡ rule.task_count self.now.stages }
+        ensures few { length result.now ≤ MOST_TASKS }
     {
-        self.tasks.as_slice()
+        self.tasks.places.as_slice()
+    }
+
+    /// How many tasks there are: at most 256.
+    pub fn task_count(&self) -> u32
+        ensures says { result ≡ rule.task_count self.now.stages }
+        ensures few { result ≤ MOST_TASKS }
+    {
+        self.tasks.count()
+    }
+
+    /// Where a task stands.
+    pub fn place(&self, task: u32) -> TaskPlace
+        requires { task < rule.task_count self.now.stages }
+        ensures says { result ≡ rule.place_of self.now.stages task }
+        ensures within { result.stage < length self.now.stages }
+    {
+        self.tasks.place(task)
+    }
+
+    /// The stage that a task stands in.
+    pub fn stage(&self, task: u32) -> &Stage
+        requires { task < rule.task_count self.now.stages }
+        ensures says { result.now ≡ rule.task_stage self.now.stages task }
+        ensures some { 0 < result.now.parallelism }
+    {
+        self.tasks.stage(task)
+    }
+
+    /// What a task does.
+    pub fn role(&self, task: u32) -> Role
+        requires { task < rule.task_count self.now.stages }
+        ensures { result ≡ rule.task_role self.now.stages task }
+    {
+        self.stage(task).role()
+    }
+
+    /// How many subtasks the stage of a task has.
+    pub fn parallelism_of(&self, task: u32) -> u32
+        requires { task < rule.task_count self.now.stages }
+        ensures says { result ≡ (rule.task_stage self.now.stages task).parallelism }
+        ensures some { 0 < result }
+    {
+        self.stage(task).parallelism
+    }
+
+    /// The key groups of a task of the window.
+    pub fn groups_of(&self, task: u32) -> GroupRange
+        requires within { task < rule.task_count self.now.stages }
+        requires window { rule.task_role self.now.stages task ≡ role.Window }
+        ensures { result ≡ rule.groups_of self.now.max self.now.stages task }
+    {
+        self.tasks.groups_of(task)
     }
 
     /// The tasks that lead to a task, ascending.
     #[tactic(auto, using(crate::proofs::Ranges::has_place, crate::proofs::Ranges::at_place))]
     pub fn inputs_of(&self, task: u32) -> &[u32]
-        requires { task < task_count self.now.stages }
-        ensures { result.now ≡ inputs_said self.now.stages task }
+        requires { task < rule.task_count self.now.stages }
+        ensures { result.now ≡ rule.inputs_of self.now.stages task }
     {
-        self.inputs.as_slice()[task as usize].as_slice()
+        self.links.as_slice()[task as usize].inputs.as_slice()
     }
 
     /// The tasks that a task leads to, ascending.
     #[tactic(auto, using(crate::proofs::Ranges::has_place, crate::proofs::Ranges::at_place))]
     pub fn outputs_of(&self, task: u32) -> &[u32]
-        requires { task < task_count self.now.stages }
-        ensures { result.now ≡ outputs_said self.now.stages task }
+        requires { task < rule.task_count self.now.stages }
+        ensures { result.now ≡ rule.outputs_of self.now.stages task }
     {
-        self.outputs.as_slice()[task as usize].as_slice()
+        self.links.as_slice()[task as usize].outputs.as_slice()
     }
 
     /// The partitions that a task reads, ascending: none, but for a source's task.
     #[tactic(auto, using(crate::proofs::Ranges::has_place, crate::proofs::Ranges::at_place))]
     pub fn partitions_of(&self, task: u32) -> &[u32]
-        requires { task < task_count self.now.stages }
-        ensures { result.now ≡ partitions_said self.now.partitions self.now.stages task }
+        requires { task < rule.task_count self.now.stages }
+        ensures { result.now ≡ rule.partitions_of self.now.partitions self.now.stages task }
     {
-        self.partitions.as_slice()[task as usize].as_slice()
+        self.links.as_slice()[task as usize].partitions.as_slice()
     }
 
     /// How many messages a ring holds: 1 to 1,024.
     pub fn ring(&self) -> u32
-        ensures says { result ≡ self.now.ring }
-        ensures bounded { IsRing result }
+        ensures says { result ≡ self.now.capacity }
+        ensures bounded { IsCapacity result }
     {
-        self.ring
+        self.capacity
     }
 }

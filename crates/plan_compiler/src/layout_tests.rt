@@ -1,4 +1,4 @@
-use crate::{Edge, Layout, Operator, Scale, compile};
+use crate::{Edge, Layout, Operator, Role, Scale, compile};
 use logical_plan::Plan;
 use std::process::Abort;
 use std::test::Fail;
@@ -33,14 +33,38 @@ fn check_stages(rt: &impl Abort, layout: &Layout, want: &[(u32, Operator, usize,
     }
 }
 
-/// The inputs, outputs and partitions of each task.
-fn check_tasks(rt: &impl Abort, layout: &Layout, want: &[(&[u32], &[u32], &[u32])]) {
-    assert_eq!(rt; layout.tasks().len(), want.len());
-    for task in 0..layout.tasks().len() as u32 {
-        let (inputs, outputs, partitions) = want[task as usize];
+/// Of each task its stage and subtask, its role, its inputs, outputs and partitions.
+type Task<'a> = (u32, u32, Role, &'a [u32], &'a [u32], &'a [u32]);
+
+fn check_tasks(rt: &impl Abort, layout: &Layout, want: &[Task]) {
+    assert_eq!(rt; layout.task_count() as usize, want.len());
+    for task in 0..layout.task_count() {
+        let (stage, subtask, role, inputs, outputs, partitions) = want[task as usize];
+        let place = layout.place(task);
+        assert_eq!(rt; (place.stage, place.subtask), (stage, subtask));
+        assert_eq!(rt; layout.tasks()[task as usize], place);
+        let parallelism = layout.stages()[place.stage as usize].parallelism;
+        assert_eq!(rt; layout.parallelism_of(task), parallelism);
+        assert_eq!(rt; layout.stage(task).parallelism, parallelism);
+        assert_eq!(rt; layout.role(task), role);
         assert_eq!(rt; layout.inputs_of(task), inputs);
         assert_eq!(rt; layout.outputs_of(task), outputs);
         assert_eq!(rt; layout.partitions_of(task), partitions);
+    }
+}
+
+/// The first and last key group of each task of the window, and for any other task 0 and 0.
+fn check_groups(rt: &impl Abort, layout: &Layout, want: &[(u32, u32)]) {
+    assert_eq!(rt; layout.task_count() as usize, want.len());
+    for task in 0..layout.task_count() {
+        let groups = match layout.role(task) {
+            Role::Window => {
+                let range = layout.groups_of(task);
+                (range.first, range.last)
+            }
+            _ => (0, 0),
+        };
+        assert_eq!(rt; groups, want[task as usize]);
     }
 }
 
@@ -61,23 +85,31 @@ fn sources_lead_to_the_window(rt: HostRuntime) -> Result<(), Fail> {
         &rt,
         &layout,
         &[
-            (&[], &[3, 4, 5], &[0]),
-            (&[], &[3, 4, 5], &[1]),
-            (&[], &[3, 4, 5], &[0]),
-            (&[0, 1, 2], &[6], &[]),
-            (&[0, 1, 2], &[6], &[]),
-            (&[0, 1, 2], &[6], &[]),
-            (&[3, 4, 5], &[], &[]),
+            (0, 0, Role::Source, &[], &[3, 4, 5], &[0]),
+            (0, 1, Role::Source, &[], &[3, 4, 5], &[1]),
+            (1, 0, Role::Source, &[], &[3, 4, 5], &[0]),
+            (2, 0, Role::Window, &[0, 1, 2], &[6], &[]),
+            (2, 1, Role::Window, &[0, 1, 2], &[6], &[]),
+            (2, 2, Role::Window, &[0, 1, 2], &[6], &[]),
+            (3, 0, Role::Sink, &[3, 4, 5], &[], &[]),
         ],
     );
-    for (place, want) in layout
-        .tasks()
-        .iter()
-        .zip([(0, 0), (0, 1), (1, 0), (2, 0), (2, 1), (2, 2), (3, 0)])
-    {
-        assert_eq!(rt; (place.stage, place.subtask), want);
-    }
     assert_eq!(rt; layout.ring(), 4);
+    Ok(())
+}
+
+#[test]
+fn key_groups_and_next_stages(rt: HostRuntime) -> Result<(), Fail> {
+    let layout = layout_of(&rt, TWO_SOURCES, TWO_ONE_THREE)?;
+    check_groups(
+        &rt,
+        &layout,
+        &[(0, 0), (0, 0), (0, 0), (0, 42), (43, 85), (86, 127), (0, 0)],
+    );
+    assert_eq!(rt; layout.stages().len(), 4);
+    for (stage, next) in [(0, 2), (1, 2), (2, 3), (3, 4)] {
+        assert_eq!(rt; layout.next_stage(stage), next);
+    }
     Ok(())
 }
 
@@ -98,13 +130,13 @@ fn a_filter_is_chained_where_its_scale_says(rt: HostRuntime) -> Result<(), Fail>
         &rt,
         &layout,
         &[
-            (&[], &[2], &[0]),
-            (&[], &[3], &[1]),
-            (&[0], &[4, 5], &[]),
-            (&[1], &[4, 5], &[]),
-            (&[2, 3], &[6], &[]),
-            (&[2, 3], &[6], &[]),
-            (&[4, 5], &[], &[]),
+            (0, 0, Role::Source, &[], &[2], &[0]),
+            (0, 1, Role::Source, &[], &[3], &[1]),
+            (1, 0, Role::Chain, &[0], &[4, 5], &[]),
+            (1, 1, Role::Chain, &[1], &[4, 5], &[]),
+            (2, 0, Role::Window, &[2, 3], &[6], &[]),
+            (2, 1, Role::Window, &[2, 3], &[6], &[]),
+            (3, 0, Role::Sink, &[4, 5], &[], &[]),
         ],
     );
     Ok(())

@@ -2,8 +2,9 @@
 
 ghost use Rattle.std.specs.Prelude.{◌≡◌, ℕ, ◌<◌, ◌≤◌, ◌++◌, map, length, IfOk};
 ghost use Rattle.std.specs.List.{range_with_len};
+ghost use Rattle.layout_rules.specs.declared.limits.TheConstants.{MOST_TASKS};
 ghost use Rattle.layout_rules.specs.Stages.{place_of};
-ghost use Rattle.plan_compiler.specs.LayoutData.{each_task};
+ghost use Rattle.plan_compiler.specs.Tables.{each_task};
 
 use layout_rules::{Stage, TaskPlace};
 use std::alloc::{AllocError, Global};
@@ -25,7 +26,7 @@ fn push_subtasks(
 /// The places of tasks: stage by stage, then by subtask.
 #[tactic(auto, using(crate::proofs::TaskPlaces::stage_more))]
 pub fn places_of(alloc: Global, stages: &[Stage]) -> Result<Vec<TaskPlace>, AllocError>
-    requires { length stages.now ≤ 256 }
+    requires { length stages.now ≤ MOST_TASKS }
     ensures { IfOk result (λ v. v.items ≡ each_task stages.now (place_of stages.now)) }
 {
     let mut places = Vec::new(alloc);

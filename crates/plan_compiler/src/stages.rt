@@ -2,16 +2,18 @@
 
 ghost use Rattle.std.specs.Prelude.{◌≡◌, ℕ, ◌<◌, ◌≤◌, ◌++◌, List, [], ◌∷◌, map, length, IfOk};
 ghost use Rattle.std.specs.List.{range_with_len};
-ghost use Rattle.layout_rules.specs.Stages.{role_of, is_window, edge_into as edge_said};
+ghost use Rattle.layout_rules.specs.declared.limits.TheConstants.{MOST_TASKS};
 ghost use Rattle.layout_rules.specs.declared.stage.Operator.{Operator};
-ghost use Rattle.layout_rules.specs.Rules.{in_order as ordered, filter_scale as scale_of_filter, parallelism_of as parallelism_said, may_chain_to as may_be_chained, follows as follows_said, in_stages as grouped, width_of as width_said, opened, IsCompiled};
-ghost use Rattle.layout_rules.specs.Scale.{IsScale};
-ghost use Rattle.plan_compiler.specs.Compiling.{continues as continues_said, finished as stage_finished};
+ghost use Rattle.layout_rules.specs.Rules as rule;
+ghost use Rattle.layout_rules.specs.Scale.{IsScale, AreStages};
+ghost use Rattle.layout_rules.specs.Stages.{source_stages};
+ghost use Rattle.plan_compiler.specs.Compiling.{continues};
 
-use crate::scale::Scale;
-use layout_rules::{Edge, FilterScale, Operator, Stage};
+use crate::tasks::stage_after;
+use layout_rules::{FilterScale, Operator, Stage};
 use logical_plan::Plan;
 use plain_data::Items;
+use plan_scale::Scale;
 use std::alloc::{AllocError, Global};
 
 fn sources_of(alloc: Global, plan: &Plan) -> Result<Vec<Operator>, AllocError>
@@ -26,7 +28,7 @@ fn sources_of(alloc: Global, plan: &Plan) -> Result<Vec<Operator>, AllocError>
 
 /// The plan's operators: sources, filters, window, sink.
 fn in_order(alloc: Global, plan: &Plan) -> Result<Vec<Operator>, AllocError>
-    ensures { IfOk result (λ v. v.items ≡ ordered plan.now) }
+    ensures { IfOk result (λ v. v.items ≡ rule.in_order plan.now) }
 {
     let mut operators = sources_of(alloc, plan)?;
     for filter in 0..plan.filters().len() as u32 {
@@ -39,7 +41,7 @@ fn in_order(alloc: Global, plan: &Plan) -> Result<Vec<Operator>, AllocError>
 
 /// What the scale says of a filter. One that the plan lacks would be one task.
 fn filter_scale(scale: &Scale, filter: u32) -> FilterScale
-    ensures { result ≡ scale_of_filter scale.now filter }
+    ensures { result ≡ rule.filter_scale scale.now filter }
 {
     let single = FilterScale {
         parallelism: 1,
@@ -53,7 +55,7 @@ fn filter_scale(scale: &Scale, filter: u32) -> FilterScale
 }
 
 fn parallelism_of(scale: &Scale, operator: Operator) -> u32
-    ensures { result ≡ parallelism_said scale.now operator }
+    ensures { result ≡ rule.parallelism_of scale.now operator }
 {
     match operator {
         Operator::Source(source) => scale.sources().get(source as usize).copied().unwrap_or(1),
@@ -65,7 +67,7 @@ fn parallelism_of(scale: &Scale, operator: Operator) -> u32
 
 /// Whether a filter may be chained to this operator: it is no source of a plan with several.
 fn may_chain_to(plan: &Plan, operator: Operator) -> bool
-    ensures { result ≡ may_be_chained plan.now operator }
+    ensures { result ≡ rule.may_chain_to plan.now operator }
 {
     match operator {
         Operator::Source(_) => plan.sources().len() == 1,
@@ -73,9 +75,9 @@ fn may_chain_to(plan: &Plan, operator: Operator) -> bool
     }
 }
 
-/// Whether an operator joins the stage of the one before it.
-fn follows(plan: &Plan, scale: &Scale, before: Operator, operator: Operator) -> bool
-    ensures { result ≡ follows_said plan.now scale.now before operator }
+/// Whether an operator is chained to the one before it, in one stage.
+fn is_chained(plan: &Plan, scale: &Scale, before: Operator, operator: Operator) -> bool
+    ensures { result ≡ rule.is_chained plan.now scale.now before operator }
 {
     match operator {
         Operator::Filter(filter) => {
@@ -90,22 +92,22 @@ fn follows(plan: &Plan, scale: &Scale, before: Operator, operator: Operator) -> 
 
 /// Whether the stage of an operator goes on with those after it.
 fn continues(plan: &Plan, scale: &Scale, operator: Operator, after: &[Operator]) -> bool
-    ensures { result ≡ continues_said plan.now scale.now operator after.now }
+    ensures { result ≡ continues plan.now scale.now operator after.now }
 {
     match after.first() {
-        Some(next) => follows(plan, scale, operator, *next),
+        Some(next) => is_chained(plan, scale, operator, *next),
         None => false,
     }
 }
 
-/// The operators in stages.
-fn in_stages(
+/// The operators of each stage.
+fn stage_operators(
     alloc: Global,
     plan: &Plan,
     scale: &Scale,
     operators: &[Operator],
 ) -> Result<Vec<Items<Operator>>, AllocError>
-    ensures { IfOk result (λ v. v.items ≡ grouped plan.now scale.now operators.now) }
+    ensures { IfOk result (λ v. v.items ≡ rule.stage_operators plan.now scale.now operators.now) }
 {
     let mut stages = Vec::new(alloc);
     let mut stage = Vec::new(alloc);
@@ -122,8 +124,8 @@ fn in_stages(
 }
 
 /// The parallelism of a stage: that of its first operator.
-fn width_of(scale: &Scale, operators: &[Operator]) -> u32
-    ensures { result ≡ width_said scale.now operators.now }
+fn stage_parallelism(scale: &Scale, operators: &[Operator]) -> u32
+    ensures { result ≡ rule.stage_parallelism scale.now operators.now }
 {
     match operators.first() {
         Some(operator) => parallelism_of(scale, *operator),
@@ -131,77 +133,70 @@ fn width_of(scale: &Scale, operators: &[Operator]) -> u32
     }
 }
 
-fn is_window_stage(operators: &[Operator]) -> bool
-    ensures { result ≡ is_window (role_of operators.now) }
+fn bare_stage(scale: &Scale, operators: Items<Operator>) -> Stage
+    ensures { result ≡ rule.bare_stage scale.now operators }
 {
-    matches!(operators.first(), Some(Operator::Window))
-}
-
-/// The edge from a stage of operators into another.
-fn edge_into(scale: &Scale, from: &[Operator], into: &[Operator]) -> Edge
-    ensures { result ≡ edge_said (opened scale.now from.now) (opened scale.now into.now) }
-{
-    if is_window_stage(into) {
-        Edge::ByGroup
-    } else if width_of(scale, from) == width_of(scale, into) {
-        Edge::Forward
-    } else {
-        Edge::Rebalance
+    Stage {
+        parallelism: stage_parallelism(scale, operators.as_slice()),
+        operators,
+        edge: None,
     }
 }
 
-/// The edge out of stage a. The stages of sources, of which there are so many, lead to the first one after them.
-fn edge_after(scale: &Scale, stages: &[Items<Operator>], sources: usize, a: usize) -> Option<Edge>
-    requires { a < length stages.now }
-    ensures { result ≡ (stage_finished scale.now sources stages.now a).edge }
+/// The stages of a plan without their edges.
+fn bare_stages(alloc: Global, plan: &Plan, scale: &Scale) -> Result<Vec<Stage>, AllocError>
+    ensures { IfOk result (λ v. v.items ≡ map (rule.bare_stage scale.now) (rule.stage_operators plan.now scale.now (rule.in_order plan.now))) }
 {
-    let next = sources.max(a + 1);
-    let into = stages.get(next)?;
-    Some(edge_into(scale, stages[a].as_slice(), into.as_slice()))
+    let operators = in_order(alloc, plan)?;
+    stage_operators(alloc, plan, scale, &operators)?
+        .into_iter()
+        .map(|operators| bare_stage(scale, operators))
+        .collect(alloc)
 }
 
-fn stage_of(
-    alloc: Global,
-    scale: &Scale,
-    stages: &[Items<Operator>],
-    sources: usize,
-    a: usize,
-) -> Result<Stage, AllocError>
-    requires { a < length stages.now }
-    ensures { IfOk result (λ stage. stage ≡ stage_finished scale.now sources stages.now a) }
+/// Stage a with the edge that leads out of it, where the first stages are those of so many sources.
+fn with_edge(alloc: Global, stages: &[Stage], sources: u32, a: u32) -> Result<Stage, AllocError>
+    requires within { a < length stages.now }
+    requires few { length stages.now ≤ MOST_TASKS }
+    requires leading { sources ≡ source_stages stages.now }
+    requires more { sources < length stages.now }
+    ensures { IfOk result (λ stage. stage ≡ rule.with_edge stages.now a) }
 {
-    let operators = stages[a].copy(alloc)?;
+    let stage = &stages[a as usize];
+    let edge = if a as usize + 1 < stages.len() {
+        Some(stage.edge_into(&stages[stage_after(sources, a) as usize]))
+    } else {
+        None
+    };
     Ok(Stage {
-        parallelism: width_of(scale, operators.as_slice()),
-        operators,
-        edge: edge_after(scale, stages, sources, a),
+        parallelism: stage.parallelism,
+        operators: stage.operators.copy(alloc)?,
+        edge,
     })
 }
 
-/// The stages that operators make, with their edges.
+/// The stages with their edges, where the first are those of so many sources.
 #[tactic(auto, using(crate::proofs::Ranges::map_more))]
-fn finished(
-    alloc: Global,
-    scale: &Scale,
-    operators: &[Items<Operator>],
-    sources: usize,
-) -> Result<Vec<Stage>, AllocError>
-    ensures { IfOk result (λ v. v.items ≡ map (stage_finished scale.now sources operators.now) (range_with_len 0 (length operators.now))) }
+fn with_edges(alloc: Global, stages: &[Stage], sources: u32) -> Result<Vec<Stage>, AllocError>
+    requires few { length stages.now ≤ MOST_TASKS }
+    requires leading { sources ≡ source_stages stages.now }
+    requires more { sources < length stages.now }
+    ensures { IfOk result (λ v. v.items ≡ rule.with_edges stages.now) }
 {
-    let mut stages = Vec::new(alloc);
-    for a in 0..operators.len() {
-        stages.push(stage_of(alloc, scale, operators, sources, a)?)?;
+    let mut all = Vec::new(alloc);
+    for a in 0..stages.len() as u32 {
+        all.push(with_edge(alloc, stages, sources, a)?)?;
     }
-    Ok(stages)
+    Ok(all)
 }
 
 /// The stages of a plan at a scale.
-#[tactic(auto, using(crate::proofs::Finished::finished_compiled))]
+#[tactic(auto, using(layout_rules::proofs::Facts::bare_stages_are_bounded, layout_rules::proofs::Facts::stages_are_bounded))]
 pub fn stages_of(alloc: Global, plan: &Plan, scale: &Scale) -> Result<Vec<Stage>, AllocError>
     requires { IsScale plan.now scale.now }
-    ensures { IfOk result (λ v. IsCompiled plan.now scale.now v.items) }
+    ensures says { IfOk result (λ v. v.items ≡ rule.stages_of plan.now scale.now) }
+    ensures bounded { IfOk result (λ v. AreStages plan.now.max (length plan.now.sources) v.items) }
 {
-    let operators = in_order(alloc, plan)?;
-    let chained = in_stages(alloc, plan, scale, &operators)?;
-    finished(alloc, scale, &chained, plan.sources().len())
+    let stages = bare_stages(alloc, plan, scale)?;
+    with_edges(alloc, &stages, plan.sources().len() as u32)
 }

@@ -1,7 +1,10 @@
 //! Reads a savepoint and decodes or encodes it so many times: the program that `bench/savepoint` measures.
 #![tactic(auto)]
 
-use savepoint_codec::{SaveFault, Savepoint, decode, encode};
+ghost use Rattle.std.specs.Prelude.{◌≡◌, ◌<◌, length, IfOk};
+ghost use Rattle.savepoint_bench.specs.Count as count;
+
+use savepoint_codec::{SaveFault, SavedGroup, decode, encode};
 use std::alloc::{AllocError, Global};
 use std::process::ExitCode;
 use std::rt::{Env, Files};
@@ -40,25 +43,33 @@ impl From<AllocError> for Failure {
     }
 }
 
-fn entries_of(savepoint: &Savepoint) -> usize {
+/// How many entries the key groups have together, as far as a `usize` can tell.
+fn entry_count(groups: &[SavedGroup]) -> usize
+    ensures { result ≡ count.entry_count groups.now }
+{
     let mut count: usize = 0;
-    for group in savepoint.contents().groups.as_slice() {
+    for group in groups {
         count = count.saturating_add(group.entries.len());
     }
     count
 }
 
 /// Decodes the bytes so many times, and answers how many entries they have.
-fn decoded(alloc: Global, times: u32, bytes: &[u8]) -> Result<usize, Failure> {
+fn decoded(alloc: Global, times: u32, bytes: &[u8]) -> Result<usize, Failure>
+    ensures { IfOk result (λ n. count.IsDecoded times bytes.now n) }
+{
     let mut count = 0;
     for _ in 0..times {
-        count = entries_of(&decode(alloc, bytes)?);
+        let savepoint = decode(alloc, bytes)?;
+        count = entry_count(savepoint.contents().groups.as_slice());
     }
     Ok(count)
 }
 
 /// Decodes the bytes once and encodes them so many times, and answers how many they are.
-fn encoded(alloc: Global, times: u32, bytes: &[u8]) -> Result<usize, Failure> {
+fn encoded(alloc: Global, times: u32, bytes: &[u8]) -> Result<usize, Failure>
+    ensures { IfOk result (λ n. 0 < times → n ≡ length bytes.now) }
+{
     let savepoint = decode(alloc, bytes)?;
     let mut length = 0;
     for _ in 0..times {

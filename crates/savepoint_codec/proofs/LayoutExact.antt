@@ -1,7 +1,6 @@
 -- The layout is exact, field by field.
 use Rattle.std.proofs.Common.{◌≡◌, ℕ, ◌^◌, true, ◌&&◌, List, [], ◌∷◌, length, Option, Result, refl, sym, ap, arith}
 use Rattle.std.specs.Prelude.{nat_le, nat_lt, codes, ◌==◌}
-use Rattle.std.specs.List.{list_all}
 use Rattle.std.specs.Option.{option_map}
 use Rattle.std.proofs.lemmas.Bool.{eqb-true, eq-eqb}
 use Rattle.std.proofs.lemmas.Grind.{common_steps}
@@ -11,18 +10,19 @@ use Rattle.byte_fields.specs.declared.fault.FieldFault.TheVariants.{Order, Range
 use Rattle.byte_fields.specs.declared.fault.ReadFault.{ReadFault}
 use Rattle.byte_fields.specs.declared.fault.ReadFault.TheVariants as read
 use Rattle.byte_fields.specs.Format.{where_it, before, as_record}
-use Rattle.byte_fields.specs.Lists.{sized}
 use Rattle.byte_fields.specs.Reads.{Fails}
-use Rattle.byte_fields.specs.Fields.{u8_field, u16_field, u64_field, i64_field, i128_field}
-use Rattle.byte_fields.proofs.Exact.{IsExact, both, and_true, where_exact, before_exact, seen_exact, record_exact, marked_exact, nothing_exact, list_exact, counted_exact, sized_exact, u8_exact, u16_exact, u64_exact, i64_exact, i128_exact}
-use Rattle.logical_plan.specs.Uids.{is_nat_within, is_uid_byte}
-use Rattle.logical_plan.specs.declared.spec.Place.{Place}
+use Rattle.byte_fields.specs.Fields.{u8_field, few_field, u16_field, u64_field, i64_field, i128_field}
+use Rattle.byte_fields.proofs.Exact.{IsExact, both, and_true, where_exact, before_exact, seen_exact, record_exact, marked_exact, nothing_exact, list_exact, counted_exact, listed_exact, sized_exact, u8_exact, few_exact, u16_exact, u64_exact, i64_exact, i128_exact}
+use Rattle.plan_model.specs.Uids.{is_nat_within, uid_field}
+use Rattle.key_groups.specs.declared.limits.TheConstants.{MOST_GROUPS}
+use Rattle.plan_model.proofs.Facts.{uid_exact}
+use Rattle.plan_model.specs.declared.spec.Pane.{Pane}
 use Rattle.aggregates.specs.declared.kind.Kind.{Kind}
 use Rattle.aggregates.specs.declared.kind.Kind.TheVariants.{Count, Sum, Least, Greatest}
 use Rattle.aggregates.specs.Kinds.{is_number}
 use Rattle.savepoint_codec.specs.declared.savepoint.SavedGroup.{SavedGroup}
 use Rattle.savepoint_codec.specs.declared.savepoint.Contents.{Contents}
-use Rattle.savepoint_codec.specs.Fields.{number_field, max_field, few_field, uid_field, is_uid_after, partition_field, partitions_field, source_field, source_after, sources_field, kind_code, kind_of_code, kind_field, kinds_field, place_field, is_place_after, count_field, number_of_kind, numbers_field, entry_field, entry_after, entries_field, is_number_after, group_number, group_field, group_after, groups_field}
+use Rattle.savepoint_codec.specs.Fields.{number_field, max_field, is_uid_after, partition_field, partitions_field, source_field, source_after, sources_field, kind_code, kind_of_code, kind_field, kinds_field, pane_field, is_pane_after, count_field, number_of_kind, numbers_field, entry_field, entry_after, entries_field, is_number_after, group_number, group_field, group_after, groups_field}
 use Rattle.savepoint_codec.specs.Layout.{record_field, window_fields, fields, contents_of, parts_of, savepoint_format}
 use Rattle.savepoint_codec.specs.Answer.{fault_of_read, fault_said, Fails as Refuses}
 
@@ -32,15 +32,7 @@ number_exact = where_exact (nat_lt 0) Range u64_field u64_exact
 
 max_exact : IsExact max_field
 unfolding max_field
-max_exact = where_exact (is_nat_within 1 32768) Range u16_field u16_exact
-
-few_exact : (most : ℕ) → IsExact (few_field most)
-unfolding few_field
-few_exact most = where_exact (is_nat_within 1 most) Range u8_field u8_exact
-
-uid_exact : IsExact uid_field
-unfolding uid_field
-uid_exact = where_exact (list_all is_uid_byte) Range (sized (few_field 64)) (sized_exact (few_field 64) (few_exact 64))
+max_exact = where_exact (is_nat_within 1 MOST_GROUPS) Range u16_field u16_exact
 
 partition_exact : IsExact partition_field
 unfolding partition_field
@@ -48,7 +40,7 @@ partition_exact = record_exact _ _ (before u64_field (λ _. i64_field)) (before_
 
 partitions_exact : IsExact partitions_field
 unfolding partitions_field
-partitions_exact = counted_exact (few_field 64) (λ _. partition_field) (few_exact 64) (λ _. partition_exact)
+partitions_exact = listed_exact (few_field 64) partition_field (few_exact 64) partition_exact
 
 source_exact : (last : Option (List ℕ)) → IsExact (source_field last)
 unfolding source_field
@@ -78,11 +70,11 @@ kind_exact = seen_exact kind_of_code kind_code (λ _. true) (where_it (λ n. nat
 
 kinds_exact : IsExact kinds_field
 unfolding kinds_field
-kinds_exact = counted_exact (few_field 8) (λ _. kind_field) (few_exact 8) (λ _. kind_exact)
+kinds_exact = listed_exact (few_field 8) kind_field (few_exact 8) kind_exact
 
-place_exact : IsExact place_field
-unfolding place_field
-place_exact = record_exact _ _ (before i64_field (λ _. i64_field)) (before_exact i64_field (λ _. i64_field) i64_exact (λ _. i64_exact)) (λ x h. refl) (λ q. refl)
+pane_exact : IsExact pane_field
+unfolding pane_field
+pane_exact = record_exact _ _ (before i64_field (λ _. i64_field)) (before_exact i64_field (λ _. i64_field) i64_exact (λ _. i64_exact)) (λ x h. refl) (λ q. refl)
 
 count_exact : IsExact count_field
 unfolding count_field
@@ -99,16 +91,16 @@ numbers_exact (kind ∷ kinds) count =
     list_exact (before (number_of_kind count kind) (λ _. numbers_field kinds count))
     (before_exact (number_of_kind count kind) (λ _. numbers_field kinds count) (number_of_kind_exact count kind) (λ _. numbers_exact kinds count))
 
-entry_exact : (kinds : List Kind) (last : Option Place) → IsExact (entry_field kinds last)
+entry_exact : (kinds : List Kind) (last : Option Pane) → IsExact (entry_field kinds last)
 unfolding entry_field
 entry_exact kinds last =
-    record_exact _ _ (before (where_it (is_place_after last) Order place_field) (λ _. before count_field (numbers_field kinds)))
-    (before_exact (where_it (is_place_after last) Order place_field) (λ _. before count_field (numbers_field kinds)) (where_exact (is_place_after last) Order place_field place_exact) (λ _. before_exact count_field (numbers_field kinds) count_exact (numbers_exact kinds)))
+    record_exact _ _ (before (where_it (is_pane_after last) Order pane_field) (λ _. before count_field (numbers_field kinds)))
+    (before_exact (where_it (is_pane_after last) Order pane_field) (λ _. before count_field (numbers_field kinds)) (where_exact (is_pane_after last) Order pane_field pane_exact) (λ _. before_exact count_field (numbers_field kinds) count_exact (numbers_exact kinds)))
     (λ x h. refl) (λ e. refl)
 
 entries_exact : (kinds : List Kind) → IsExact (entries_field kinds)
 unfolding entries_field
-entries_exact kinds = counted_exact (where_it (nat_lt 0) Order u64_field) (entry_after kinds) (where_exact (nat_lt 0) Order u64_field u64_exact) (λ last. entry_exact kinds (option_map (λ e. e.place) last))
+entries_exact kinds = counted_exact (where_it (nat_lt 0) Order u64_field) (entry_after kinds) (where_exact (nat_lt 0) Order u64_field u64_exact) (λ last. entry_exact kinds (option_map (λ e. e.pane) last))
 
 group_number_exact : (max : ℕ) (last : Option ℕ) → IsExact (group_number max last)
 unfolding group_number

@@ -2,5 +2,4 @@ mod EntriesFacts
 mod EntryFacts
 mod LayoutExact
 mod NumbersFacts
-pub mod Spelled
-mod UidText
+mod Spelled

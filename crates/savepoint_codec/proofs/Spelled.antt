@@ -3,36 +3,27 @@ use Rattle.std.proofs.Common.{◌≡◌, ℕ, zero, suc, ◌+◌, ◌<◌, ℤ, 
 use Rattle.std.specs.Prelude.{OnOk, nat_lt, ◌==◌}
 use Rattle.std.specs.Option.{option_map}
 use Rattle.std.proofs.lemmas.Bool.{ltb-true}
-use Rattle.std.proofs.lemmas.List.{append-nil}
+use Rattle.std.proofs.lemmas.List.{flat_map_more, take_more}
+use Rattle.std.proofs.lemmas.Option.{get_or_from_slice_get, slice_get_within}
 use Rattle.std.specs.List.{All, flat_map, list_all}
-use Rattle.byte_fields.specs.Fields.{u8_field, u16_field, u64_field, i128_field}
+use Rattle.byte_fields.specs.Fields.{u8_field, few_field, u16_field, u64_field, i128_field}
 use Rattle.byte_fields.specs.declared.fault.FieldFault.TheVariants.{Order}
 use Rattle.byte_fields.specs.Format.{where_it, before}
-use Rattle.byte_fields.specs.Lists.{sized}
-use Rattle.logical_plan.specs.Uids.{is_nat_within, is_uid_byte}
+use Rattle.plan_model.specs.Uids.{is_nat_within, uid_field}
 use Rattle.byte_fields.proofs.Exact.{both, counted-spell, counted-spell-where, counted-fits, sized-fits}
 use Rattle.aggregates.specs.declared.kind.Kind.{Kind}
-use Rattle.savepoint_codec.specs.declared.savepoint.SavedPartition.{SavedPartition}
 use Rattle.savepoint_codec.specs.declared.savepoint.SavedSource.{SavedSource}
 use Rattle.savepoint_codec.specs.declared.savepoint.SavedGroup.{SavedGroup}
 use Rattle.savepoint_codec.specs.EntriesData.{EntryData}
-use Rattle.savepoint_codec.specs.Fields.{number_field, max_field, uid_field, is_uid_after, is_place_after, place_field, few_field, partition_field, partitions_field, source_field, source_after, sources_field, kind_field, kinds_field, count_field, number_of_kind, numbers_field, entry_field, entry_after, entries_field, group_number, group_field, group_after, groups_field}
+use Rattle.savepoint_codec.specs.Fields.{number_field, max_field, is_uid_after, is_pane_after, pane_field, partition_field, partitions_field, source_field, source_after, sources_field, kind_field, kinds_field, count_field, number_of_kind, numbers_field, entry_field, entry_after, entries_field, group_number, group_field, group_after, groups_field}
 use Rattle.savepoint_codec.specs.declared.savepoint.Contents.{Contents}
 use Rattle.savepoint_codec.specs.Layout.{IsSavepoint, savepoint_format, fields, window_fields, record_field}
-use Rattle.savepoint_codec.specs.Writing.{HasShortLists, IsOfKinds, AreOfKinds, IsShort, entry_bytes}
+use Rattle.savepoint_codec.specs.Writing.{HasFewPartitions, IsOfKinds, AreOfKinds, IsShort, entry_bytes}
 
 -- a count is put, and then the items
 pub puts : {E : Type 0} (r : Result (Unit {0}) E) (old mid new count items spelled : List ℕ) → mid ≡ old ++ count → spelled ≡ count ++ items → OnOk r (new ≡ mid ++ items) → OnOk r (new ≡ old ++ spelled)
 puts (Ok x) old mid new count items spelled first said h = h ∙ ap (λ (xs : List ℕ). xs ++ items) first ∙ append_assoc old count items ∙ ap (λ (xs : List ℕ). old ++ xs) (sym said)
 puts (Err e) old mid new count items spelled first said h = tt
-
-pub partitions-spell : (ps : List SavedPartition) → partitions_field.spell ps ≡ u8_field.spell (length ps) ++ flat_map partition_field.spell ps
-unfolding partitions_field few_field
-partitions-spell ps = counted-spell (few_field 64) (λ _. partition_field) partition_field.spell (λ last x. refl) ps
-
-pub kinds-spell : (ks : List Kind) → kinds_field.spell ks ≡ u8_field.spell (length ks) ++ flat_map kind_field.spell ks
-unfolding kinds_field few_field
-kinds-spell ks = counted-spell (few_field 8) (λ _. kind_field) kind_field.spell (λ last x. refl) ks
 
 pub sources-spell : (ss : List SavedSource) → sources_field.spell ss ≡ u8_field.spell (length ss) ++ flat_map (source_field None).spell ss
 unfolding sources_field source_field few_field
@@ -48,8 +39,8 @@ numbers-spell (k ∷ kinds) count (z ∷ zs) h = ap (λ (bytes : List ℕ). i128
 entry-spell : (kinds : List Kind) (last : Option EntryData) (e : EntryData) → IsOfKinds kinds e → (entry_after kinds last).spell e ≡ entry_bytes e
 unfolding entry_field count_field
 entry-spell kinds last e h =
-    ap (λ (bytes : List ℕ). place_field.spell e.place ++ (u64_field.spell e.total.count ++ bytes)) (numbers-spell kinds e.total.count e.total.numbers h)
-    ∙ sym (append_assoc (place_field.spell e.place) (u64_field.spell e.total.count) (flat_map i128_field.spell e.total.numbers))
+    ap (λ (bytes : List ℕ). pane_field.spell e.pane ++ (u64_field.spell e.total.count ++ bytes)) (numbers-spell kinds e.total.count e.total.numbers h)
+    ∙ sym (append_assoc (pane_field.spell e.pane) (u64_field.spell e.total.count) (flat_map i128_field.spell e.total.numbers))
 
 pub entries-spell : (kinds : List Kind) (es : List EntryData) → All (IsOfKinds kinds) es → (entries_field kinds).spell es ≡ u64_field.spell (length es) ++ flat_map entry_bytes es
 unfolding entries_field
@@ -61,13 +52,10 @@ groups-spell max kinds gs = counted-spell u16_field (group_after max kinds) (gro
 
 -- one item more is spelled
 pub one_more : {X : Type 0} (spelled : X → List ℕ) (xs : List X) (i : ℕ) (x : X) → slice_get xs i ≡ Some x → flat_map spelled (take (i + 1) xs) ≡ flat_map spelled (take i xs) ++ spelled x
-one_more spelled [] i x h = absurd cc
-one_more spelled (y ∷ xs) zero x h =
-    let same : y ≡ x = cc in
-    append-nil (spelled y) ∙ ap spelled same
-one_more spelled (y ∷ xs) (suc i) x h =
-    let next : suc i + 1 ≡ suc (i + 1) = omega arith in
-    rw next (ap (λ (bytes : List ℕ). spelled y ++ bytes) (one_more spelled xs i x h) ∙ sym (append_assoc (spelled y) (flat_map spelled (take i xs)) (spelled x)))
+one_more spelled xs i x h =
+    ap (flat_map spelled) (take_more xs i x (slice_get_within xs i x h))
+    ∙ ap (λ y. flat_map spelled (take i xs ++ y ∷ [])) (get_or_from_slice_get xs i x x h)
+    ∙ sym (flat_map_more spelled [] (take i xs) x)
 
 -- the lists of a savepoint are short enough for their counts
 is_byte : (most n : ℕ) → (few_field most).fits n ≡ true → n < 256
@@ -78,18 +66,12 @@ is_short : (n : ℕ) → u16_field.fits n ≡ true → n < 65536
 unfolding u16_field
 is_short n h = ltb-true _ _ h
 
-uid_short : (uid : List ℕ) → uid_field.fits uid ≡ true → length uid < 256
-unfolding uid_field
-uid_short uid h = is_byte 64 (length uid) (sized-fits (few_field 64) uid (both ((sized (few_field 64)).fits uid) (list_all is_uid_byte uid) h).0)
-
-source_short : (last : Option SavedSource) (s : SavedSource) → (source_after last).fits s ≡ true → HasShortLists s
+source_short : (last : Option SavedSource) (s : SavedSource) → (source_after last).fits s ≡ true → HasFewPartitions s
 unfolding source_field partitions_field
 source_short last s h =
-    let after = is_uid_after (option_map (λ x. x.uid) last) in
-    let parts = both ((where_it after Order uid_field).fits s.uid) (partitions_field.fits s.partitions) h in
-    let named = both (uid_field.fits s.uid) (after s.uid) parts.0 in
-    let counted_ = counted-fits (few_field 64) (λ _. partition_field) (λ _. Unit {0}) (λ _ p _. tt) s.partitions parts.1 in
-    record { uid = uid_short s.uid named.0; partitions = is_byte 64 (length s.partitions) counted_.0 }
+    let named = where_it (is_uid_after (option_map (λ x. x.uid) last)) Order uid_field in
+    let parts = both (named.fits s.uid) (partitions_field.fits s.partitions) h in
+    is_byte 64 (length s.partitions) (both ((few_field 64).fits (length s.partitions)) (list_all partition_field.fits s.partitions) parts.1).0
 
 numbers_long : (kinds : List Kind) (count : ℕ) (zs : List ℤ) → (numbers_field kinds count).fits zs ≡ true → length zs ≡ length kinds
 unfolding numbers_field
@@ -101,8 +83,8 @@ numbers_long (k ∷ kinds) count (z ∷ zs) h = ap suc (numbers_long kinds count
 entry_long : (kinds : List Kind) (last : Option EntryData) (e : EntryData) → (entry_after kinds last).fits e ≡ true → IsOfKinds kinds e
 unfolding entry_field
 entry_long kinds last e h =
-    let after = where_it (is_place_after (option_map (λ x. x.place) last)) Order place_field in
-    let parts = both (after.fits e.place) ((before count_field (numbers_field kinds)).fits (e.total.count, e.total.numbers)) h in
+    let after = where_it (is_pane_after (option_map (λ x. x.pane) last)) Order pane_field in
+    let parts = both (after.fits e.pane) ((before count_field (numbers_field kinds)).fits (e.total.count, e.total.numbers)) h in
     numbers_long kinds e.total.count e.total.numbers (both (count_field.fits e.total.count) ((numbers_field kinds e.total.count).fits e.total.numbers) parts.1).1
 
 group_long : (max : ℕ) (kinds : List Kind) (last : Option SavedGroup) (g : SavedGroup) → (group_after max kinds last).fits g ≡ true → AreOfKinds kinds g
@@ -122,14 +104,13 @@ short_contents s h =
     let e = both (sources_field.fits s.sources) _ d.1 in
     let f = both (uid_field.fits s.window_uid) _ e.1 in
     let g = both (kinds_field.fits s.kinds) ((groups_field s.max s.kinds).fits s.groups) f.1 in
-    let sources = counted-fits (few_field 8) source_after HasShortLists source_short s.sources e.0 in
-    let kinds = counted-fits (few_field 8) (λ _. kind_field) (λ _. Unit {0}) (λ _ k _. tt) s.kinds g.0 in
+    let sources = counted-fits (few_field 8) source_after HasFewPartitions source_short s.sources e.0 in
+    let kinds = both ((few_field 8).fits (length s.kinds)) (list_all kind_field.fits s.kinds) g.0 in
     let groups = counted-fits u16_field (group_after s.max s.kinds) (AreOfKinds s.kinds) (group_long s.max s.kinds) s.groups g.1 in
     record {
       plan_record = is_short (length s.plan_record) (sized-fits u16_field s.plan_record b.0);
       few_sources = is_byte 8 (length s.sources) sources.0;
       sources = sources.1;
-      window_uid = uid_short s.window_uid f.0;
       kinds = is_byte 8 (length s.kinds) kinds.0;
       few_groups = is_short (length s.groups) groups.0;
       groups = groups.1;

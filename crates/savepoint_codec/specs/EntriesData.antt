@@ -1,11 +1,11 @@
 -- Entries of a key group as contracts see them.
 use Rattle.std.specs.Prelude.{ℕ, List}
-use Rattle.logical_plan.specs.declared.spec.Place.{Place}
-use Rattle.logical_plan.specs.Aggregates.{Aggregated}
+use Rattle.plan_model.specs.declared.spec.Pane.{Pane}
+use Rattle.plan_model.specs.Aggregates.{Aggregated}
 
--- what the records of a place come to
+-- what the records of a pane come to
 pub record EntryData : Type 0 where
-  pub place : Place
+  pub pane : Pane
   pub total : Aggregated
 
 -- entries in order, each with so many numbers

@@ -7,7 +7,7 @@ use Rattle.savepoint_codec.specs.EntriesData.{EntryData, EntriesData}
 
 -- what the head of an entry and its numbers say
 abbrev pub entry_of : Head → List ℤ → EntryData
-entry_of head numbers = record { place = head.place; total = record { count = head.count; numbers = numbers } }
+entry_of head numbers = record { pane = head.pane; total = record { count = head.count; numbers = numbers } }
 
 abbrev pub entries_of : ℕ → List Head → List ℤ → List EntryData
 entries_of width [] numbers = []
@@ -21,4 +21,4 @@ IsEntriesInside e = length e.numbers.items ≡ e.width * length e.heads.items
 
 -- one entry, borrowed
 abbrev pub entry_data : Entry → EntryData
-entry_data e = record { place = e.place; total = record { count = e.count; numbers = e.numbers.now } }
+entry_data e = record { pane = e.pane; total = record { count = e.count; numbers = e.numbers.now } }

@@ -1,17 +1,17 @@
 -- The fields of a savepoint, from the smallest to the list of key groups.
 use Rattle.std.specs.Prelude.{ℕ, ℤ, ◌^◌, Bool, true, false, ◌&&◌, ◌||◌, ◌==◌, nat_le, nat_lt, int_lt, List, [], ◌∷◌, length, Option, Some, None, if◌then◌else◌}
-use Rattle.std.specs.List.{list_all}
 use Rattle.std.specs.Option.{option_map}
 use Rattle.std.specs.Ordering.{nat_cmp, int_eq}
 use Rattle.std.specs.Cmp.Lexicographic.{slice_cmp}
 use Rattle.std.specs.declared.cmp.Ordering.{Ordering}
 use Rattle.std.specs.declared.cmp.Ordering.TheVariants.{Less, Equal, Greater}
+use Rattle.key_groups.specs.declared.limits.TheConstants.{MOST_GROUPS}
 use Rattle.byte_fields.specs.declared.fault.FieldFault.TheVariants.{Order, Range}
 use Rattle.byte_fields.specs.Format.{Format, where_it, before, seen_as, as_record}
-use Rattle.byte_fields.specs.Lists.{nothing, as_list, counted, sized}
-use Rattle.byte_fields.specs.Fields.{u8_field, u16_field, u64_field, i64_field, i128_field}
-use Rattle.logical_plan.specs.Uids.{is_nat_within, is_uid_byte}
-use Rattle.logical_plan.specs.declared.spec.Place.{Place}
+use Rattle.byte_fields.specs.Lists.{nothing, as_list, counted, listed}
+use Rattle.byte_fields.specs.Fields.{u8_field, few_field, u16_field, u64_field, i64_field, i128_field}
+use Rattle.plan_model.specs.Uids.{is_nat_within, uid_field}
+use Rattle.plan_model.specs.declared.spec.Pane.{Pane}
 use Rattle.aggregates.specs.declared.kind.Kind.{Kind}
 use Rattle.aggregates.specs.declared.kind.Kind.TheVariants.{Count, Sum, Least, Greatest}
 use Rattle.aggregates.specs.Kinds.{is_number}
@@ -26,15 +26,7 @@ number_field = where_it (nat_lt 0) Range u64_field
 
 -- how many key groups the plan has
 unfoldable pub max_field : Format ℕ
-max_field = where_it (is_nat_within 1 32768) Range u16_field
-
--- a number from 1 to a bound, in a byte
-unfoldable pub few_field : ℕ → Format ℕ
-few_field most = where_it (is_nat_within 1 most) Range u8_field
-
--- an operator's uid, its length before it
-unfoldable pub uid_field : Format (List ℕ)
-uid_field = where_it (list_all is_uid_byte) Range (sized (few_field 64))
+max_field = where_it (is_nat_within 1 MOST_GROUPS) Range u16_field
 
 abbrev pub is_less : Ordering → Bool
 is_less Less = true
@@ -53,7 +45,7 @@ partition_field =
     (before u64_field (λ _. i64_field))
 
 unfoldable pub partitions_field : Format (List SavedPartition)
-partitions_field = counted (few_field 64) (λ _. partition_field)
+partitions_field = listed (few_field 64) partition_field
 
 unfoldable pub source_field : Option (List ℕ) → Format SavedSource
 source_field last =
@@ -80,18 +72,18 @@ unfoldable pub kind_field : Format Kind
 kind_field = seen_as kind_of_code kind_code (λ _. true) (where_it (λ n. nat_le n 3) Range u8_field)
 
 unfoldable pub kinds_field : Format (List Kind)
-kinds_field = counted (few_field 8) (λ _. kind_field)
+kinds_field = listed (few_field 8) kind_field
 
 -- the start of a window, and a key
-unfoldable pub place_field : Format Place
-place_field = as_record (λ x. record { start = x.0; key = x.1 }) (λ q. (q.start, q.key)) (before i64_field (λ _. i64_field))
+unfoldable pub pane_field : Format Pane
+pane_field = as_record (λ x. record { start = x.0; key = x.1 }) (λ q. (q.start, q.key)) (before i64_field (λ _. i64_field))
 
--- a place that comes after the one before, by start and then by key
-abbrev pub is_place_after : Option Place → Place → Bool
-is_place_after None q = true
-is_place_after (Some last) q = int_lt last.start q.start || (int_eq last.start q.start && int_lt last.key q.key)
+-- a pane that comes after the one before, by start and then by key
+abbrev pub is_pane_after : Option Pane → Pane → Bool
+is_pane_after None q = true
+is_pane_after (Some last) q = int_lt last.start q.start || (int_eq last.start q.start && int_lt last.key q.key)
 
--- how many records a place has: 1 to 2^40
+-- how many records a pane has: 1 to 2^40
 unfoldable pub count_field : Format ℕ
 count_field = where_it (is_nat_within 1 (2 ^ 40)) Range u64_field
 
@@ -104,13 +96,13 @@ unfoldable pub numbers_field : List Kind → ℕ → Format (List ℤ)
 numbers_field [] count = nothing
 numbers_field (kind ∷ kinds) count = as_list (before (number_of_kind count kind) (λ _. numbers_field kinds count))
 
-unfoldable pub entry_field : List Kind → Option Place → Format EntryData
+unfoldable pub entry_field : List Kind → Option Pane → Format EntryData
 entry_field kinds last =
-    as_record (λ x. record { place = x.0; total = record { count = x.1.0; numbers = x.1.1 } }) (λ e. (e.place, (e.total.count, e.total.numbers)))
-    (before (where_it (is_place_after last) Order place_field) (λ _. before count_field (numbers_field kinds)))
+    as_record (λ x. record { pane = x.0; total = record { count = x.1.0; numbers = x.1.1 } }) (λ e. (e.pane, (e.total.count, e.total.numbers)))
+    (before (where_it (is_pane_after last) Order pane_field) (λ _. before count_field (numbers_field kinds)))
 
 abbrev pub entry_after : List Kind → Option EntryData → Format EntryData
-entry_after kinds last = entry_field kinds (option_map (λ e. e.place) last)
+entry_after kinds last = entry_field kinds (option_map (λ e. e.pane) last)
 
 -- at least one entry
 unfoldable pub entries_field : List Kind → Format (List EntryData)

@@ -7,7 +7,8 @@ use Rattle.aggregates.specs.declared.kind.Kind.{Kind}
 use Rattle.savepoint_codec.specs.declared.savepoint.SavedSource.{SavedSource}
 use Rattle.savepoint_codec.specs.declared.savepoint.SavedGroup.{SavedGroup}
 use Rattle.savepoint_codec.specs.declared.savepoint.Contents.{Contents}
-use Rattle.savepoint_codec.specs.Fields.{number_field, max_field, sources_field, uid_field, kinds_field, groups_field}
+use Rattle.plan_model.specs.Uids.{uid_field}
+use Rattle.savepoint_codec.specs.Fields.{number_field, max_field, sources_field, kinds_field, groups_field}
 
 unfoldable pub record_field : Format (List ℕ)
 record_field = sized u16_field

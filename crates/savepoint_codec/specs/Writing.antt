@@ -7,11 +7,10 @@ use Rattle.savepoint_codec.specs.declared.savepoint.SavedSource.{SavedSource}
 use Rattle.savepoint_codec.specs.declared.savepoint.SavedGroup.{SavedGroup}
 use Rattle.savepoint_codec.specs.declared.savepoint.Contents.{Contents}
 use Rattle.savepoint_codec.specs.EntriesData.{EntryData}
-use Rattle.savepoint_codec.specs.Fields.{place_field}
+use Rattle.savepoint_codec.specs.Fields.{pane_field}
 
-pub record HasShortLists (s : SavedSource) : Type 0 where
-  pub uid : length s.uid < 256
-  pub partitions : length s.partitions < 256
+abbrev pub HasFewPartitions : SavedSource → Type 0
+HasFewPartitions s = length s.partitions < 256
 
 -- a number for each kind
 abbrev pub IsOfKinds : List Kind → EntryData → Type 0
@@ -23,12 +22,11 @@ AreOfKinds kinds g = All (IsOfKinds kinds) g.entries.entries
 pub record IsShort (s : Contents) : Type 0 where
   pub plan_record : length s.plan_record < 65536
   pub few_sources : length s.sources < 256
-  pub sources : All HasShortLists s.sources
-  pub window_uid : length s.window_uid < 256
+  pub sources : All HasFewPartitions s.sources
   pub kinds : length s.kinds < 256
   pub few_groups : length s.groups < 65536
   pub groups : All (AreOfKinds s.kinds) s.groups
 
 -- the bytes of an entry
 abbrev pub entry_bytes : EntryData → List ℕ
-entry_bytes e = place_field.spell e.place ++ u64_field.spell e.total.count ++ flat_map i128_field.spell e.total.numbers
+entry_bytes e = pane_field.spell e.pane ++ u64_field.spell e.total.count ++ flat_map i128_field.spell e.total.numbers

@@ -8,17 +8,18 @@ ghost use Rattle.savepoint_codec.specs.Layout.{window_fields, savepoint_format, 
 ghost use Rattle.savepoint_codec.specs.Answer.{Gives, savepoint_of_bytes};
 
 use crate::fault::SaveFault;
-use crate::fields::{read_kinds, read_max, read_number, read_record, read_sources, read_uid};
+use crate::fields::{read_kinds, read_max, read_number, read_record, read_sources};
 use crate::groups::read_groups;
 use crate::savepoint::{Contents, SavedGroup, Savepoint};
 use aggregates::Kind;
 use byte_fields::{FieldFault, ReadFault, read_bytes};
-use plain_data::{Items, Text};
+use plain_data::Items;
+use plan_model::{Uid, read_uid};
 use std::alloc::Global;
 
 /// What a savepoint holds of the window operator.
 struct WindowParts {
-    uid: Text,
+    uid: Uid,
     kinds: Items<Kind>,
     groups: Items<SavedGroup>,
 }
@@ -38,10 +39,9 @@ fn read_mark(bytes: &[u8]) -> Result<&[u8], FieldFault>
 fn read_window(alloc: Global, max: u16, bytes: &[u8]) -> Result<(WindowParts, &[u8]), ReadFault>
     ensures { Read (λ x. ((x.0.uid, (x.0.kinds, x.0.groups)), x.1.now)) result ((window_fields max).read bytes.now) }
 {
-    let (uid, rest) = read_uid(bytes)?;
+    let (uid, rest) = read_uid(alloc, bytes)?;
     let (kinds, rest) = read_kinds(alloc, rest)?;
     let (groups, rest) = read_groups(alloc, max, kinds.as_slice(), rest)?;
-    let uid = Text::from_string(String::from_str(alloc, uid)?);
     Ok((WindowParts { uid, kinds, groups }, rest))
 }
 

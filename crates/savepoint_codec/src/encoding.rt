@@ -4,15 +4,15 @@ ghost use Rattle.std.specs.Prelude.{◌≡◌, ◌<◌, ◌≤◌, None, ◌++�
 ghost use Rattle.std.specs.List.{All, flat_map};
 ghost use Rattle.byte_fields.specs.Fields.{i128_field};
 ghost use Rattle.savepoint_codec.specs.EntriesView.{entry_data};
-ghost use Rattle.savepoint_codec.specs.Fields.{uid_field, partition_field, partitions_field, source_field, sources_field, kind_code, kind_field, kinds_field, place_field, entry_field, entries_field, group_field, groups_field};
+ghost use Rattle.savepoint_codec.specs.Fields.{partition_field, partitions_field, source_field, sources_field, kind_code, kind_field, kinds_field, pane_field, entry_field, entries_field, group_field, groups_field};
 ghost use Rattle.savepoint_codec.specs.Layout.{record_field, window_fields, fields, parts_of, savepoint_bytes};
-ghost use Rattle.savepoint_codec.specs.Writing.{HasShortLists, IsOfKinds, AreOfKinds, IsShort, entry_bytes};
+ghost use Rattle.savepoint_codec.specs.Writing.{HasFewPartitions, IsOfKinds, AreOfKinds, IsShort, entry_bytes};
 
 use crate::entries::{Entries, Entry};
 use crate::savepoint::{Contents, SavedGroup, SavedPartition, SavedSource, Savepoint};
 use aggregates::Kind;
 use byte_fields::{put_bytes, put_i64, put_i128, put_u8, put_u16, put_u64};
-use logical_plan::Place;
+use plan_model::{Pane, put_uid};
 use std::alloc::{AllocError, Global};
 
 #[tactic(auto, unfolding(crate::specs::Layout::record_field, byte_fields::specs::Lists::sized))]
@@ -22,15 +22,6 @@ fn put_record(out: &mut Vec<u8>, bytes: &[u8]) -> Result<(), AllocError>
 {
     put_u16(out, bytes.len() as u16)?;
     put_bytes(out, bytes)
-}
-
-#[tactic(auto, unfolding(crate::specs::Fields::uid_field, crate::specs::Fields::few_field, byte_fields::specs::Lists::sized))]
-fn put_uid(out: &mut Vec<u8>, uid: &str) -> Result<(), AllocError>
-    requires { length uid.now < 256 }
-    ensures { OnOk result (out.new.items ≡ out.old.items ++ uid_field.spell uid.now) }
-{
-    put_u8(out, uid.len() as u8)?;
-    put_bytes(out, uid.as_bytes())
 }
 
 #[tactic(auto, unfolding(crate::specs::Fields::partition_field))]
@@ -50,6 +41,7 @@ fn put_partition_list(out: &mut Vec<u8>, partitions: &[SavedPartition]) -> Resul
     Ok(())
 }
 
+#[tactic(auto, unfolding(crate::specs::Fields::partitions_field, byte_fields::specs::Fields::few_field))]
 fn put_partitions(out: &mut Vec<u8>, partitions: &[SavedPartition]) -> Result<(), AllocError>
     requires { length partitions.now < 256 }
     ensures { OnOk result (out.new.items ≡ out.old.items ++ partitions_field.spell partitions.now) }
@@ -60,7 +52,7 @@ fn put_partitions(out: &mut Vec<u8>, partitions: &[SavedPartition]) -> Result<()
 
 #[tactic(auto, unfolding(crate::specs::Fields::source_field))]
 fn put_source(out: &mut Vec<u8>, source: &SavedSource) -> Result<(), AllocError>
-    requires { HasShortLists source.now }
+    requires { HasFewPartitions source.now }
     ensures { OnOk result (out.new.items ≡ out.old.items ++ (source_field None).spell source.now) }
 {
     put_uid(out, source.uid.as_str())?;
@@ -68,7 +60,7 @@ fn put_source(out: &mut Vec<u8>, source: &SavedSource) -> Result<(), AllocError>
 }
 
 fn put_source_list(out: &mut Vec<u8>, sources: &[SavedSource]) -> Result<(), AllocError>
-    requires { All HasShortLists sources.now }
+    requires { All HasFewPartitions sources.now }
     ensures { OnOk result (out.new.items ≡ out.old.items ++ flat_map (source_field None).spell sources.now) }
 {
     for source in sources {
@@ -79,7 +71,7 @@ fn put_source_list(out: &mut Vec<u8>, sources: &[SavedSource]) -> Result<(), All
 
 fn put_sources(out: &mut Vec<u8>, sources: &[SavedSource]) -> Result<(), AllocError>
     requires few { length sources.now < 256 }
-    requires short { All HasShortLists sources.now }
+    requires short { All HasFewPartitions sources.now }
     ensures { OnOk result (out.new.items ≡ out.old.items ++ sources_field.spell sources.now) }
 {
     put_u8(out, sources.len() as u8)?;
@@ -108,6 +100,7 @@ fn put_kind_list(out: &mut Vec<u8>, kinds: &[Kind]) -> Result<(), AllocError>
     Ok(())
 }
 
+#[tactic(auto, unfolding(crate::specs::Fields::kinds_field, byte_fields::specs::Fields::few_field))]
 fn put_kinds(out: &mut Vec<u8>, kinds: &[Kind]) -> Result<(), AllocError>
     requires { length kinds.now < 256 }
     ensures { OnOk result (out.new.items ≡ out.old.items ++ kinds_field.spell kinds.now) }
@@ -116,12 +109,12 @@ fn put_kinds(out: &mut Vec<u8>, kinds: &[Kind]) -> Result<(), AllocError>
     put_kind_list(out, kinds)
 }
 
-#[tactic(auto, unfolding(crate::specs::Fields::place_field))]
-fn put_place(out: &mut Vec<u8>, place: Place) -> Result<(), AllocError>
-    ensures { OnOk result (out.new.items ≡ out.old.items ++ place_field.spell place) }
+#[tactic(auto, unfolding(crate::specs::Fields::pane_field))]
+fn put_pane(out: &mut Vec<u8>, pane: Pane) -> Result<(), AllocError>
+    ensures { OnOk result (out.new.items ≡ out.old.items ++ pane_field.spell pane) }
 {
-    put_i64(out, place.start)?;
-    put_i64(out, place.key)
+    put_i64(out, pane.start)?;
+    put_i64(out, pane.key)
 }
 
 fn put_numbers(out: &mut Vec<u8>, numbers: &[i128]) -> Result<(), AllocError>
@@ -136,7 +129,7 @@ fn put_numbers(out: &mut Vec<u8>, numbers: &[i128]) -> Result<(), AllocError>
 fn put_entry(out: &mut Vec<u8>, entry: Entry<'_>) -> Result<(), AllocError>
     ensures { OnOk result (out.new.items ≡ out.old.items ++ entry_bytes (entry_data entry.entry)) }
 {
-    put_place(out, entry.place)?;
+    put_pane(out, entry.pane)?;
     put_u64(out, entry.count)?;
     put_numbers(out, entry.numbers)
 }

@@ -1,20 +1,22 @@
+//! What stands in the panes of a key group, in little memory.
+
 ghost use Rattle.std.specs.Prelude.{◌≡◌, ◌+◌, ◌<◌, ◌≤◌, take, drop, ◌++◌, ◌∷◌, [], length, slice_get, Some, OnOk, OnErr};
 
-use logical_plan::Place;
+use plan_model::Pane;
 use std::alloc::{AllocError, Global};
 use std::marker::Model;
 
 /// An entry but for its numbers.
 #[derive(Clone, Copy, Debug)]
 struct Head {
-    place: Place,
+    pane: Pane,
     count: u64,
 }
 
-/// What the records of a place come to: how many there are, and a number for each aggregate.
+/// What the records of a pane come to: how many there are, and a number for each aggregate.
 #[derive(Clone, Copy, Debug)]
 pub struct Entry<'a> {
-    pub place: Place,
+    pub pane: Pane,
     pub count: u64,
     pub numbers: &'a [i128],
 }
@@ -86,7 +88,7 @@ impl Entries {
         self.heads.reserve(1)?;
         self.numbers.extend_from_slice(entry.numbers)?;
         self.heads.push_reserved(Head {
-            place: entry.place,
+            pane: entry.pane,
             count: entry.count,
         });
         Ok(())
@@ -106,7 +108,7 @@ impl Entries {
     {
         let head = self.heads[i];
         Entry {
-            place: head.place,
+            pane: head.pane,
             count: head.count,
             numbers: part(&self.numbers, i * self.width, self.width),
         }

@@ -1,3 +1,5 @@
+//! Why bytes are no savepoint.
+
 ghost use Rattle.std.specs.Prelude.{◌≡◌};
 ghost use Rattle.savepoint_codec.specs.Answer.{fault_of_read};
 

@@ -5,19 +5,21 @@ ghost use Rattle.std.specs.List.{list_all};
 ghost use Rattle.std.specs.Option.{option_map};
 ghost use Rattle.std.specs.Ordering.{nat_cmp};
 ghost use Rattle.std.specs.Cmp.Lexicographic.{slice_cmp};
-ghost use Rattle.logical_plan.specs.Uids.{is_uid_byte as byte_of_uid};
 ghost use Rattle.byte_fields.specs.Reads.{Reads, Gives};
 ghost use Rattle.byte_fields.specs.Lists.{chain, last_of};
-ghost use Rattle.savepoint_codec.specs.Fields.{number_field, max_field, few_field, uid_field, is_uid_after, partition_field, partitions_field, source_field, source_after, sources_field, kind_field, kinds_field};
+ghost use Rattle.savepoint_codec.specs.Fields.{number_field, max_field, is_uid_after, partition_field, partitions_field, source_field, source_after, sources_field, kind_field, kinds_field};
 ghost use Rattle.savepoint_codec.specs.Layout.{record_field};
 
 use crate::savepoint::{SavedPartition, SavedSource};
 use aggregates::Kind;
-use byte_fields::{FieldFault, ReadFault, read_bytes, read_i64, read_u8, read_u16, read_u64};
-use plain_data::{Items, Text};
+use byte_fields::{
+    FieldFault, ReadFault, read_bytes, read_few, read_i64, read_u8, read_u16, read_u64,
+};
+use key_groups::MOST_GROUPS;
+use plain_data::Items;
+use plan_model::read_uid;
 use std::alloc::Global;
 use std::cmp::Ordering;
-use std::str;
 
 /// A savepoint's number.
 #[tactic(auto, unfolding(crate::specs::Fields::number_field))]
@@ -37,23 +39,10 @@ pub(crate) fn read_max(bytes: &[u8]) -> Result<(u16, &[u8]), FieldFault>
     ensures { Reads (λ x. (x.0, x.1.now)) result (max_field.read bytes.now) }
 {
     let (max, rest) = read_u16(bytes)?;
-    if max < 1 || max > 32768 {
+    if max < 1 || u32::from(max) > MOST_GROUPS {
         return Err(FieldFault::Range);
     }
     Ok((max, rest))
-}
-
-/// A number from 1 to a bound.
-#[tactic(auto, unfolding(crate::specs::Fields::few_field))]
-fn read_few(most: u8, bytes: &[u8]) -> Result<(u8, &[u8]), FieldFault>
-    ensures read { Reads (λ x. (x.0, x.1.now)) result ((few_field most).read bytes.now) }
-    ensures few { IfOk result (λ x. x.0 ≤ most) }
-{
-    let (count, rest) = read_u8(bytes)?;
-    if count < 1 || count > most {
-        return Err(FieldFault::Range);
-    }
-    Ok((count, rest))
 }
 
 /// The plan's record.
@@ -64,42 +53,6 @@ pub(crate) fn read_record(alloc: Global, bytes: &[u8]) -> Result<(Items<u8>, &[u
     let (length, rest) = read_u16(bytes)?;
     let (record, rest) = read_bytes(length as usize, rest)?;
     Ok((Items::from_vec(Vec::from_slice(alloc, record)?), rest))
-}
-
-fn is_uid_byte(byte: u8) -> bool
-    ensures { result ≡ byte_of_uid byte }
-{
-    matches!(byte, b'a'..=b'z' | b'0'..=b'9' | b'-')
-}
-
-fn are_uid_bytes(bytes: &[u8]) -> bool
-    ensures { result ≡ list_all byte_of_uid bytes.now }
-{
-    bytes.iter().all(|byte| is_uid_byte(*byte))
-}
-
-/// The text of the bytes of a uid, all of which are ASCII.
-fn uid_text(bytes: &[u8]) -> &str
-    requires { list_all byte_of_uid bytes.now ≡ true }
-    ensures { result.now ≡ bytes.now }
-{
-    match str::from_utf8(bytes) {
-        Ok(uid) => uid,
-        Err(_) => unreachable!(),
-    }
-}
-
-/// An operator's uid.
-#[tactic(auto, unfolding(crate::specs::Fields::uid_field, byte_fields::specs::Lists::sized))]
-pub(crate) fn read_uid(bytes: &[u8]) -> Result<(&str, &[u8]), FieldFault>
-    ensures { Reads (λ x. (x.0.now, x.1.now)) result (uid_field.read bytes.now) }
-{
-    let (length, rest) = read_few(64, bytes)?;
-    let (uid, rest) = read_bytes(length as usize, rest)?;
-    if !are_uid_bytes(uid) {
-        return Err(FieldFault::Range);
-    }
-    Ok((uid_text(uid), rest))
 }
 
 /// Whether a uid comes after the one before, if there is one.
@@ -157,12 +110,11 @@ fn read_source<'a>(
 ) -> Result<(SavedSource, &'a [u8]), ReadFault>
     ensures { Gives (λ x. (x.0, x.1.now)) result ((source_field (option_map (λ last. last.now) last.entry)).read bytes.now) }
 {
-    let (uid, rest) = read_uid(bytes)?;
-    if !is_after(last, uid) {
+    let (uid, rest) = read_uid(alloc, bytes)?;
+    if !is_after(last, uid.as_str()) {
         return Err(ReadFault::Bytes(FieldFault::Order));
     }
     let (partitions, rest) = read_partitions(alloc, rest)?;
-    let uid = Text::from_string(String::from_str(alloc, uid)?);
     Ok((SavedSource { uid, partitions }, rest))
 }
 

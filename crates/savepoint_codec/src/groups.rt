@@ -5,37 +5,35 @@ ghost use Rattle.std.specs.Option.{option_map};
 ghost use Rattle.byte_fields.specs.Reads.{Reads, Gives, Fails};
 ghost use Rattle.byte_fields.specs.Lists.{chain, last_of};
 ghost use Rattle.savepoint_codec.specs.Reading.{TakesOne, entries_read};
-ghost use Rattle.savepoint_codec.specs.Fields.{number_of_kind, place_field, is_place_after, count_field, numbers_field, entry_field, entry_after, entries_field, group_number, is_number_after, group_field, group_after, groups_field};
+ghost use Rattle.savepoint_codec.specs.Fields.{number_of_kind, pane_field, is_pane_after, count_field, numbers_field, entry_field, entry_after, entries_field, group_number, is_number_after, group_field, group_after, groups_field};
 
 use crate::entries::{Entries, Entry};
 use crate::savepoint::SavedGroup;
 use aggregates::Kind;
 use byte_fields::{FieldFault, ReadFault, read_i64, read_i128, read_u16, read_u64};
-use logical_plan::Place;
 use plain_data::Items;
+use plan_model::Pane;
 use std::alloc::Global;
 
 /// The greatest number of aggregates.
 const MOST_KINDS: usize = 8;
 
-#[tactic(auto, unfolding(crate::specs::Fields::place_field))]
-fn read_place(bytes: &[u8]) -> Result<(Place, &[u8]), FieldFault>
-    ensures { Reads (λ x. (x.0, x.1.now)) result (place_field.read bytes.now) }
+#[tactic(auto, unfolding(crate::specs::Fields::pane_field))]
+fn read_pane(bytes: &[u8]) -> Result<(Pane, &[u8]), FieldFault>
+    ensures { Reads (λ x. (x.0, x.1.now)) result (pane_field.read bytes.now) }
 {
     let (start, rest) = read_i64(bytes)?;
     let (key, rest) = read_i64(rest)?;
-    Ok((Place { start, key }, rest))
+    Ok((Pane { start, key }, rest))
 }
 
-/// Whether a place comes after the one before, if there is one.
-fn is_after(last: Option<Place>, place: Place) -> bool
-    ensures { result ≡ is_place_after last place }
+/// Whether a pane comes after the one before, if there is one.
+fn is_after(last: Option<Pane>, pane: Pane) -> bool
+    ensures { result ≡ is_pane_after last pane }
 {
     match last {
         None => true,
-        Some(last) => {
-            last.start < place.start || last.start == place.start && last.key < place.key
-        }
+        Some(last) => { last.start < pane.start || last.start == pane.start && last.key < pane.key }
     }
 }
 
@@ -84,7 +82,7 @@ fn read_numbers<'a>(
     Ok(rest)
 }
 
-/// How many bytes an entry has: its place, its count, and its numbers.
+/// How many bytes an entry has: its pane, its count, and its numbers.
 fn entry_size(width: usize) -> usize
     requires { width ≤ 8 }
     ensures { result ≡ 24 + 16 * width }
@@ -108,21 +106,21 @@ fn room(count: u64, size: usize, bytes: &[u8]) -> usize
     count.min((bytes.len() / size) as u64) as usize
 }
 
-/// An entry after the one before, put behind those that are there. Gives its place.
+/// An entry after the one before, put behind those that are there. Gives its pane.
 #[tactic(auto, unfolding(crate::specs::Fields::entry_field))]
 fn read_entry_onto<'a>(
     entries: &mut Entries,
     kinds: &[Kind],
-    last: Option<Place>,
+    last: Option<Pane>,
     bytes: &'a [u8],
-) -> Result<(Place, &'a [u8]), ReadFault>
+) -> Result<(Pane, &'a [u8]), ReadFault>
     requires width { entries.old.width ≡ length kinds.now }
     requires few { length kinds.now ≤ 8 }
     ensures { MatchResult result (λ x. TakesOne entries.old entries.new x.0 x.1.now ((entry_field kinds.now last).read bytes.now))
         (λ fault. Fails fault ((entry_field kinds.now last).read bytes.now)) }
 {
-    let (place, rest) = read_place(bytes)?;
-    if !is_after(last, place) {
+    let (pane, rest) = read_pane(bytes)?;
+    if !is_after(last, pane) {
         return Err(ReadFault::Bytes(FieldFault::Order));
     }
     let (count, rest) = read_count(rest)?;
@@ -130,11 +128,11 @@ fn read_entry_onto<'a>(
     let rest = read_numbers(kinds, count, rest, &mut numbers[..kinds.len()])?;
     let numbers = &numbers[..kinds.len()];
     entries.push(Entry {
-        place,
+        pane,
         count,
         numbers,
     })?;
-    Ok((place, rest))
+    Ok((pane, rest))
 }
 
 /// So many entries, each after the one before.
@@ -152,8 +150,8 @@ fn read_entry_list<'a>(
     let mut last = None;
     let mut rest = bytes;
     for _ in 0..count {
-        let (place, after) = read_entry_onto(&mut entries, kinds, last, rest)?;
-        last = Some(place);
+        let (pane, after) = read_entry_onto(&mut entries, kinds, last, rest)?;
+        last = Some(pane);
         rest = after;
     }
     Ok((entries, rest))

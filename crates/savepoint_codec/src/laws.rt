@@ -1,3 +1,5 @@
+//! Laws of the layout, each the contract of a function that does nothing.
+
 ghost use Rattle.std.specs.Prelude.{◌≡◌, ℕ, List, [], ◌++◌};
 ghost use Rattle.savepoint_codec.specs.declared.savepoint.Contents.{Contents};
 ghost use Rattle.savepoint_codec.specs.Layout.{IsSavepoint, savepoint_bytes};

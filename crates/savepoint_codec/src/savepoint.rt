@@ -1,8 +1,11 @@
+//! What a savepoint holds.
+
 ghost use Rattle.std.specs.Prelude.{◌≡◌};
 
 use crate::entries::Entries;
 use aggregates::Kind;
-use plain_data::{Items, Text};
+use plain_data::Items;
+use plan_model::Uid;
 use std::marker::Model;
 
 /// How many entries of a partition were read, and its watermark there.
@@ -15,7 +18,7 @@ pub struct SavedPartition {
 /// A source's partitions, in order.
 #[derive(Debug, Drop)]
 pub struct SavedSource {
-    pub uid: Text,
+    pub uid: Uid,
     pub partitions: Items<SavedPartition>,
 }
 
@@ -38,7 +41,7 @@ pub struct Contents {
     /// The sources, ascending by uid.
     pub sources: Items<SavedSource>,
     /// The uid of the window operator.
-    pub window_uid: Text,
+    pub window_uid: Uid,
     /// The kinds of the window's aggregates.
     pub kinds: Items<Kind>,
     /// The key groups that have entries, ascending.

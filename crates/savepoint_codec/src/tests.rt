@@ -27,8 +27,8 @@ fn fault_of(alloc: Global, bytes: &[u8]) -> Option<SaveFault> {
 /// The bytes with some of them replaced.
 fn edited(alloc: Global, edits: &[(usize, u8)]) -> Result<Vec<u8>, Fail> {
     let mut bytes = Vec::from_slice(alloc, &BYTES)?;
-    for (place, value) in edits {
-        *bytes.get_mut(*place).ok_or("a place past the end")? = *value;
+    for (pane, value) in edits {
+        *bytes.get_mut(*pane).ok_or("a pane past the end")? = *value;
     }
     Ok(bytes)
 }
@@ -69,10 +69,7 @@ fn its_one_entry(rt: HostRuntime) -> Result<(), Fail> {
     assert_eq!(rt; group.group, 86);
     assert_eq!(rt; group.entries.len(), 1);
     let entry = group.entries.entry(0);
-    assert_eq!(rt;
-        (entry.place.start, entry.place.key, entry.count),
-        (10, 1, 1)
-    );
+    assert_eq!(rt; (entry.pane.start, entry.pane.key, entry.count), (10, 1, 1));
     assert_eq!(rt; entry.numbers, [1, 7, 7, 7].as_slice());
     Ok(())
 }
@@ -113,9 +110,9 @@ const EDITS: [(usize, u8, SaveFault); 12] = [
 
 #[test]
 fn faults_of_single_bytes(rt: HostRuntime) -> Result<(), Fail> {
-    for (place, value, fault) in &EDITS {
-        let bytes = edited(rt.alloc(), &[(*place, *value)])?;
-        assert_eq!(rt; fault_of(rt.alloc(), &bytes), Some(*fault), "byte {place}");
+    for (pane, value, fault) in &EDITS {
+        let bytes = edited(rt.alloc(), &[(*pane, *value)])?;
+        assert_eq!(rt; fault_of(rt.alloc(), &bytes), Some(*fault), "byte {pane}");
     }
     Ok(())
 }
@@ -123,8 +120,8 @@ fn faults_of_single_bytes(rt: HostRuntime) -> Result<(), Fail> {
 #[test]
 fn no_count_is_trusted(rt: HostRuntime) -> Result<(), Fail> {
     let mut bytes = Vec::from_slice(rt.alloc(), &BYTES)?;
-    for place in 106..114 {
-        *bytes.get_mut(place).ok_or("a place past the end")? = 0xff;
+    for pane in 106..114 {
+        *bytes.get_mut(pane).ok_or("a pane past the end")? = 0xff;
     }
     assert_eq!(rt; fault_of(rt.alloc(), &bytes), Some(SaveFault::Truncated));
     Ok(())
@@ -166,12 +163,12 @@ fn is_refused_or_own(alloc: Global, bytes: &[u8]) -> Result<bool, Fail> {
 
 #[test]
 fn each_value_of_each_byte(rt: HostRuntime) -> Result<(), Fail> {
-    for place in 0..BYTES.len() {
+    for pane in 0..BYTES.len() {
         for value in 0..=255 {
-            let bytes = edited(rt.alloc(), &[(place, value)])?;
+            let bytes = edited(rt.alloc(), &[(pane, value)])?;
             assert!(rt;
                 is_refused_or_own(rt.alloc(), &bytes)?,
-                "byte {place} as {value}"
+                "byte {pane} as {value}"
             );
         }
     }
@@ -248,8 +245,8 @@ fn mutated(alloc: Global, bytes: &[u8], seed: u64) -> Result<(Vec<u8>, u64), Fai
     let mut state = next(seed);
     for _ in 0..state >> 62 {
         state = next(state);
-        let place = (state >> 32) as usize % bytes.len().max(1);
-        if let Some(byte) = mutation.get_mut(place) {
+        let pane = (state >> 32) as usize % bytes.len().max(1);
+        if let Some(byte) = mutation.get_mut(pane) {
             *byte = (state >> 24 & 0xff) as u8;
         }
     }

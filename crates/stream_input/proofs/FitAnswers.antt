@@ -5,12 +5,13 @@ use Rattle.std.proofs.lemmas.Str.{is_utf8-from_IsUtf8}
 use Rattle.serde_json.specs.Data.{Data}
 use Rattle.serde_json.specs.Read.{read}
 use Rattle.json_parts.specs.Parts.{json_of}
-use Rattle.logical_plan.specs.PlanData.{PlanData}
-use Rattle.stream_input.specs.declared.entry.Entry.{Entry}
+use Rattle.plan_model.specs.PlanData.{PlanData}
+use Rattle.stream_model.specs.declared.entry.Entry.{Entry}
 use Rattle.stream_input.specs.declared.fault.InputFault.TheVariants.{TooMany}
-use Rattle.stream_input.specs.InputData.{input_data_of, all_records}
+use Rattle.stream_model.specs.InputData.{input_data_of, all_records}
 use Rattle.stream_input.specs.InputText.{InputText, input_text}
-use Rattle.stream_input.specs.Late.{first_late, late_fault}
+use Rattle.stream_model.specs.Late.{first_late}
+use Rattle.stream_input.specs.Fault.{late_fault}
 use Rattle.stream_input.specs.Requirements.{requirements, late_record, is_few}
 use Rattle.stream_input.specs.Answer.{text_of_bytes, input_or_fault}
 use Rattle.stream_input.specs.Fit.{AreOf}

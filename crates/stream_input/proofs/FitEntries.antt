@@ -7,8 +7,8 @@ use Rattle.serde_json.specs.Data.{Data, object, no_members, member}
 use Rattle.json_parts.specs.Parts.{whole, each_at, list_text, cell_text, has_only}
 use Rattle.json_tokens.specs.Rows.{row_text}
 use Rattle.plain_data.specs.Record.{Record}
-use Rattle.stream_input.specs.declared.entry.Entry.{Entry}
-use Rattle.stream_input.specs.declared.entry.Entry.TheVariants.{Watermark}
+use Rattle.stream_model.specs.declared.entry.Entry.{Entry}
+use Rattle.stream_model.specs.declared.entry.Entry.TheVariants.{Watermark}
 use Rattle.stream_input.specs.InputText.{rows, watermark, rows_text, watermark_text, entry_text}
 use Rattle.stream_input.specs.Said.{record_of}
 use Rattle.stream_input.specs.Requirements.{is_wide, is_whole, is_time}

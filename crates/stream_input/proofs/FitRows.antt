@@ -11,12 +11,12 @@ use Rattle.plain_data.specs.Record.{Record, at, column_of}
 use Rattle.columns.specs.Table.{Table, rows_of}
 use Rattle.columns.specs.declared.TheConstants.{MOST_ROWS}
 use Rattle.json_tokens.specs.Rows.{joined}
-use Rattle.stream_input.specs.declared.entry.Entry.TheVariants.{Rows}
+use Rattle.stream_model.specs.declared.entry.Entry.TheVariants.{Rows}
 use Rattle.stream_input.specs.InputText.{rows}
 use Rattle.stream_input.specs.Said.{number_of, record_of}
 use Rattle.stream_input.specs.Requirements.{is_wide, is_whole, is_time, is_timely}
 use Rattle.stream_input.specs.Fit.{column_in_cells, is_fit, if_fit}
-use Rattle.stream_input.proofs.Drafts.{list_all_map}
+use Rattle.stream_input.proofs.Rows.{list_all_map}
 use Rattle.stream_input.proofs.Tables.{count_of, column_among, table_is}
 
 abbrev IsEven : ℕ → List Record → Type 0

@@ -10,11 +10,11 @@ use Rattle.serde_json.specs.Data.{Data, Members, no_members, object, put}
 use Rattle.serde_json.specs.Read.{read}
 use Rattle.json_parts.specs.Parts.{list_text}
 use Rattle.json_parts.specs.Members.{members_text}
-use Rattle.logical_plan.specs.declared.spec.SourceSpec.{SourceSpec}
-use Rattle.logical_plan.specs.declared.spec.FilterSpec.{FilterSpec}
-use Rattle.logical_plan.specs.PlanData.{PlanData, IsPlan}
-use Rattle.logical_plan.specs.Uids.{are_distinct}
-use Rattle.stream_input.specs.declared.entry.Entry.{Entry}
+use Rattle.plan_model.specs.declared.spec.SourceSpec.{SourceSpec}
+use Rattle.plan_model.specs.declared.spec.FilterSpec.{FilterSpec}
+use Rattle.plan_model.specs.PlanData.{PlanData, IsPlan}
+use Rattle.plan_model.specs.Uids.{are_distinct}
+use Rattle.stream_model.specs.declared.entry.Entry.{Entry}
 use Rattle.stream_input.specs.InputText.{EntryText, entry_text, InputText, input_text}
 use Rattle.stream_input.specs.Said.{entry_of, partitions_under}
 use Rattle.stream_input.specs.Requirements.{is_wide, is_whole, is_sized, is_timely, every_entry, has_sources, has_partitions, has_width, has_numbers, has_rows, has_times}

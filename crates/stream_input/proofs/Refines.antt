@@ -7,7 +7,7 @@ use Rattle.serde_json.specs.Data.{Data}
 use Rattle.serde_json.specs.Find.{as_array}
 use Rattle.json_parts.specs.Parts.{whole, list_of, each, list_text, cell_text}
 use Rattle.json_tokens.specs.Rows.{of_width, row_text}
-use Rattle.stream_input.specs.declared.entry.Entry.{Entry}
+use Rattle.stream_model.specs.declared.entry.Entry.{Entry}
 use Rattle.stream_input.specs.InputText.{EntryText, entry_text}
 use Rattle.stream_input.specs.Said.{number_of, record_of, entry_of}
 use Rattle.stream_input.specs.Fit.{is_fit, if_fit, fit_entry}

@@ -9,7 +9,7 @@ use Rattle.std.specs.List.{list_all, list_any, find}
 use Rattle.std.specs.Ordering.{match_ordering}
 use Rattle.serde_json.specs.Data.{Data, Members, no_members, member, put}
 use Rattle.json_parts.specs.Members.{each_member}
-use Rattle.logical_plan.specs.Uids.{are_distinct}
+use Rattle.plan_model.specs.Uids.{are_distinct}
 
 -- ---- what the members say, with one more
 

@@ -9,18 +9,21 @@ use Rattle.std.specs.Prelude.{int_le, int_lt}
 use Rattle.std.specs.List.{All, list_all}
 use Rattle.std.specs.Option.{option_map_or, option_or}
 use Rattle.plain_data.specs.Record.{at}
-use Rattle.logical_plan.specs.declared.spec.SourceSpec.{SourceSpec}
-use Rattle.logical_plan.specs.PlanData.{PlanData, IsPlan}
-use Rattle.stream_input.specs.declared.entry.Entry.{Entry}
+use Rattle.plan_model.specs.declared.spec.SourceSpec.{SourceSpec}
+use Rattle.plan_model.specs.PlanData.{PlanData, IsPlan}
+use Rattle.stream_model.specs.declared.entry.Entry.{Entry}
 use Rattle.stream_input.specs.declared.fault.InputFault.{InputFault}
-use Rattle.stream_input.specs.InputData.{InputData, IsTime, IsEntry, IsInput, BelongsTo, all_records}
+use Rattle.json_parts.specs.Answer.{first_unmet}
+use Rattle.json_parts.proofs.Facts.{met_first, no_fault}
+use Rattle.stream_model.specs.InputData.{InputData, IsTime, IsEntry, IsInput, BelongsTo, all_records}
 use Rattle.stream_input.specs.InputText.{EntryText, rows, watermark, InputText}
 use Rattle.stream_input.specs.Said.{record_of, number_of, entry_of, partitions_under, sources_of, input_of}
-use Rattle.stream_input.specs.Requirements.{is_time, is_timely, requirements, first_unmet, has_sources, has_partitions, has_width, has_numbers, has_rows, has_times, late_record, is_few}
-use Rattle.stream_input.specs.Watermarks.{IsOrderly}
-use Rattle.stream_input.specs.Late.{first_late, late_fault}
+use Rattle.stream_input.specs.Requirements.{is_time, is_timely, requirements, has_sources, has_partitions, has_width, has_numbers, has_rows, has_times, late_record, is_few}
+use Rattle.stream_model.specs.Watermarks.{IsOrderly}
+use Rattle.stream_model.specs.Late.{first_late}
+use Rattle.stream_input.specs.Fault.{late_fault}
 use Rattle.stream_input.specs.Answer.{if_ok, text_of_bytes, input_or_fault, input_of_bytes}
-use Rattle.stream_input.proofs.LateRecords.{orderly}
+use Rattle.stream_model.proofs.Facts.{orderly}
 use Rattle.stream_input.proofs.Tables.{passes_under}
 
 le_from : (a b : ℤ) → int_le a b ≡ true → a ≤ℤ b
@@ -80,10 +83,6 @@ partitions_are columns text (s ∷ ss) met =
     let first : length (map (map (entry_of columns)) (partitions_under s.uid text)) ≡ s.partitions = length-map (partitions_under s.uid text) (map (entry_of columns)) ∙ eqb-true _ _ parts.0 in
     rw (first, partitions_are columns text ss parts.1) refl
 
-met_first : (fault : InputFault) (b : Bool) (rest : Option InputFault) → option_or (if b then None else Some fault) rest ≡ None → (b ≡ true) × (rest ≡ None)
-met_first fault true rest h = (refl, h)
-met_first fault false rest h = absurd cc
-
 none_first : {X : Type 0} (o rest : Option X) → option_or o rest ≡ None → (o ≡ None) × (rest ≡ None)
 none_first None rest h = (refl, h)
 none_first (Some x) rest h = absurd cc
@@ -102,7 +101,7 @@ record Met (plan : PlanData) (text : InputText) : Type 0 where
   late : late_record plan text ≡ None
   few : is_few plan text ≡ true
 
-met : (plan : PlanData) (text : InputText) → first_unmet requirements plan text ≡ None → Met plan text
+met : (plan : PlanData) (text : InputText) → first_unmet (requirements plan) text ≡ None → Met plan text
 unfolding requirements
 met plan text h =
     let sources = met_first _ (has_sources plan text) _ h in
@@ -114,10 +113,6 @@ met plan text h =
     let late = none_first (late_record plan text) _ times.1 in
     let few = met_first _ (is_few plan text) _ late.1 in
     record { partitions = partitions.0; times = times.0; late = late.0; few = few.0 }
-
-no_fault : (o : Option InputFault) (said i : InputData) → option_map_or Err o (Ok said) ≡ Ok i → (o ≡ None) × (said ≡ i)
-no_fault None said i h = (refl, cc)
-no_fault (Some fault) said i h = absurd cc
 
 is_input : (plan : PlanData) (text : InputText) → Met plan text → IsInput (input_of plan text)
 is_input plan text m = record { entries = sources_sound plan text m.times; few = few_from plan text m.few }
@@ -134,7 +129,7 @@ pub record IsRead (plan : PlanData) (i : InputData) : Type 0 where
 
 sound : (plan : PlanData) (text : InputText) (i : InputData) → input_or_fault plan text ≡ Ok i → IsRead plan i
 sound plan text i h =
-    let none = no_fault (first_unmet requirements plan text) (input_of plan text) i h in
+    let none = no_fault (first_unmet (requirements plan) text) (input_of plan text) i h in
     let m = met plan text none.0 in
     let P : InputData → Type 0 = λ x. IsRead plan x in
     subst P none.1 (record { input = is_input plan text m; orderly = orderly_sources plan text m.late; belongs = belongs_to plan text m })

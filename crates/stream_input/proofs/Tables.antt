@@ -1,4 +1,4 @@
--- From drafts to tables and entries.
+-- From rows of cells to tables and entries.
 use Rattle.std.proofs.Common.{◌≡◌, ℕ, ℤ, ◌<◌, ◌≤◌, ◌==◌, ◌&&◌, nat_le, Bool, true, false, cond, map, length, get_or, List, [], ◌∷◌, Option, Some, Vec, Global, refl, sym, ap, ◌∙◌, arith}
 use Rattle.std.proofs.lemmas.Bool.{and_parts, eqb-true, leb-true}
 use Rattle.std.proofs.lemmas.List.{length-map, get_or-map}
@@ -6,19 +6,15 @@ use Rattle.std.proofs.lemmas.List.Elements.{All-weaker, All-map}
 use Rattle.std.proofs.lemmas.List.FromFn.{get_or-map-range_with_len, length-map-range_with_len}
 use Rattle.std.proofs.lemmas.List.Sums.{AllPass-from_list_all}
 use Rattle.std.specs.Prelude.{bytes_eq}
-use Rattle.std.specs.List.{All, AllPass, list_all, find, range_with_len}
+use Rattle.std.specs.List.{All, list_all, find, range_with_len}
 use Rattle.std.specs.Option.{option_map_or}
 use Rattle.plain_data.specs.Record.{Record, at, column_of}
 use Rattle.columns.specs.Table.{Table, rows_of}
 use Rattle.columns.specs.declared.TheConstants.{MOST_ROWS}
-use Rattle.columns.proofs.Columns.{rows_of-column_of}
-use Rattle.json_parts.specs.declared.list.Cell.{Cell}
-use Rattle.stream_input.specs.declared.draft.EntryDraft.{EntryDraft}
-use Rattle.stream_input.specs.Draft.{SourceDraft, row_draft_text, entry_draft_text, partition_draft_text, draft_text}
+use Rattle.columns.proofs.Facts.{rows_of-column_of}
 use Rattle.stream_input.specs.InputText.{EntryText, InputText}
 use Rattle.stream_input.specs.Said.{number_of, record_of, partitions_under}
 use Rattle.stream_input.specs.Requirements.{every_entry}
-use Rattle.stream_input.proofs.Drafts.{list_all_map, wide_rows}
 
 -- columns of which the k-th has the numbers f k
 pub count_of : (columns : List (Vec ℤ Global)) (f : ℕ → List ℤ) (width : ℕ) → map (λ c. c.items) columns ≡ map f (range_with_len 0 width) → length columns ≡ width
@@ -45,17 +41,14 @@ table_is columns records count width counted are even =
     rw (wide, are, ← counted, rows_of-column_of records width even) refl
 
 -- what the test of the width says of rows
-pub wide_all : (columns : ℕ) (rows : List (Vec Cell Global)) → list_all (λ row. length row == columns) (map row_draft_text rows) ≡ true
-    → All (λ row. length row.items ≡ columns) rows
+pub wide_all : (columns : ℕ) (rows : List (List (Option ℤ))) → list_all (λ row. length row == columns) rows ≡ true → All (λ row. length row ≡ columns) rows
 wide_all columns rows passed =
-    All-weaker (λ (row : Vec Cell Global). (length row.items == columns) ≡ true) (λ row. length row.items ≡ columns) (λ row e. eqb-true (length row.items) columns e) rows
-    (AllPass-from_list_all (λ row. length row.items == columns) rows (sym (wide_rows columns rows) ∙ passed))
+    All-weaker (λ (row : List (Option ℤ)). (length row == columns) ≡ true) (λ row. length row ≡ columns) (λ row e. eqb-true (length row) columns e) rows
+    (AllPass-from_list_all (λ row. length row == columns) rows passed)
 
 -- an entry of 1 to 4,096 rows
-pub sized_few : (rows : List (Vec Cell Global)) → (nat_le 1 (length (map row_draft_text rows)) && nat_le (length (map row_draft_text rows)) MOST_ROWS) ≡ true → length rows ≤ MOST_ROWS
-sized_few rows sized =
-    let parts = and_parts (nat_le 1 (length (map row_draft_text rows))) (nat_le (length (map row_draft_text rows)) MOST_ROWS) sized in
-    rw (length-map rows row_draft_text) at (leb-true (length (map row_draft_text rows)) MOST_ROWS parts.1)
+pub sized_few : (rows : List (List (Option ℤ))) → (nat_le 1 (length rows) && nat_le (length rows) MOST_ROWS) ≡ true → length rows ≤ MOST_ROWS
+sized_few rows sized = leb-true (length rows) MOST_ROWS (and_parts (nat_le 1 (length rows)) (nat_le (length rows) MOST_ROWS) sized).1
 
 chosen_passes : (test : EntryText → Bool) (b : Bool) (m : List ℕ × List (List EntryText)) (rest : Option (List ℕ × List (List EntryText)))
     → list_all (list_all test) m.1 ≡ true → list_all (list_all test) (option_map_or (λ o. o.1) rest []) ≡ true
@@ -70,35 +63,23 @@ passes_under test uid (m ∷ ms) passed =
     let parts = and_parts (list_all (list_all test) m.1) (every_entry test ms) passed in
     chosen_passes test (bytes_eq m.0 uid) m (find (λ o. bytes_eq o.0 uid) ms) parts.0 (passes_under test uid ms parts.1)
 
--- the same of the drafts
-pub passes_drafts : (test : EntryText → Bool) (uid : List ℕ) (sources : List SourceDraft) (partitions : List (Vec EntryDraft Global))
-    → every_entry test (draft_text sources) ≡ true → map partition_draft_text partitions ≡ partitions_under uid (draft_text sources)
-    → All (λ p. All (λ e. test (entry_draft_text e) ≡ true) p.items) partitions
-passes_drafts test uid sources partitions passed are =
-    let under : list_all (list_all test) (map partition_draft_text partitions) ≡ true = rw are (passes_under test uid (draft_text sources) passed) in
-    let each : AllPass (λ p. list_all test (partition_draft_text p)) partitions = AllPass-from_list_all (λ p. list_all test (partition_draft_text p)) partitions (sym (list_all_map (list_all test) partition_draft_text partitions) ∙ under) in
-    All-weaker (λ (p : Vec EntryDraft Global). list_all test (partition_draft_text p) ≡ true) (λ p. All (λ e. test (entry_draft_text e) ≡ true) p.items) (λ p e. AllPass-from_list_all (λ x. test (entry_draft_text x)) p.items (sym (list_all_map test entry_draft_text p.items) ∙ e)) partitions each
+-- the same of each of the partitions under a name
+pub each_passes : (test : EntryText → Bool) (uid : List ℕ) (text : InputText) → every_entry test text ≡ true → All (λ p. All (λ e. test e ≡ true) p) (partitions_under uid text)
+each_passes test uid text passed =
+    All-weaker (λ (p : List EntryText). list_all test p ≡ true) (λ p. All (λ e. test e ≡ true) p) (λ p e. AllPass-from_list_all test p e) (partitions_under uid text)
+    (AllPass-from_list_all (list_all test) (partitions_under uid text) (passes_under test uid text passed))
 
--- the records of rows of cells
-abbrev records : List (Vec Cell Global) → List Record
-records rows = map record_of (map row_draft_text rows)
-
-length_records : (rows : List (Vec Cell Global)) → length (records rows) ≡ length rows
-length_records rows = length-map (map row_draft_text rows) record_of ∙ length-map rows row_draft_text
-
-even_records : (rows : List (Vec Cell Global)) (width : ℕ) → All (λ row. length row.items ≡ width) rows → All (λ r. length r ≡ width) (records rows)
+even_records : (rows : List (List (Option ℤ))) (width : ℕ) → All (λ row. length row ≡ width) rows → All (λ r. length r ≡ width) (map record_of rows)
 even_records rows width even =
-    All-map (λ (r : Record). length r ≡ width) record_of (map row_draft_text rows)
-    (All-map (λ (row : List (Option ℤ)). length (record_of row) ≡ width) row_draft_text rows
-    (All-weaker (λ (row : Vec Cell Global). length row.items ≡ width) (λ row. length (record_of (row_draft_text row)) ≡ width)
-    (λ row e. length-map (row_draft_text row) number_of ∙ length-map row.items (λ (c : Cell). c.0) ∙ e) rows even))
+    All-map (λ (r : Record). length r ≡ width) record_of rows
+    (All-weaker (λ (row : List (Option ℤ)). length row ≡ width) (λ row. length (record_of row) ≡ width) (λ row e. length-map row number_of ∙ e) rows even)
 
 -- columns of the records of rows are as long as there are rows, and their table is that of the records
-pub columns_long : (columns : List (Vec ℤ Global)) (rows : List (Vec Cell Global)) (width : ℕ)
-    → map (λ c. c.items) columns ≡ map (λ c. column_of c (map record_of (map row_draft_text rows))) (range_with_len 0 width) → All (λ column. length column.items ≡ length rows) columns
-columns_long columns rows width are = λ k d h. (columns_are columns (records rows) width are).1 k d h ∙ length_records rows
+pub columns_long : (columns : List (Vec ℤ Global)) (rows : List (List (Option ℤ))) (width : ℕ)
+    → map (λ c. c.items) columns ≡ map (λ c. column_of c (map record_of rows)) (range_with_len 0 width) → All (λ column. length column.items ≡ length rows) columns
+columns_long columns rows width are = λ k d h. (columns_are columns (map record_of rows) width are).1 k d h ∙ length-map rows record_of
 
-pub batch_is : (columns : List (Vec ℤ Global)) (rows : List (Vec Cell Global)) (width : ℕ)
-    → map (λ c. c.items) columns ≡ map (λ c. column_of c (map record_of (map row_draft_text rows))) (range_with_len 0 width) → All (λ row. length row.items ≡ width) rows
-    → ◌≡◌ {A = Table} (record { width = length columns; rows = rows_of (map (λ c. c.items) columns) (length rows) }) (record { width = width; rows = map record_of (map row_draft_text rows) })
-batch_is columns rows width are even = table_is columns (records rows) (length rows) width (length_records rows) are (even_records rows width even)
+pub batch_is : (columns : List (Vec ℤ Global)) (rows : List (List (Option ℤ))) (width : ℕ)
+    → map (λ c. c.items) columns ≡ map (λ c. column_of c (map record_of rows)) (range_with_len 0 width) → All (λ row. length row ≡ width) rows
+    → ◌≡◌ {A = Table} (record { width = length columns; rows = rows_of (map (λ c. c.items) columns) (length rows) }) (record { width = width; rows = map record_of rows })
+batch_is columns rows width are even = table_is columns (map record_of rows) (length rows) width (length-map rows record_of) are (even_records rows width even)

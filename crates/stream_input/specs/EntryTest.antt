@@ -1,7 +1,7 @@
--- What the tests of an entry in `src/check.rt` ask.
+-- What the tests of an entry in `src/requirements.rt` ask.
 use Rattle.std.specs.Prelude.{Bool}
-use Rattle.stream_input.specs.declared.check.EntryTest.{EntryTest}
-use Rattle.stream_input.specs.declared.check.EntryTest.TheVariants.{Width, Number, Rows, TimeRange}
+use Rattle.stream_input.specs.declared.requirements.EntryTest.{EntryTest}
+use Rattle.stream_input.specs.declared.requirements.EntryTest.TheVariants.{Width, Number, Rows, TimeRange}
 use Rattle.stream_input.specs.InputText.{EntryText}
 use Rattle.stream_input.specs.Requirements.{is_wide, is_whole, is_sized, is_timely}
 

@@ -5,8 +5,8 @@ use Rattle.std.specs.Option.{option_map, option_and_then}
 use Rattle.serde_json.specs.Data.{Data, Members}
 use Rattle.json_parts.specs.Parts.{list_text}
 use Rattle.json_parts.specs.Members.{each_member}
-use Rattle.logical_plan.specs.PlanData.{PlanData}
-use Rattle.stream_input.specs.declared.entry.Entry.{Entry}
+use Rattle.plan_model.specs.PlanData.{PlanData}
+use Rattle.stream_model.specs.declared.entry.Entry.{Entry}
 use Rattle.stream_input.specs.InputText.{EntryText, entry_text, InputText}
 use Rattle.stream_input.specs.Said.{entry_of, sources_of}
 use Rattle.stream_input.specs.Requirements.{is_wide, is_whole, is_sized, is_timely, every_entry, has_sources, has_partitions, has_width, has_numbers, has_rows, has_times}

@@ -1,14 +1,11 @@
 -- What a JSON value says as an input. None: a part is missing, unknown or of another form.
-use Rattle.std.specs.Prelude.{ℕ, ℤ, List, [], ◌∷◌, Option, Some, None, codes, if◌then◌else◌}
+use Rattle.std.specs.Prelude.{ℕ, List, [], ◌∷◌, Option, Some, None, codes, if◌then◌else◌}
 use Rattle.serde_json.specs.Data.{Data}
 use Rattle.serde_json.specs.Find.{get}
 use Rattle.json_parts.specs.Parts.{◌>>=◌, whole, each_at, list_text, cell_text, has_only}
 use Rattle.json_parts.specs.Members.{members_text}
-
--- rows of cells, or a watermark. None stands where the text has no whole number
-pub data EntryText : Type 0 where
-  rows : List (List (Option ℤ)) → EntryText
-  watermark : Option ℤ → EntryText
+pub use Rattle.stream_input.specs.declared.text.EntryText.{EntryText}
+pub use Rattle.stream_input.specs.declared.text.EntryText.TheVariants.{Rows as rows, Watermark as watermark}
 
 -- the name of each member of the object, and its partitions
 abbrev pub InputText : Type 0

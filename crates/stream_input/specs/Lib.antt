@@ -1,13 +1,6 @@
-pub mod InputData
-pub mod Watermarks
-pub mod PlanRows
-pub mod Text
-pub mod Laws
 pub mod InputText
-pub mod Draft
 pub mod Said
 pub mod Fault
-pub mod Late
 pub mod Requirements
 pub mod EntryTest
 pub mod Answer

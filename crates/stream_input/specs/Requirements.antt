@@ -1,15 +1,17 @@
 -- What an input must meet, and the fault where it does not, in the order in which they are decided.
-use Rattle.std.specs.Prelude.{ℕ, ◌^◌, ℤ, pos, neg_ℤ, int_le, int_lt, Bool, true, ◌&&◌, ◌==◌, nat_le, List, [], ◌∷◌, length, Option, Some, None, is_some, if◌then◌else◌, bytes_eq}
+use Rattle.std.specs.Prelude.{ℕ, ◌^◌, ℤ, pos, neg_ℤ, int_le, int_lt, Bool, true, ◌&&◌, ◌==◌, nat_le, List, [], ◌∷◌, length, Option, is_some, bytes_eq}
 use Rattle.std.specs.List.{list_all, list_any}
-use Rattle.std.specs.Option.{option_or, option_map}
+use Rattle.std.specs.Option.{option_map}
+use Rattle.json_parts.specs.Answer.{otherwise}
 use Rattle.plain_data.specs.Record.{at}
 use Rattle.columns.specs.declared.TheConstants.{MOST_ROWS}
-use Rattle.logical_plan.specs.PlanData.{PlanData}
+use Rattle.plan_model.specs.PlanData.{PlanData}
 use Rattle.stream_input.specs.declared.fault.InputFault.{InputFault}
 use Rattle.stream_input.specs.declared.fault.InputFault.TheVariants.{Source, Partitions, Width, Number, Rows, TimeRange, TooMany}
-use Rattle.stream_input.specs.InputData.{all_records}
+use Rattle.stream_model.specs.InputData.{all_records}
 use Rattle.stream_input.specs.InputText.{EntryText, rows, watermark, InputText}
-use Rattle.stream_input.specs.Late.{late_fault, first_late}
+use Rattle.stream_model.specs.Late.{first_late}
+use Rattle.stream_input.specs.Fault.{late_fault}
 use Rattle.stream_input.specs.Said.{number_of, record_of, partitions_under, sources_of}
 
 -- each member names a source of the plan, and each source of the plan has a member
@@ -60,25 +62,13 @@ has_rows plan text = every_entry is_sized text
 unfoldable pub has_times : PlanData → InputText → Bool
 has_times plan text = every_entry (is_timely plan.window.time) text
 
--- the fault of a text that does not meet the requirement
-abbrev pub Requirement : Type 0
-Requirement = PlanData → InputText → Option InputFault
-
 -- no record comes too late; the fault is that of the first that does
-unfoldable pub late_record : Requirement
+unfoldable pub late_record : PlanData → InputText → Option InputFault
 late_record plan text = option_map late_fault (first_late plan.window.time (sources_of plan text))
 
 -- at most 2^40 records
 unfoldable pub is_few : PlanData → InputText → Bool
 is_few plan text = nat_le (length (all_records (sources_of plan text))) (2 ^ 40)
 
-abbrev pub otherwise : InputFault → (PlanData → InputText → Bool) → Requirement
-otherwise fault met plan text = if met plan text then None else Some fault
-
-unfoldable pub requirements : List Requirement
-requirements = otherwise Source has_sources ∷ otherwise Partitions has_partitions ∷ otherwise Width has_width ∷ otherwise Number has_numbers ∷ otherwise Rows has_rows ∷ otherwise TimeRange has_times ∷ late_record ∷ otherwise TooMany is_few ∷ []
-
--- the fault of the first requirement that is not met
-abbrev pub first_unmet : List Requirement → PlanData → InputText → Option InputFault
-first_unmet [] plan text = None
-first_unmet (r ∷ rs) plan text = option_or (r plan text) (first_unmet rs plan text)
+unfoldable pub requirements : PlanData → List (InputText → Option InputFault)
+requirements plan = otherwise Source (has_sources plan) ∷ otherwise Partitions (has_partitions plan) ∷ otherwise Width (has_width plan) ∷ otherwise Number (has_numbers plan) ∷ otherwise Rows (has_rows plan) ∷ otherwise TimeRange (has_times plan) ∷ late_record plan ∷ otherwise TooMany (is_few plan) ∷ []

@@ -3,10 +3,10 @@ use Rattle.std.specs.Prelude.{ℕ, ℤ, pos, List, [], map, Option, unwrap_or, b
 use Rattle.std.specs.Option.{option_map_or}
 use Rattle.std.specs.List.{find}
 use Rattle.plain_data.specs.Record.{Record}
-use Rattle.logical_plan.specs.PlanData.{PlanData}
-use Rattle.stream_input.specs.declared.entry.Entry.{Entry}
-use Rattle.stream_input.specs.declared.entry.Entry.TheVariants.{Rows, Watermark}
-use Rattle.stream_input.specs.InputData.{InputData, input_data_of}
+use Rattle.plan_model.specs.PlanData.{PlanData}
+use Rattle.stream_model.specs.declared.entry.Entry.{Entry}
+use Rattle.stream_model.specs.declared.entry.Entry.TheVariants.{Rows, Watermark}
+use Rattle.stream_model.specs.InputData.{InputData, input_data_of}
 use Rattle.stream_input.specs.InputText.{EntryText, rows, watermark, InputText}
 
 -- the number of a cell, where it has one

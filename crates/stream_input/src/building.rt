@@ -5,38 +5,38 @@ ghost use Rattle.std.specs.List.{All, range_with_len};
 ghost use Rattle.plain_data.specs.Record.{column_of as column_in};
 ghost use Rattle.columns.specs.Table.{IsWidth};
 ghost use Rattle.columns.specs.declared.TheConstants.{MOST_ROWS};
-ghost use Rattle.stream_input.specs.Draft.{row_draft_text, entry_draft_text, partition_draft_text, draft_text};
-ghost use Rattle.stream_input.specs.Said.{record_of, entry_of as entry_said, sources_of as sources_said};
+ghost use Rattle.stream_input.specs.Said as said;
 ghost use Rattle.stream_input.specs.Requirements.{is_wide, is_sized, has_width, has_rows};
 
-use crate::check::{number_at, number_of};
-use crate::draft::{EntryDraft, SourceDraft};
-use crate::entry::Entry;
-use crate::input::{Partition, Source};
-use crate::sources::partitions_of;
+use crate::requirements::{number_at, number_of, partitions_of};
+use crate::text::{EntryText, SourceText};
 use columns::Batch;
-use json_parts::Cell;
 use logical_plan::Plan;
 use plain_data::Items;
 use std::alloc::{AllocError, Global};
+use stream_model::{Entry, Partition, Source};
 
-fn column_of(alloc: Global, rows: &[Vec<Cell>], column: usize) -> Result<Vec<i64>, AllocError>
-    ensures { IfOk result (λ found. found.items ≡ column_in column (map record_of (map row_draft_text rows.now))) }
+fn column_of(
+    alloc: Global,
+    rows: &[Items<Option<i64>>],
+    column: usize,
+) -> Result<Vec<i64>, AllocError>
+    ensures { IfOk result (λ found. found.items ≡ column_in column (map said.record_of rows.now)) }
 {
     let mut numbers = Vec::new(alloc);
     for row in rows {
-        numbers.push(number_at(row, column))?;
+        numbers.push(number_at(row.as_slice(), column))?;
     }
     Ok(numbers)
 }
 
 fn columns_of(
     alloc: Global,
-    rows: &[Vec<Cell>],
+    rows: &[Items<Option<i64>>],
     columns: usize,
 ) -> Result<Vec<Vec<i64>>, AllocError>
     ensures { IfOk result (λ found. map (λ c. c.items) found.items
-        ≡ map (λ c. column_in c (map record_of (map row_draft_text rows.now))) (range_with_len 0 columns)) }
+        ≡ map (λ c. column_in c (map said.record_of rows.now)) (range_with_len 0 columns)) }
 {
     let mut found = Vec::new(alloc);
     for column in 0..columns {
@@ -45,41 +45,37 @@ fn columns_of(
     Ok(found)
 }
 
-fn batch_of(alloc: Global, columns: usize, rows: &[Vec<Cell>]) -> Result<Batch, AllocError>
+fn batch_of(alloc: Global, columns: usize, rows: &[Items<Option<i64>>]) -> Result<Batch, AllocError>
     requires width { IsWidth columns }
-    requires wide { All (λ row. length row.items ≡ columns) rows.now }
+    requires wide { All (λ row. length row ≡ columns) rows.now }
     requires few { length rows.now ≤ MOST_ROWS }
-    ensures { IfOk result (λ batch. batch ≡ record { width = columns; rows = map record_of (map row_draft_text rows.now) }) }
+    ensures { IfOk result (λ batch. batch ≡ record { width = columns; rows = map said.record_of rows.now }) }
 {
     let found = columns_of(alloc, rows, columns)?;
     Ok(Batch::from_columns(found, rows.len()))
 }
 
-fn entry_of(alloc: Global, columns: usize, draft: &EntryDraft) -> Result<Entry, AllocError>
+fn entry_of(alloc: Global, columns: usize, text: &EntryText) -> Result<Entry, AllocError>
     requires width { IsWidth columns }
-    requires wide { is_wide columns (entry_draft_text draft.now) ≡ true }
-    requires sized { is_sized (entry_draft_text draft.now) ≡ true }
-    ensures { IfOk result (λ entry. entry ≡ entry_said columns (entry_draft_text draft.now)) }
+    requires wide { is_wide columns text.now ≡ true }
+    requires sized { is_sized text.now ≡ true }
+    ensures { IfOk result (λ entry. entry ≡ said.entry_of columns text.now) }
 {
-    match draft {
-        EntryDraft::Rows(rows) => Ok(Entry::Rows(batch_of(alloc, columns, rows)?)),
-        EntryDraft::Watermark(time) => Ok(Entry::Watermark(number_of(*time))),
+    match text {
+        EntryText::Rows(rows) => Ok(Entry::Rows(batch_of(alloc, columns, rows.as_slice())?)),
+        EntryText::Watermark(time) => Ok(Entry::Watermark(number_of(*time))),
     }
 }
 
-fn partition_of(
-    alloc: Global,
-    columns: usize,
-    drafts: &[EntryDraft],
-) -> Result<Partition, AllocError>
+fn partition_of(alloc: Global, columns: usize, texts: &[EntryText]) -> Result<Partition, AllocError>
     requires width { IsWidth columns }
-    requires wide { All (λ e. is_wide columns (entry_draft_text e) ≡ true) drafts.now }
-    requires sized { All (λ e. is_sized (entry_draft_text e) ≡ true) drafts.now }
-    ensures { IfOk result (λ found. found ≡ map (entry_said columns) (map entry_draft_text drafts.now)) }
+    requires wide { All (λ e. is_wide columns e ≡ true) texts.now }
+    requires sized { All (λ e. is_sized e ≡ true) texts.now }
+    ensures { IfOk result (λ found. found ≡ map (said.entry_of columns) texts.now) }
 {
     let mut entries = Vec::new(alloc);
-    for draft in drafts {
-        entries.push(entry_of(alloc, columns, draft)?)?;
+    for text in texts {
+        entries.push(entry_of(alloc, columns, text)?)?;
     }
     Ok(Items::from_vec(entries))
 }
@@ -87,16 +83,16 @@ fn partition_of(
 fn source_of(
     alloc: Global,
     columns: usize,
-    drafts: &[Vec<EntryDraft>],
+    texts: &[Items<EntryText>],
 ) -> Result<Source, AllocError>
     requires width { IsWidth columns }
-    requires wide { All (λ p. All (λ e. is_wide columns (entry_draft_text e) ≡ true) p.items) drafts.now }
-    requires sized { All (λ p. All (λ e. is_sized (entry_draft_text e) ≡ true) p.items) drafts.now }
-    ensures { IfOk result (λ found. found ≡ map (map (entry_said columns)) (map partition_draft_text drafts.now)) }
+    requires wide { All (λ p. All (λ e. is_wide columns e ≡ true) p) texts.now }
+    requires sized { All (λ p. All (λ e. is_sized e ≡ true) p) texts.now }
+    ensures { IfOk result (λ found. found ≡ map (map (said.entry_of columns)) texts.now) }
 {
     let mut partitions = Vec::new(alloc);
-    for draft in drafts {
-        partitions.push(partition_of(alloc, columns, draft)?)?;
+    for text in texts {
+        partitions.push(partition_of(alloc, columns, text.as_slice())?)?;
     }
     Ok(Items::from_vec(partitions))
 }
@@ -105,16 +101,16 @@ fn source_of(
 pub fn sources_of(
     alloc: Global,
     plan: &Plan,
-    drafts: &[SourceDraft],
+    text: &[SourceText],
 ) -> Result<Items<Source>, AllocError>
-    requires wide { has_width plan.now (draft_text drafts.now) ≡ true }
-    requires sized { has_rows plan.now (draft_text drafts.now) ≡ true }
-    ensures { IfOk result (λ found. found ≡ sources_said plan.now (draft_text drafts.now)) }
+    requires wide { has_width plan.now text.now ≡ true }
+    requires sized { has_rows plan.now text.now ≡ true }
+    ensures { IfOk result (λ found. found ≡ said.sources_of plan.now text.now) }
 {
     let columns = plan.columns() as usize;
     let mut sources = Vec::new(alloc);
     for spec in plan.sources() {
-        let partitions = partitions_of(drafts, spec.uid.as_str());
+        let partitions = partitions_of(text, spec.uid.as_str());
         sources.push(source_of(alloc, columns, partitions)?)?;
     }
     Ok(Items::from_vec(sources))

@@ -8,9 +8,9 @@ ghost use Rattle.stream_input.specs.Fit.{column_in_cells, if_fit};
 ghost use Rattle.stream_input.specs.InputText.{rows};
 ghost use Rattle.stream_input.specs.Said.{record_of};
 ghost use Rattle.stream_input.specs.Requirements.{is_wide, is_whole};
-ghost use Rattle.stream_input.specs.declared.entry.Entry.TheVariants.{Rows};
+ghost use Rattle.stream_model.specs.declared.entry.Entry.TheVariants.{Rows};
 
-use crate::check::are_times;
+use crate::requirements::are_times;
 use columns::{Batch, MOST_ROWS};
 use json_tokens::Miss;
 use std::alloc::{AllocError, Global};

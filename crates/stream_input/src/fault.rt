@@ -1,3 +1,5 @@
+//! Why an input is refused.
+
 ghost use Rattle.std.specs.Prelude.{◌≡◌};
 ghost use Rattle.stream_input.specs.declared.fault.InputFault.TheVariants.{Memory};
 ghost use Rattle.stream_input.specs.Fault.{fault_of_part};

@@ -1,22 +1,15 @@
 ghost use Rattle.std.specs.Prelude.{IfOk, [], ◌≡◌, ◌<◌, ◌≤◌, length, option_copied, slice_get, slice_index_or};
-ghost use Rattle.stream_input.specs.InputData.{IsInput, BelongsTo, partition_at};
-ghost use Rattle.stream_input.specs.Watermarks.{IsOrderly, partition_watermark};
-ghost use Rattle.stream_input.specs.Answer.{Gives, input_of_bytes};
+ghost use Rattle.stream_model.specs.InputData.{IsInput, BelongsTo, partition_at};
+ghost use Rattle.stream_model.specs.Watermarks.{IsOrderly, partition_watermark};
+ghost use Rattle.stream_input.specs.Answer.{Gives, is_memory, input_of_bytes};
 
-use crate::entry::Entry;
 use crate::fault::InputFault;
-use crate::late::greatest_watermark;
 use crate::reading::sources_read;
 use logical_plan::Plan;
 use plain_data::Items;
 use std::alloc::Global;
 use std::marker::Model;
-
-/// The entries of one partition.
-pub type Partition = Items<Entry>;
-
-/// The partitions of one source.
-pub type Source = Items<Partition>;
+use stream_model::{Entry, Source, greatest_watermark};
 
 /// An input that meets every requirement of its format: for each source, in the order of its plan, its
 /// partitions.
@@ -28,8 +21,8 @@ pub struct Input {
 }
 
 impl Model for Input {
-    ghost use Rattle.stream_input.specs.InputData.{InputData, IsInput, input_data_of};
-    ghost use Rattle.stream_input.specs.Watermarks.{IsOrderly};
+    ghost use Rattle.stream_model.specs.InputData.{InputData, IsInput, input_data_of};
+    ghost use Rattle.stream_model.specs.Watermarks.{IsOrderly};
 
     ghost Value = { InputData };
 
@@ -45,7 +38,7 @@ impl Input {
     ///
     /// The first fault in the order of [`InputFault`], each over the whole document before the next.
     pub fn read(alloc: Global, plan: &Plan, bytes: &[u8]) -> Result<Input, InputFault>
-        ensures reads { Gives (λ i. i) result (input_of_bytes plan.now bytes.now) }
+        ensures reads { Gives is_memory (λ i. i) result (input_of_bytes plan.now bytes.now) }
         ensures belongs { IfOk result (λ i. BelongsTo plan.now i) }
     {
         let sources = sources_read(alloc, plan, bytes)?;

@@ -6,26 +6,20 @@
 //! `specs/Requirements`.
 //!
 //! `tokens` reads a text that meets it in one pass, straight into batches. Any other goes through
-//! `draft`, `check` and `building`, which tell the fault.
+//! `text`, `requirements` and `building`, which tell the fault.
 #![tactic(auto)]
 
 mod building;
 mod cells;
-mod check;
-mod count;
-mod draft;
-mod entry;
 mod fault;
 mod input;
-mod late;
-pub mod laws;
 mod reading;
-mod sources;
+mod requirements;
+mod text;
 mod tokens;
 
-pub use entry::Entry;
 pub use fault::InputFault;
-pub use input::{Input, Partition, Source};
+pub use input::Input;
 
 #[cfg(test)]
 mod tests;

@@ -2,30 +2,26 @@
 
 ghost use Rattle.std.specs.Prelude.{◌≡◌, option_and_then, IfOk, IfErr};
 ghost use Rattle.json_parts.specs.Parts.{json_of};
-ghost use Rattle.stream_input.specs.InputData.{input_data_of};
+ghost use Rattle.stream_model.specs.InputData.{input_data_of};
 ghost use Rattle.stream_input.specs.InputText.{InputText, input_text};
-ghost use Rattle.stream_input.specs.Draft.{draft_text};
 ghost use Rattle.stream_input.specs.Fit.{AreOf, IsRead};
-ghost use Rattle.stream_input.specs.Answer.{Gives, text_of_bytes, input_or_fault, input_of_bytes};
+ghost use Rattle.stream_input.specs.Answer.{Gives, is_memory, text_of_bytes, input_or_fault, input_of_bytes};
 
 use crate::building::sources_of;
-use crate::check;
-use crate::count::is_few;
-use crate::draft::{SourceDraft, draft_of};
 use crate::fault::InputFault;
-use crate::input::Source;
-use crate::late::first_late;
-use crate::sources::{has_partitions, has_sources};
+use crate::requirements;
+use crate::text::{SourceText, text_of_input};
 use crate::tokens::sources_in;
 use json_parts::{PartError, value_of};
 use json_tokens::Miss;
 use logical_plan::Plan;
 use plain_data::Items;
 use std::alloc::Global;
+use stream_model::{Source, first_late, is_few};
 
 /// The partitions of each source, in the order of the plan, that the bytes say.
 pub fn sources_read(alloc: Global, plan: &Plan, bytes: &[u8]) -> Result<Items<Source>, InputFault>
-    ensures { Gives (λ sources. input_data_of plan.now.columns plan.now.window.time sources) result (input_of_bytes plan.now bytes.now) }
+    ensures { Gives is_memory (λ sources. input_data_of plan.now.columns plan.now.window.time sources) result (input_of_bytes plan.now bytes.now) }
 {
     let quick = read_by_tokens(alloc, plan, bytes);
     sources_after(alloc, plan, bytes, quick)
@@ -42,14 +38,14 @@ fn sources_after(
 ) -> Result<Items<Source>, InputFault>
     requires { IfOk quick (λ sources. IsRead plan.now (option_and_then input_text (json_of bytes.now)) sources) }
     ensures ends { IfErr quick (λ miss. miss ≡ Miss.Memory → result ≡ Err InputFault.Memory) }
-    ensures reads { Gives (λ sources. input_data_of plan.now.columns plan.now.window.time sources) result (input_of_bytes plan.now bytes.now) }
+    ensures reads { Gives is_memory (λ sources. input_data_of plan.now.columns plan.now.window.time sources) result (input_of_bytes plan.now bytes.now) }
 {
     match quick {
         Ok(sources) => orderly(plan, sources),
         Err(Miss::Memory) => Err(InputFault::Memory),
         Err(Miss::Other) => {
-            let drafts = drafts_of(alloc, bytes)?;
-            sources_from(alloc, plan, &drafts)
+            let text = text_of(alloc, bytes)?;
+            sources_from(alloc, plan, text.as_slice())
         }
     }
 }
@@ -67,11 +63,11 @@ fn read_by_tokens(alloc: Global, plan: &Plan, bytes: &[u8]) -> Result<Items<Sour
 
 /// What the bytes say.
 #[tactic(auto, unfolding(crate::specs::Answer::text_of_bytes))]
-fn drafts_of(alloc: Global, bytes: &[u8]) -> Result<Vec<SourceDraft>, InputFault>
-    ensures { Gives (λ v. draft_text v.items) result (text_of_bytes bytes.now) }
+fn text_of(alloc: Global, bytes: &[u8]) -> Result<Items<SourceText>, InputFault>
+    ensures { Gives is_memory (λ text. text) result (text_of_bytes bytes.now) }
 {
     match value_of(alloc, bytes) {
-        Ok(value) => Ok(draft_of(alloc, &value)?),
+        Ok(value) => Ok(text_of_input(alloc, &value)?),
         Err(PartError::Form) => Err(InputFault::NotJson),
         Err(PartError::Memory) => Err(InputFault::Memory),
     }
@@ -82,29 +78,29 @@ fn drafts_of(alloc: Global, bytes: &[u8]) -> Result<Vec<SourceDraft>, InputFault
 fn sources_from(
     alloc: Global,
     plan: &Plan,
-    drafts: &[SourceDraft],
+    text: &[SourceText],
 ) -> Result<Items<Source>, InputFault>
-    ensures { Gives (λ sources. input_data_of plan.now.columns plan.now.window.time sources) result (input_or_fault plan.now (draft_text drafts.now)) }
+    ensures { Gives is_memory (λ sources. input_data_of plan.now.columns plan.now.window.time sources) result (input_or_fault plan.now text.now) }
 {
-    if !has_sources(plan, drafts) {
+    if !requirements::has_sources(plan, text) {
         return Err(InputFault::Source);
     }
-    if !has_partitions(plan, drafts) {
+    if !requirements::has_partitions(plan, text) {
         return Err(InputFault::Partitions);
     }
-    if !check::has_width(plan, drafts) {
+    if !requirements::has_width(plan, text) {
         return Err(InputFault::Width);
     }
-    if !check::has_numbers(plan, drafts) {
+    if !requirements::has_numbers(plan, text) {
         return Err(InputFault::Number);
     }
-    if !check::has_rows(plan, drafts) {
+    if !requirements::has_rows(plan, text) {
         return Err(InputFault::Rows);
     }
-    if !check::has_times(plan, drafts) {
+    if !requirements::has_times(plan, text) {
         return Err(InputFault::TimeRange);
     }
-    let sources = sources_of(alloc, plan, drafts)?;
+    let sources = sources_of(alloc, plan, text)?;
     orderly(plan, sources)
 }
 
@@ -112,7 +108,7 @@ fn sources_from(
 fn orderly(plan: &Plan, sources: Items<Source>) -> Result<Items<Source>, InputFault>
     requires { (text : InputText) × AreOf plan.now sources text }
     ensures { (text : InputText) → AreOf plan.now sources text
-        → Gives (λ found. input_data_of plan.now.columns plan.now.window.time found) result (input_or_fault plan.now text) }
+        → Gives is_memory (λ found. input_data_of plan.now.columns plan.now.window.time found) result (input_or_fault plan.now text) }
 {
     let columns = plan.columns() as usize;
     let time = plan.window().time as usize;

@@ -1,9 +1,10 @@
 use crate::tokens::sources_in;
-use crate::{Entry, Input, InputFault};
+use crate::{Input, InputFault};
 use columns::Batch;
 use logical_plan::Plan;
 use std::alloc::{AllocError, Global};
 use std::test::Fail;
+use stream_model::Entry;
 
 const PLAN: &str =
     r#"{"columns":3,"maxParallelism":128,"time":0,"key":1,"sources":[{"uid":"s","partitions":2}],"window":{"uid":"w","size":10,"slide":10,"offset":0,"aggregates":[{"fn":"count"},{"fn":"sum","column":2}]}}"#;
@@ -19,32 +20,38 @@ fn input_of(rt: &impl AllocGlobal, plan: &str, text: &str) -> Result<Input, Fail
     Ok(Input::read(rt.alloc(), &plan, text.as_bytes())?)
 }
 
-/// The numbers, column by column, as one number of two digits for each.
-fn digits_of(batch: &Batch) -> i64 {
-    let mut digits = 0_i64;
-    for column in 0..batch.width() {
-        for number in batch.column(column) {
-            digits = digits.wrapping_mul(100).wrapping_add(*number);
+/// The rows of a batch.
+fn rows_of(alloc: Global, batch: &Batch) -> Result<Vec<Vec<i64>>, AllocError> {
+    let mut rows = Vec::new(alloc);
+    for row in 0..batch.len() {
+        let mut numbers = Vec::new(alloc);
+        for column in 0..batch.width() {
+            numbers.push(batch.value(row, column))?;
         }
+        rows.push(numbers)?;
     }
-    digits
+    Ok(rows)
 }
 
-/// How many rows an entry has, and its numbers.
-fn seen(entry: &Entry) -> (usize, i64) {
+/// An entry in the text of `{:?}`.
+fn seen(alloc: Global, entry: &Entry) -> Result<String, AllocError> {
     match entry {
-        Entry::Rows(batch) => (batch.len(), digits_of(batch)),
-        Entry::Watermark(time) => (0, *time),
+        Entry::Rows(batch) => {
+            let rows = rows_of(alloc, batch)?;
+            format!(in alloc; "{rows:?}")
+        }
+        Entry::Watermark(time) => format!(in alloc; "{time}"),
     }
 }
 
-/// The same of each entry, in order.
-fn all_seen(alloc: Global, input: &Input) -> Result<Vec<(usize, i64)>, AllocError> {
-    let mut found = Vec::new(alloc);
+/// All entries in order, with a space after each.
+fn all_seen(alloc: Global, input: &Input) -> Result<String, AllocError> {
+    let mut found = String::new(alloc);
     for source in input.sources() {
         for partition in source.as_slice() {
             for entry in partition.as_slice() {
-                found.push(seen(entry))?;
+                found.push_str(seen(alloc, entry)?.as_str())?;
+                found.push_str(" ")?;
             }
         }
     }
@@ -54,15 +61,10 @@ fn all_seen(alloc: Global, input: &Input) -> Result<Vec<(usize, i64)>, AllocErro
 #[test]
 fn entries(rt: HostRuntime) -> Result<(), Fail> {
     let input = input_of(&rt, PLAN, INPUT)?;
-    let want = [
-        (2, 11201010507),
-        (0, 9),
-        (1, 149997),
-        (1, 30004),
-        (0, 11),
-        (1, 130102),
-    ];
-    assert_eq!(rt; all_seen(rt.alloc(), &input)?.as_slice(), want.as_slice());
+    assert_eq!(rt;
+        all_seen(rt.alloc(), &input)?.as_str(),
+        "[[1, 1, 5], [12, 1, 7]] 9 [[15, 0, -3]] [[3, 0, 4]] 11 [[13, 1, 2]] "
+    );
     Ok(())
 }
 
@@ -70,10 +72,7 @@ fn entries(rt: HostRuntime) -> Result<(), Fail> {
 fn sources_in_the_order_of_the_plan(rt: HostRuntime) -> Result<(), Fail> {
     let text = r#"{"a":[[{"watermark":7}]],"s":[[{"rows":[[1,2,3]]}]]}"#;
     let input = input_of(&rt, PAIR, text)?;
-    assert_eq!(rt;
-        all_seen(rt.alloc(), &input)?.as_slice(),
-        [(1, 10203), (0, 7)].as_slice()
-    );
+    assert_eq!(rt; all_seen(rt.alloc(), &input)?.as_str(), "[[1, 2, 3]] 7 ");
     Ok(())
 }
 
@@ -84,20 +83,21 @@ fn the_last_of_members_with_one_name(rt: HostRuntime) -> Result<(), Fail> {
         r#"{"s":7,"s":[[{"watermark":8}],[]]}"#,
     ] {
         let input = input_of(&rt, PLAN, text)?;
-        assert_eq!(rt;
-            all_seen(rt.alloc(), &input)?.as_slice(),
-            [(0, 8)].as_slice()
-        );
+        assert_eq!(rt; all_seen(rt.alloc(), &input)?.as_str(), "8 ");
     }
     Ok(())
 }
 
-fn seen_at(input: &Input, n: u64) -> Option<(usize, i64)> {
+/// How many rows entry n of the second partition has, none where it is a watermark.
+fn count_at(input: &Input, n: u64) -> Option<usize> {
     let sources = input.sources();
     if sources.len() != 1 || sources[0].len() != 2 {
         return None;
     }
-    input.entry(0, 1, n).map(seen)
+    match input.entry(0, 1, n)? {
+        Entry::Rows(batch) => Some(batch.len()),
+        Entry::Watermark(_) => Some(0),
+    }
 }
 
 fn watermark(input: &Input, n: u64) -> Option<i64> {
@@ -111,8 +111,9 @@ fn watermark(input: &Input, n: u64) -> Option<i64> {
 #[test]
 fn places_in_a_partition(rt: HostRuntime) -> Result<(), Fail> {
     let input = input_of(&rt, PLAN, INPUT)?;
-    assert_eq!(rt; seen_at(&input, 1), Some((0, 11)));
-    assert_eq!(rt; seen_at(&input, 3), None);
+    assert_eq!(rt; count_at(&input, 1), Some(0));
+    assert_eq!(rt; count_at(&input, 2), Some(1));
+    assert_eq!(rt; count_at(&input, 3), None);
     for (n, want) in [
         (1, Some(i64::MIN)),
         (2, Some(11)),

@@ -13,16 +13,16 @@ ghost use Rattle.stream_input.specs.InputText.{input_text};
 ghost use Rattle.stream_input.specs.Fit.{fit_entry, IsSlots, IsRead};
 
 use crate::cells::batch_at;
-use crate::check::is_time;
-use crate::entry::Entry;
-use crate::input::{Partition, Source};
+use crate::requirements::is_time;
 use json::{Reader, Scratch};
 use json_tokens::{
     Miss, close_object, end, next_key, next_name, next_rows, next_whole, open_list, open_object,
 };
-use logical_plan::{Plan, SourceSpec};
+use logical_plan::Plan;
 use plain_data::Items;
+use plan_model::SourceSpec;
 use std::alloc::Global;
+use stream_model::{Entry, Partition, Source};
 
 /// The deepest that lists and objects nest in a text.
 const MOST_DEPTH: usize = 127;

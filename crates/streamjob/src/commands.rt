@@ -17,6 +17,10 @@ fn named<'a>(words: &ArgMatches<'a>, name: &str) -> &'a str
 }
 
 /// Prints the rows of a plan on an input.
+///
+/// # Errors
+///
+/// `Read` where a file cannot be read, else the fault of `job_run`.
 pub fn run<R: Files + Print + RandomSource + AllocGlobal>(
     rt: &R,
     words: &ArgMatches<'_>,
@@ -32,6 +36,10 @@ pub fn run<R: Files + Print + RandomSource + AllocGlobal>(
 }
 
 /// Prints the layout of a plan at a scale.
+///
+/// # Errors
+///
+/// `Read` where a file cannot be read, else the fault of `job_layout`.
 pub fn layout<R: Files + Print + AllocGlobal>(
     rt: &R,
     words: &ArgMatches<'_>,
@@ -44,6 +52,10 @@ pub fn layout<R: Files + Print + AllocGlobal>(
 }
 
 /// Prints what a savepoint holds.
+///
+/// # Errors
+///
+/// `Read` where the file cannot be read, else the fault of `job_show`.
 pub fn show<R: Files + Print + AllocGlobal>(rt: &R, words: &ArgMatches<'_>) -> Result<(), JobFault>
     ensures { AnswersShow result }
 {
@@ -52,6 +64,10 @@ pub fn show<R: Files + Print + AllocGlobal>(rt: &R, words: &ArgMatches<'_>) -> R
 }
 
 /// Prints the group of a key and its owner.
+///
+/// # Errors
+///
+/// The fault of `job_group`.
 pub fn group<R: Print + AllocGlobal>(rt: &R, words: &ArgMatches<'_>) -> Result<(), JobFault>
     ensures { AnswersGroup (word words.now (codes "KEY")) (word words.now (codes "MAX")) (word words.now (codes "PAR")) result }
 {

@@ -2,7 +2,7 @@
 
 ghost use Rattle.std.specs.Prelude.{◌≡◌, ◌⊎◌, IfErr};
 ghost use Rattle.std.specs.IoError.{error_kind};
-ghost use Rattle.streamjob.specs.Answers.{read_fault as fault_said};
+ghost use Rattle.streamjob.specs.Answers as answers;
 
 use job::JobFault;
 use std::io::ErrorKind;
@@ -24,7 +24,7 @@ pub fn file<R: Files + AllocGlobal>(rt: &R, path: &str) -> Result<Vec<u8>, JobFa
 }
 
 fn read_fault(error: &io::Error) -> JobFault
-    ensures { result ≡ fault_said (error_kind error.now) }
+    ensures { result ≡ answers.read_fault (error_kind error.now) }
 {
     match error.kind() {
         ErrorKind::OutOfMemory => JobFault::Memory,

@@ -3,10 +3,10 @@
 ghost use Rattle.std.specs.Prelude.{◌≡◌};
 ghost use Rattle.std.specs.IoError.{error_kind};
 ghost use Rattle.clap.specs.Words.{kind_of};
-ghost use Rattle.job.specs.FaultText.{status as fault_status};
+ghost use Rattle.job.specs.FaultText as fault_text;
 ghost use Rattle.job.specs.declared.fault.JobFault.TheVariants.{Memory};
 ghost use Rattle.streamjob.specs.Outcome.{AnswersCommand, AnswersProgram};
-ghost use Rattle.streamjob.specs.Status.{status as status_said, words_status, unread_status};
+ghost use Rattle.streamjob.specs.Status as statuses;
 ghost use Rattle.streamjob.specs.declared.run.Refusal.TheVariants.{Words, Fault};
 
 use crate::commands;
@@ -76,6 +76,10 @@ fn words_of<R: Env + AllocGlobal>(rt: &R) -> io::Result<Vec<String>> {
 }
 
 /// Runs the command that the program's words name.
+///
+/// # Errors
+///
+/// Why no command is done: the words, or the fault of the command.
 pub fn outcome<R: Files + Print + Env + RandomSource + AllocGlobal>(rt: &R) -> Result<(), Refusal>
     ensures { AnswersProgram result }
 {
@@ -88,7 +92,7 @@ pub fn outcome<R: Files + Print + Env + RandomSource + AllocGlobal>(rt: &R) -> R
 
 /// Says what is wrong with the words. Help counts as that, so that standard output has rows alone.
 fn refused<R: Eprint>(rt: &R, error: &clap::Error) -> u8
-    ensures { result ≡ words_status (kind_of error.now) }
+    ensures { result ≡ statuses.words_status (kind_of error.now) }
 {
     if error.kind() == error::ErrorKind::OutOfMemory {
         return failed(rt, &JobFault::Memory);
@@ -99,7 +103,7 @@ fn refused<R: Eprint>(rt: &R, error: &clap::Error) -> u8
 
 /// Says why there are no words.
 fn unread<R: Eprint>(rt: &R, error: &io::Error) -> u8
-    ensures { result ≡ unread_status (error_kind error.now) }
+    ensures { result ≡ statuses.unread_status (error_kind error.now) }
 {
     if error.kind() == io::ErrorKind::OutOfMemory {
         return failed(rt, &JobFault::Memory);
@@ -110,7 +114,7 @@ fn unread<R: Eprint>(rt: &R, error: &io::Error) -> u8
 
 /// Says the fault, which needs no memory.
 fn failed<R: Eprint>(rt: &R, fault: &JobFault) -> u8
-    ensures { result ≡ fault_status fault.now }
+    ensures { result ≡ fault_text.status fault.now }
 {
     let _ = rt.eprintln(FaultLine(fault));
     status_of(fault)
@@ -118,7 +122,7 @@ fn failed<R: Eprint>(rt: &R, fault: &JobFault) -> u8
 
 /// Says why no command is done, and answers the status to end with.
 pub fn status<R: Eprint>(rt: &R, outcome: &Result<(), Refusal>) -> u8
-    ensures { result ≡ status_said outcome.now }
+    ensures { result ≡ statuses.status outcome.now }
 {
     match outcome {
         Ok(()) => 0,

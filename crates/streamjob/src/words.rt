@@ -94,6 +94,10 @@ fn group_words<'a>(alloc: Global) -> Result<Command<'a>, AllocError>
 }
 
 /// The command and its subcommands.
+///
+/// # Errors
+///
+/// Only where memory runs out.
 pub fn command<'a>(alloc: Global) -> Result<Command<'a>, AllocError>
     ensures { IfOk result (λ c. app_of c ≡ program) }
 {

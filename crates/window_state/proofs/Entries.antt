@@ -6,77 +6,88 @@ use Rattle.std.specs.Map.{keys_of}
 use Rattle.std.specs.Option.{option_map}
 use Rattle.std.specs.Ordering.{int_eq, int_cmp, is_eq, is_lt, ordering_then}
 use Rattle.std.specs.declared.cmp.Ordering.TheVariants.{Less, Equal}
-use Rattle.std.specs.FinMap.{from_entries, get, get-from_entries, entries, from_sorted, get-from_sorted, entries-from_sorted, retain_keys, get-retain_keys, same_map, empty}
+use Rattle.std.specs.FinMap.{from_entries, get, get-from_entries, entries, from_sorted, get-from_sorted, entries-from_sorted, retain_keys, get-retain_keys, same_map}
 use Rattle.std.specs.FinMap.Entries.{find, is_sorted, below_all}
 use Rattle.std.proofs.lemmas.Int.{ints}
-use Rattle.logical_plan.specs.declared.spec.WindowSpec.{WindowSpec}
-use Rattle.logical_plan.specs.declared.spec.Place.{Place}
-use Rattle.logical_plan.specs.declared.spec.Row.{Row}
-use Rattle.logical_plan.specs.Rows.{place_cmp, is_due, row_at}
-use Rattle.logical_plan.proofs.PlaceMaps.{place_cmp_total, place_cmp-IsAntisymmetric}
+use Rattle.plan_model.specs.declared.spec.WindowSpec.{WindowSpec}
+use Rattle.plan_model.specs.declared.spec.Pane.{Pane}
+use Rattle.plan_model.specs.declared.spec.Row.{Row}
+use Rattle.plan_model.specs.Rows.{pane_cmp, is_due, row_at}
+use Rattle.plan_model.proofs.Facts.{pane_cmp_total, pane_cmp-IsAntisymmetric}
 use Rattle.aggregates.specs.Kinds.{AccData}
-use Rattle.window_state.specs.Windows.{is_place, acc_at, total_at, AreWindows}
+use Rattle.window_state.specs.Windows.{is_pane, acc_at, total_at, AreWindows}
 use Rattle.window_state.specs.State.{totals}
 use Rattle.window_state.specs.Firing.{rows_due}
 use Rattle.window_state.specs.Parts.{with_entry, entries_at}
 
 -- ---- the map of entries
 
-pub tied : (p q : Place) → is_eq (place_cmp p q) ≡ is_place p q
+pub tied : (p q : Pane) → is_eq (pane_cmp p q) ≡ is_pane p q
 tied p q = alike p.start q.start p.key q.key
   where
     alike : (a b c d : ℤ) → is_eq (ordering_then (int_cmp a b) (int_cmp c d)) ≡ (int_eq a b && int_eq c d)
     alike a b c d = grind (arith, ints)
 
-pub found_total : (es : List (Place × AccData)) (q : Place) → find place_cmp q (totals es) ≡ total_at es q
+pub found_total : (es : List (Pane × AccData)) (q : Pane) → find pane_cmp q (totals es) ≡ total_at es q
 found_total [] q = refl
 found_total (e ∷ es) q =
-    ap (λ b. cond b (Some e.1.total) (find place_cmp q (totals es))) (tied q e.0)
-    ∙ ap (cond (is_place q e.0) (Some e.1.total)) (found_total es q)
-    ∙ through (is_place q e.0)
+    ap (λ b. cond b (Some e.1.total) (find pane_cmp q (totals es))) (tied q e.0)
+    ∙ ap (cond (is_pane q e.0) (Some e.1.total)) (found_total es q)
+    ∙ through (is_pane q e.0)
   where
     through : (b : Bool) → cond b (Some e.1.total) (total_at es q) ≡ option_map (λ (a : AccData). a.total) (cond b (Some e.1) (acc_at es q))
     through true = refl
     through false = refl
 
--- the finite map has at each place what stands there
-pub get-totals : (es : List (Place × AccData)) (q : Place) → get (from_entries {R = place_cmp} (totals es)) q ≡ total_at es q
-get-totals es q = get-from_entries place_cmp_total (totals es) q ∙ found_total es q
+-- the finite map has in each pane what stands there
+pub get-totals : (es : List (Pane × AccData)) (q : Pane) → get (from_entries {R = pane_cmp} (totals es)) q ≡ total_at es q
+get-totals es q = get-from_entries pane_cmp_total (totals es) q ∙ found_total es q
 
--- entries that have the same at each place make the same map
-pub same_totals : (es fs : List (Place × AccData)) → ((q : Place) → acc_at es q ≡ acc_at fs q) → from_entries {R = place_cmp} (totals es) ≡ from_entries (totals fs)
-same_totals es fs is = same_map place_cmp_total place_cmp-IsAntisymmetric _ _ (λ q. get-totals es q ∙ ap (option_map (λ (a : AccData). a.total)) (is q) ∙ sym (get-totals fs q))
+-- entries that have the same in each pane make the same map
+pub same_totals : (es fs : List (Pane × AccData)) → ((q : Pane) → acc_at es q ≡ acc_at fs q) → from_entries {R = pane_cmp} (totals es) ≡ from_entries (totals fs)
+same_totals es fs is = same_map pane_cmp_total pane_cmp-IsAntisymmetric _ _ (λ q. get-totals es q ∙ ap (option_map (λ (a : AccData). a.total)) (is q) ∙ sym (get-totals fs q))
 
--- ---- entries in the order of their places
+total_cond : (b : Bool) (a o : Option AccData) → option_map (λ (x : AccData). x.total) (cond b a o) ≡ cond b (option_map (λ (x : AccData). x.total) a) (option_map (λ (x : AccData). x.total) o)
+total_cond true a o = refl
+total_cond false a o = refl
+
+-- where something is written in one pane, or taken out there
+pub get-written : (p : Pane) (a : Option AccData) (m n : List (Pane × AccData)) → ((q : Pane) → acc_at n q ≡ cond (is_pane p q) a (acc_at m q))
+    → (q : Pane) → get (from_entries {R = pane_cmp} (totals n)) q ≡ cond (is_pane p q) (option_map (λ (x : AccData). x.total) a) (get (from_entries {R = pane_cmp} (totals m)) q)
+get-written p a m n is q =
+    get-totals n q ∙ ap (option_map (λ (x : AccData). x.total)) (is q) ∙ total_cond (is_pane p q) a (acc_at m q)
+    ∙ ap (cond (is_pane p q) (option_map (λ (x : AccData). x.total) a)) (sym (get-totals m q))
+
+-- ---- entries in the order of their panes
 
 and_T : (a b : Bool) → T a → T b → T (a && b)
 and_T true b h k = k
 and_T false b h k = h
 
-less_T : (p q : Place) → place_cmp p q ≡ Less → T (is_lt (place_cmp p q))
+less_T : (p q : Pane) → pane_cmp p q ≡ Less → T (is_lt (pane_cmp p q))
 less_T p q h = subst (λ o. T (is_lt o)) (sym h) tt
 
-below_from : (p : Place) (es : List (Place × AccData)) → AllByRecursion (λ q. place_cmp p q ≡ Less) (keys_of es) → T (below_all place_cmp p (totals es))
+below_from : (p : Pane) (es : List (Pane × AccData)) → AllByRecursion (λ q. pane_cmp p q ≡ Less) (keys_of es) → T (below_all pane_cmp p (totals es))
 below_from p [] h = tt
-below_from p (e ∷ es) h = and_T (is_lt (place_cmp p e.0)) (below_all place_cmp p (totals es)) (less_T p e.0 h.0) (below_from p es h.1)
+below_from p (e ∷ es) h = and_T (is_lt (pane_cmp p e.0)) (below_all pane_cmp p (totals es)) (less_T p e.0 h.0) (below_from p es h.1)
 
-sorted_totals : (es : List (Place × AccData)) → IsStrictlySortedBy place_cmp (keys_of es) → T (is_sorted place_cmp (totals es))
+sorted_totals : (es : List (Pane × AccData)) → IsStrictlySortedBy pane_cmp (keys_of es) → T (is_sorted pane_cmp (totals es))
 unfolding IsStrictlySortedBy
 sorted_totals [] h = tt
-sorted_totals (e ∷ es) h = and_T (below_all place_cmp e.0 (totals es)) (is_sorted place_cmp (totals es)) (below_from e.0 es h.0) (sorted_totals es h.1)
+sorted_totals (e ∷ es) h = and_T (below_all pane_cmp e.0 (totals es)) (is_sorted pane_cmp (totals es)) (below_from e.0 es h.0) (sorted_totals es h.1)
 
 -- they are the map's own
-pub entries-totals : (es : List (Place × AccData)) → IsStrictlySortedBy place_cmp (keys_of es) → entries (from_entries {R = place_cmp} (totals es)) ≡ totals es
+pub entries-totals : (es : List (Pane × AccData)) → IsStrictlySortedBy pane_cmp (keys_of es) → entries (from_entries {R = pane_cmp} (totals es)) ≡ totals es
 entries-totals es h =
     let sorted = sorted_totals es h in
-    let same : from_entries {R = place_cmp} (totals es) ≡ from_sorted (totals es) =
-    same_map place_cmp_total place_cmp-IsAntisymmetric _ _ (λ q. get-from_entries place_cmp_total (totals es) q ∙ sym (get-from_sorted place_cmp (totals es) q sorted)) in
-    ap entries same ∙ entries-from_sorted place_cmp (totals es) sorted
+    let same : from_entries {R = pane_cmp} (totals es) ≡ from_sorted (totals es) =
+    same_map pane_cmp_total pane_cmp-IsAntisymmetric _ _ (λ q. get-from_entries pane_cmp_total (totals es) q ∙ sym (get-from_sorted pane_cmp (totals es) q sorted)) in
+    ap entries same ∙ entries-from_sorted pane_cmp (totals es) sorted
 
 -- ---- windows that stay
 
--- where nothing new stands at any place
-pub windows_fewer : (w : WindowSpec) (m n : List (Place × AccData)) → AreWindows w m → IsDistinct is_place (keys_of n) → ((q : Place) (a : AccData) → acc_at n q ≡ Some a → acc_at m q ≡ Some a) → AreWindows w n
+-- where nothing new stands in any pane
+pub windows_fewer : (w : WindowSpec) (m n : List (Pane × AccData)) → AreWindows w m → IsDistinct is_pane (keys_of n) → ((q : Pane) (a : AccData) → acc_at n q ≡ Some a → acc_at m q ≡ Some a) → AreWindows w n
 windows_fewer w m n h distinct before = record {
   distinct = distinct;
   kinds = λ q a there. h.kinds q a (before q a there);
@@ -87,14 +98,14 @@ some_of : (b : Bool) (o : Option AccData) (a : AccData) → cond b None o ≡ So
 some_of true o a h = absurd cc
 some_of false o a h = h
 
--- where one place is taken out
-pub windows_taken : (w : WindowSpec) (p : Place) (m n : List (Place × AccData)) → AreWindows w m → IsDistinct is_place (keys_of n) → ((q : Place) → acc_at n q ≡ cond (is_place p q) None (acc_at m q)) → AreWindows w n
-windows_taken w p m n h distinct taken = windows_fewer w m n h distinct (λ q a there. some_of (is_place p q) (acc_at m q) a (sym (taken q) ∙ there))
+-- where one pane is taken out
+pub windows_taken : (w : WindowSpec) (p : Pane) (m n : List (Pane × AccData)) → AreWindows w m → IsDistinct is_pane (keys_of n) → ((q : Pane) → acc_at n q ≡ cond (is_pane p q) None (acc_at m q)) → AreWindows w n
+windows_taken w p m n h distinct taken = windows_fewer w m n h distinct (λ q a there. some_of (is_pane p q) (acc_at m q) a (sym (taken q) ∙ there))
 
 -- ---- rows
 
 -- one window more fires
-pub fires_next : (w : WindowSpec) (t : ℤ) (rows : List Row) (row : Row) (e : Place × AccData) (left rest all : List (Place × AccData))
+pub fires_next : (w : WindowSpec) (t : ℤ) (rows : List Row) (row : Row) (e : Pane × AccData) (left rest all : List (Pane × AccData))
     → rows ++ rows_due w t left ≡ rows_due w t all → left ≡ e ∷ rest → is_due w t e.0.start ≡ true → row ≡ row_at w e.0 e.1.total
     → (rows ++ row ∷ []) ++ rows_due w t rest ≡ rows_due w t all
 fires_next w t rows row e left rest all so_far is due same =
@@ -103,12 +114,12 @@ fires_next w t rows row e left rest all so_far is due same =
     ∙ sym (ap (λ b. rows ++ map (λ x. row_at w x.0 x.1.total) (cond b (e ∷ filter (λ x. is_due w t x.0.start) rest) (filter (λ x. is_due w t x.0.start) rest))) due)
     ∙ ap (λ l. rows ++ rows_due w t l) (sym is) ∙ so_far
 
--- a place with an entry
-pub some_next : (es : List (Place × AccData)) (p : Place) (a : AccData) (left rest : List Place) → left ≡ p ∷ rest → acc_at es p ≡ Some a → entries_at es left ≡ (p, a) ∷ entries_at es rest
+-- a pane with an entry
+pub some_next : (es : List (Pane × AccData)) (p : Pane) (a : AccData) (left rest : List Pane) → left ≡ p ∷ rest → acc_at es p ≡ Some a → entries_at es left ≡ (p, a) ∷ entries_at es rest
 some_next es p a left rest is some = ap (entries_at es) is ∙ ap (λ o. with_entry p o (entries_at es rest)) some
 
--- a place with none
-pub none_next : (es : List (Place × AccData)) (p : Place) (left rest : List Place) → left ≡ p ∷ rest → acc_at es p ≡ None → entries_at es left ≡ entries_at es rest
+-- a pane with none
+pub none_next : (es : List (Pane × AccData)) (p : Pane) (left rest : List Pane) → left ≡ p ∷ rest → acc_at es p ≡ None → entries_at es left ≡ entries_at es rest
 none_next es p left rest is none = ap (entries_at es) is ∙ ap (λ o. with_entry p o (entries_at es rest)) none
 
 -- ---- the map of the windows that stay
@@ -117,15 +128,12 @@ map_cond : (b : Bool) (o : Option AccData) → option_map (λ (a : AccData). a.t
 map_cond true o = refl
 map_cond false o = refl
 
-pub map_left : (p : Place → Bool) (m n : List (Place × AccData)) → ((q : Place) → acc_at n q ≡ cond (p q) None (acc_at m q)) → from_entries {R = place_cmp} (totals n) ≡ retain_keys (from_entries {R = place_cmp} (totals m)) (λ q. not (p q))
+pub map_left : (p : Pane → Bool) (m n : List (Pane × AccData)) → ((q : Pane) → acc_at n q ≡ cond (p q) None (acc_at m q)) → from_entries {R = pane_cmp} (totals n) ≡ retain_keys (from_entries {R = pane_cmp} (totals m)) (λ q. not (p q))
 map_left p m n is =
-    same_map place_cmp_total place_cmp-IsAntisymmetric _ _ (λ q.
-    let alike = λ (x : Place) (e : place_cmp q x ≡ Equal). ap (λ y. not (p y)) (sym (place_cmp-IsAntisymmetric q x e)) in
+    same_map pane_cmp_total pane_cmp-IsAntisymmetric _ _ (λ q.
+    let alike = λ (x : Pane) (e : pane_cmp q x ≡ Equal). ap (λ y. not (p y)) (sym (pane_cmp-IsAntisymmetric q x e)) in
     get-totals n q
     ∙ ap (option_map (λ (a : AccData). a.total)) (is q)
     ∙ map_cond (p q) (acc_at m q)
     ∙ ap (λ o. cond (not (p q)) o None) (sym (get-totals m q))
-    ∙ sym (get-retain_keys (from_entries {R = place_cmp} (totals m)) (λ y. not (p y)) q alike))
-
-pub map_none : (es : List (Place × AccData)) → es ≡ [] → from_entries {R = place_cmp} (totals es) ≡ empty
-map_none es is = ap (λ l. from_entries (totals l)) is
+    ∙ sym (get-retain_keys (from_entries {R = pane_cmp} (totals m)) (λ y. not (p y)) q alike))

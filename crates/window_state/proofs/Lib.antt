@@ -1,8 +1,8 @@
-pub mod Updates
-pub mod Slides
-pub mod Entries
-pub mod Ordered
-pub mod Sorted
-pub mod Rows
-pub mod PartMaps
-pub mod Due
+mod Updates
+mod Slides
+mod Entries
+mod Ordered
+mod Sorted
+mod Rows
+mod PartMaps
+mod Due

@@ -8,83 +8,78 @@ use Rattle.std.specs.Ordering.{int_eq, int_cmp, is_lt, ordering_then}
 use Rattle.std.specs.declared.cmp.Ordering.TheVariants.{Less}
 use Rattle.std.specs.FinMap.{get, from_entries}
 use Rattle.std.proofs.lemmas.Int.{ints}
-use Rattle.logical_plan.specs.declared.spec.WindowSpec.{WindowSpec}
-use Rattle.logical_plan.specs.declared.spec.Place.{Place}
-use Rattle.logical_plan.specs.declared.spec.Row.{Row}
-use Rattle.logical_plan.specs.Rows.{place_cmp, place_of, row_is_at, is_due, row_at, AreRowsOf}
+use Rattle.plan_model.specs.declared.spec.WindowSpec.{WindowSpec}
+use Rattle.plan_model.specs.declared.spec.Pane.{Pane}
+use Rattle.plan_model.specs.declared.spec.Row.{Row}
+use Rattle.plan_model.specs.Rows.{pane_cmp, pane_of, row_is_at, is_due, row_at, AreRowsOf}
 use Rattle.aggregates.specs.Kinds.{AccData}
-use Rattle.window_state.specs.Windows.{is_place, acc_at}
+use Rattle.window_state.specs.Windows.{is_pane, acc_at}
 use Rattle.window_state.specs.State.{totals, fired}
 use Rattle.window_state.specs.Firing.{rows_due}
-use Rattle.window_state.proofs.Updates.{place_from_test}
+use Rattle.window_state.proofs.Updates.{pane_from_test}
 use Rattle.window_state.proofs.Entries.{get-totals}
+use Rattle.window_state.proofs.Sorted.{flips}
 
 -- ---- just those that are due
 
 apart : (a b c d : ℤ) → ordering_then (int_cmp a c) (int_cmp b d) ≡ Less → (int_eq c a && int_eq d b) ≡ false
 apart a b c d h = grind (arith, ints)
 
-flipped : (p q : Place) (b : Bool) → is_place p q ≡ b → is_place q p ≡ b
-flipped p q b h = flip p.start q.start p.key q.key ∙ h
-  where
-    flip : (a b c d : ℤ) → (int_eq b a && int_eq d c) ≡ (int_eq a b && int_eq c d)
-    flip a b c d = grind (arith, ints)
-
--- a row that is or is not taken, at a place where it does not stand
-skipped : (q : Place) (b : Bool) (row : Row) (rows : List Row) → row_is_at q row ≡ false → filter (row_is_at q) (cond b (row ∷ rows) rows) ≡ filter (row_is_at q) rows
+-- a row that is or is not taken, in a pane where it does not stand
+skipped : (q : Pane) (b : Bool) (row : Row) (rows : List Row) → row_is_at q row ≡ false → filter (row_is_at q) (cond b (row ∷ rows) rows) ≡ filter (row_is_at q) rows
 skipped q true row rows h = ap (λ t. cond t (row ∷ filter (row_is_at q) rows) (filter (row_is_at q) rows)) h
 skipped q false row rows h = refl
 
-pub rows_cons : (w : WindowSpec) (t : ℤ) (e : Place × AccData) (es : List (Place × AccData))
+pub rows_cons : (w : WindowSpec) (t : ℤ) (e : Pane × AccData) (es : List (Pane × AccData))
     → rows_due w t (e ∷ es) ≡ cond (is_due w t e.0.start) (row_at w e.0 e.1.total ∷ rows_due w t es) (rows_due w t es)
 rows_cons w t e es = elim (is_due w t e.0.start) as (λ b. map (λ x. row_at w x.0 x.1.total) (cond b (e ∷ filter (λ x. is_due w t x.0.start) es) (filter (λ x. is_due w t x.0.start) es))
     ≡ cond b (row_at w e.0 e.1.total ∷ rows_due w t es) (rows_due w t es)) [ true ↦ refl | false ↦ refl ]
 
--- no later entry has the place
-none_at : (w : WindowSpec) (t : ℤ) (p : Place) (es : List (Place × AccData)) → AllByRecursion (λ q. place_cmp p q ≡ Less) (keys_of es) → filter (row_is_at p) (rows_due w t es) ≡ []
+-- no later entry has the pane
+none_at : (w : WindowSpec) (t : ℤ) (p : Pane) (es : List (Pane × AccData)) → AllByRecursion (λ q. pane_cmp p q ≡ Less) (keys_of es) → filter (row_is_at p) (rows_due w t es) ≡ []
 none_at w t p [] h = refl
 none_at w t p (e ∷ es) h =
     ap (filter (row_is_at p)) (rows_cons w t e es)
     ∙ skipped p (is_due w t e.0.start) (row_at w e.0 e.1.total) (rows_due w t es) (apart p.start p.key e.0.start e.0.key h.0)
     ∙ none_at w t p es h.1
 
-taken : (w : WindowSpec) (q : Place) (b : Bool) (row : Row) (rows : List Row) → row_is_at q row ≡ true → filter (row_is_at q) rows ≡ []
+taken : (w : WindowSpec) (q : Pane) (b : Bool) (row : Row) (rows : List Row) → row_is_at q row ≡ true → filter (row_is_at q) rows ≡ []
     → filter (row_is_at q) (cond b (row ∷ rows) rows) ≡ option_to_list (if b then Some row else None)
 taken w q true row rows h none = ap (λ t. cond t (row ∷ filter (row_is_at q) rows) (filter (row_is_at q) rows)) h ∙ ap (λ l. row ∷ l) none
 taken w q false row rows h none = none
 
 -- what is due of the entries found
-abbrev pub due_found : WindowSpec → ℤ → List (Place × AccData) → Place → Option Row
+abbrev pub due_found : WindowSpec → ℤ → List (Pane × AccData) → Pane → Option Row
 due_found w t es q = if is_due w t q.start then option_map (λ a. row_at w q a.total) (acc_at es q) else None
 
-rows_found : (w : WindowSpec) (t : ℤ) (es : List (Place × AccData)) → IsStrictlySortedBy place_cmp (keys_of es) → (q : Place) → filter (row_is_at q) (rows_due w t es) ≡ option_to_list (due_found w t es q)
+rows_found : (w : WindowSpec) (t : ℤ) (es : List (Pane × AccData)) → IsStrictlySortedBy pane_cmp (keys_of es) → (q : Pane) → filter (row_is_at q) (rows_due w t es) ≡ option_to_list (due_found w t es q)
 unfolding IsStrictlySortedBy
 rows_found w t [] h q = elim (is_due w t q.start) as (λ b. [] ≡ option_to_list (if b then option_map (λ (a : AccData). row_at w q a.total) None else None)) [ true ↦ refl | false ↦ refl ]
-rows_found w t (e ∷ es) h q = by_case (is_place e.0 q) refl (rows_found w t es h.1 q)
+rows_found w t (e ∷ es) h q = by_case (is_pane e.0 q) refl (rows_found w t es h.1 q)
   where
-    by_case : (b : Bool) → is_place e.0 q ≡ b → filter (row_is_at q) (rows_due w t es) ≡ option_to_list (due_found w t es q) → filter (row_is_at q) (rows_due w t (e ∷ es)) ≡ option_to_list (due_found w t (e ∷ es) q)
+    by_case : (b : Bool) → is_pane e.0 q ≡ b → filter (row_is_at q) (rows_due w t es) ≡ option_to_list (due_found w t es q) → filter (row_is_at q) (rows_due w t (e ∷ es)) ≡ option_to_list (due_found w t (e ∷ es) q)
     by_case true here later =
-        let same : e.0 ≡ q = place_from_test e.0 q here in
+        let same : e.0 ≡ q = pane_from_test e.0 q here in
         let none : filter (row_is_at q) (rows_due w t es) ≡ [] = subst (λ p. filter (row_is_at p) (rows_due w t es) ≡ []) same (none_at w t e.0 es h.0) in
-        let first : acc_at (e ∷ es) q ≡ Some e.1 = ap (λ b. cond b (Some e.1) (acc_at es q)) (flipped e.0 q true here) in
+        let first : acc_at (e ∷ es) q ≡ Some e.1 = ap (λ b. cond b (Some e.1) (acc_at es q)) (flips q e.0 ∙ here) in
         ap (filter (row_is_at q)) (rows_cons w t e es)
         ∙ taken w q (is_due w t e.0.start) (row_at w e.0 e.1.total) (rows_due w t es) here none
         ∙ ap (λ p. option_to_list (if is_due w t p.start then Some (row_at w p e.1.total) else None)) same
         ∙ sym (ap (λ o. option_to_list (if is_due w t q.start then option_map (λ (a : AccData). row_at w q a.total) o else None)) first)
     by_case false here later =
-        let next : acc_at (e ∷ es) q ≡ acc_at es q = ap (λ b. cond b (Some e.1) (acc_at es q)) (flipped e.0 q false here) in
+        let next : acc_at (e ∷ es) q ≡ acc_at es q = ap (λ b. cond b (Some e.1) (acc_at es q)) (flips q e.0 ∙ here) in
         ap (filter (row_is_at q)) (rows_cons w t e es)
         ∙ skipped q (is_due w t e.0.start) (row_at w e.0 e.1.total) (rows_due w t es) here
         ∙ later
         ∙ sym (ap (λ o. option_to_list (if is_due w t q.start then option_map (λ (a : AccData). row_at w q a.total) o else None)) next)
 
-option_twice : (w : WindowSpec) (q : Place) (o : Option AccData) → option_map (row_at w q) (option_map (λ a. a.total) o) ≡ option_map (λ a. row_at w q a.total) o
+option_twice : (w : WindowSpec) (q : Pane) (o : Option AccData) → option_map (row_at w q) (option_map (λ a. a.total) o) ≡ option_map (λ a. row_at w q a.total) o
 option_twice w q None = refl
 option_twice w q (Some a) = refl
 
--- the entries in order have the same at each place
-pub rows_fired : (w : WindowSpec) (t : ℤ) (es sorted : List (Place × AccData)) → IsStrictlySortedBy place_cmp (keys_of sorted) → ((q : Place) → acc_at sorted q ≡ acc_at es q)
-    → AreRowsOf (fired w t (get (from_entries {R = place_cmp} (totals es)))) (rows_due w t sorted)
+-- the entries in order have the same in each pane
+pub rows_fired : (w : WindowSpec) (t : ℤ) (es sorted : List (Pane × AccData)) → IsStrictlySortedBy pane_cmp (keys_of sorted) → ((q : Pane) → acc_at sorted q ≡ acc_at es q)
+    → AreRowsOf (fired w t (get (from_entries {R = pane_cmp} (totals es)))) (rows_due w t sorted)
 rows_fired w t es sorted strict same q =
     rows_found w t sorted strict q
     ∙ ap (λ o. option_to_list (if is_due w t q.start then option_map (λ a. row_at w q a.total) o else None)) (same q)
@@ -92,29 +87,29 @@ rows_fired w t es sorted strict same q =
 
 -- ---- in order
 
-rise : (p : Place) (w : WindowSpec) (t : ℤ) (es : List (Place × AccData)) → AllByRecursion (λ q. place_cmp p q ≡ Less) (keys_of es) → AllByRecursion (λ q. place_cmp p q ≡ Less) (map place_of (rows_due w t es))
+rise : (p : Pane) (w : WindowSpec) (t : ℤ) (es : List (Pane × AccData)) → AllByRecursion (λ q. pane_cmp p q ≡ Less) (keys_of es) → AllByRecursion (λ q. pane_cmp p q ≡ Less) (map pane_of (rows_due w t es))
 rise p w t [] h = tt
-rise p w t (e ∷ es) h = subst (λ l. AllByRecursion (λ q. place_cmp p q ≡ Less) (map place_of l)) (sym (rows_cons w t e es)) (by_case (is_due w t e.0.start) (rise p w t es h.1))
+rise p w t (e ∷ es) h = subst (λ l. AllByRecursion (λ q. pane_cmp p q ≡ Less) (map pane_of l)) (sym (rows_cons w t e es)) (by_case (is_due w t e.0.start) (rise p w t es h.1))
   where
-    by_case : (b : Bool) → AllByRecursion (λ q. place_cmp p q ≡ Less) (map place_of (rows_due w t es))
-        → AllByRecursion (λ q. place_cmp p q ≡ Less) (map place_of (cond b (row_at w e.0 e.1.total ∷ rows_due w t es) (rows_due w t es)))
+    by_case : (b : Bool) → AllByRecursion (λ q. pane_cmp p q ≡ Less) (map pane_of (rows_due w t es))
+        → AllByRecursion (λ q. pane_cmp p q ≡ Less) (map pane_of (cond b (row_at w e.0 e.1.total ∷ rows_due w t es) (rows_due w t es)))
     by_case true later = (h.0, later)
     by_case false later = later
 
-rows_rise : (w : WindowSpec) (t : ℤ) (es : List (Place × AccData)) → IsStrictlySortedBy place_cmp (keys_of es) → IsStrictlySortedBy place_cmp (map place_of (rows_due w t es))
+rows_rise : (w : WindowSpec) (t : ℤ) (es : List (Pane × AccData)) → IsStrictlySortedBy pane_cmp (keys_of es) → IsStrictlySortedBy pane_cmp (map pane_of (rows_due w t es))
 unfolding IsStrictlySortedBy
 rows_rise w t [] h = tt
-rows_rise w t (e ∷ es) h = subst (λ l. IsStrictlySortedBy place_cmp (map place_of l)) (sym (rows_cons w t e es)) (by_case (is_due w t e.0.start) (rows_rise w t es h.1))
+rows_rise w t (e ∷ es) h = subst (λ l. IsStrictlySortedBy pane_cmp (map pane_of l)) (sym (rows_cons w t e es)) (by_case (is_due w t e.0.start) (rows_rise w t es h.1))
   where
-    by_case : (b : Bool) → IsStrictlySortedBy place_cmp (map place_of (rows_due w t es))
-        → IsStrictlySortedBy place_cmp (map place_of (cond b (row_at w e.0 e.1.total ∷ rows_due w t es) (rows_due w t es)))
+    by_case : (b : Bool) → IsStrictlySortedBy pane_cmp (map pane_of (rows_due w t es))
+        → IsStrictlySortedBy pane_cmp (map pane_of (cond b (row_at w e.0 e.1.total ∷ rows_due w t es) (rows_due w t es)))
     by_case true later = (rise e.0 w t es h.0, later)
     by_case false later = later
 
 not_back : (a b c d : ℤ) → ordering_then (int_cmp a c) (int_cmp b d) ≡ Less → is_lt (ordering_then (int_cmp c a) (int_cmp d b)) ≡ false
 not_back a b c d h = grind (arith, ints)
 
-in_order : (rows : List Row) → IsStrictlySortedBy place_cmp (map place_of rows) → IsSortedByKey place_of place_cmp rows
+in_order : (rows : List Row) → IsStrictlySortedBy pane_cmp (map pane_of rows) → IsSortedByKey pane_of pane_cmp rows
 unfolding IsStrictlySortedBy
 in_order [] h k d low high = absurd (omega arith)
 in_order (x ∷ []) h k d low high = absurd (omega arith)
@@ -123,5 +118,5 @@ in_order (x ∷ y ∷ ys) h (suc k) d low high =
     let e : suc k + 1 ≡ suc (k + 1) = omega arith in
     rw e (in_order (y ∷ ys) h.1 k d (omega arith) (omega arith))
 
-pub rows_ordered : (w : WindowSpec) (t : ℤ) (es : List (Place × AccData)) → IsStrictlySortedBy place_cmp (keys_of es) → IsSortedByKey place_of place_cmp (rows_due w t es)
+pub rows_ordered : (w : WindowSpec) (t : ℤ) (es : List (Pane × AccData)) → IsStrictlySortedBy pane_cmp (keys_of es) → IsSortedByKey pane_of pane_cmp (rows_due w t es)
 rows_ordered w t es strict = in_order (rows_due w t es) (rows_rise w t es strict)

@@ -1,8 +1,7 @@
 -- A record brought in at several windows, one after another, and several records.
 use Rattle.std.proofs.Common.{◌≡◌, ℕ, ℤ, pos, ◌-ℤ◌, ◌+◌, ◌^◌, ◌<◌, ◌≤◌, ◌%◌, Bool, true, false, cond, ◌&&◌, ◌||◌, List, [], ◌∷◌, take, drop, length, get_or, refl, sym, ap, subst, ◌∙◌, arith, Option, Some, None, ◌≤ℤ◌, FitsSigned, to_z, of_z, if◌then◌else◌}
 use Rattle.std.specs.Int.{int_rem_euclid}
-use Rattle.std.specs.List.{filter}
-use Rattle.std.specs.Option.{option_map}
+use Rattle.std.specs.FinMap.{FinMap, get}
 use Rattle.std.specs.Ordering.{int_eq}
 use Rattle.std.specs.Int.{w64}
 use Rattle.std.specs.Int.Signed.{pos-nat_abs, yes_non_neg}
@@ -10,18 +9,19 @@ use Rattle.std.proofs.Math.IntN.{nat_abs}
 use Rattle.std.proofs.lemmas.Int.{ints, to_z-of_z, to_z_pos}
 use Rattle.std.proofs.lemmas.List.{take_more, take-append-drop}
 use Rattle.plain_data.specs.Record.{Record, at}
-use Rattle.logical_plan.specs.declared.spec.Aggregate.{Aggregate}
-use Rattle.logical_plan.specs.declared.spec.WindowSpec.{WindowSpec}
-use Rattle.logical_plan.specs.declared.spec.Place.{Place}
-use Rattle.logical_plan.specs.PlanData.{IsWindow}
-use Rattle.logical_plan.specs.Windows.{IsTime, is_start, is_at, is_window_of}
-use Rattle.logical_plan.specs.Aggregates.{Aggregated, aggregate_of, merge}
-use Rattle.logical_plan.specs.Rows.{records_of, aggregate_at}
-use Rattle.logical_plan.proofs.Aggs.{merge_assoc}
-use Rattle.logical_plan.proofs.PlaceTotals.{aggregate_at-append, merge-one}
-use Rattle.logical_plan.proofs.Starts.{is_reached, reached_more, reached_once, reached_none, reached_all, remainder}
-use Rattle.aggregates.specs.Kinds.{AccData}
-use Rattle.window_state.specs.Windows.{acc_at, total_at, HasRoom}
+use Rattle.plan_model.specs.declared.spec.Aggregate.{Aggregate}
+use Rattle.plan_model.specs.declared.spec.WindowSpec.{WindowSpec}
+use Rattle.plan_model.specs.declared.spec.Pane.{Pane}
+use Rattle.plan_model.specs.PlanData.{IsWindow}
+use Rattle.plan_model.specs.Windows.{IsTime, is_start, is_at, is_window_of}
+use Rattle.plan_model.specs.Aggregates.{Aggregated, aggregate_of, merge}
+use Rattle.plan_model.specs.Rows.{records_of, aggregate_at, pane_cmp}
+use Rattle.plan_model.proofs.Facts.{merge_assoc}
+use Rattle.plan_model.proofs.Facts.{count_or, count_at, count_merge}
+use Rattle.plan_model.proofs.Facts.{aggregate_at-append, merge-one}
+use Rattle.plan_model.proofs.Facts.{is_reached, reached_more, reached_once, reached_none, reached_all, remainder}
+use Rattle.window_state.specs.State.{HasRoomFor}
+use Rattle.window_state.specs.Windows.{IsStart}
 
 step_bool : (ks : List Aggregate) (x y : Option Aggregated) (p p' e k : Bool) → p' ≡ (p || e) → (e ≡ true → p ≡ false)
     → (if e && k then merge ks (if p && k then merge ks x y else x) y else (if p && k then merge ks x y else x)) ≡ (if p' && k then merge ks x y else x)
@@ -41,12 +41,12 @@ step_bool ks x y p p' true true is once =
     let now : p' ≡ true = is ∙ ap (λ b. b || true) was in
     rw (was, now) refl
 
--- what stands at a place, once the record is in the windows that begin less than b before its time
-abbrev pub slid : WindowSpec → Record → Option Aggregated → Place → ℕ → Option Aggregated
+-- what stands in a pane, once the record is in the windows that begin less than b before its time
+abbrev pub slid : WindowSpec → Record → Option Aggregated → Pane → ℕ → Option Aggregated
 slid w r x q b = if is_reached w (at w.time r) b q.start && int_eq (at w.key r) q.key then merge w.aggregates x (aggregate_of w.aggregates (r ∷ [])) else x
 
 -- one window more
-pub slid_step : (w : WindowSpec) (r : Record) (x now : Option Aggregated) (q : Place) (b n m rest : ℕ) → 0 < n → w.slide ≡ pos n → w.size ≡ pos m
+pub slid_step : (w : WindowSpec) (r : Record) (x now : Option Aggregated) (q : Pane) (b n m rest : ℕ) → 0 < n → w.slide ≡ pos n → w.size ≡ pos m
     → int_rem_euclid (at w.time r -ℤ w.offset) (pos n) ≡ pos rest → b % n ≡ rest → b < m → now ≡ slid w r x q b
     → (if int_eq (at w.time r -ℤ pos b) q.start && int_eq (at w.key r) q.key then merge w.aggregates now (aggregate_of w.aggregates (r ∷ [])) else now) ≡ slid w r x q (b + n)
 slid_step w r x now q b n m rest h slide size is e low had =
@@ -56,34 +56,24 @@ slid_step w r x now q b n m rest h slide size is e low had =
     ∙ step_bool w.aggregates x y (is_reached w t b q.start) (is_reached w t (b + n) q.start) (int_eq (t -ℤ pos b) q.start) (int_eq (at w.key r) q.key)
     (reached_more w t q.start b n m rest h slide size is e low) (reached_once w t q.start b)
 
-pub slid_start : (w : WindowSpec) (r : Record) (x : Option Aggregated) (q : Place) (n m rest : ℕ) → 0 < n → w.slide ≡ pos n → w.size ≡ pos m
+pub slid_start : (w : WindowSpec) (r : Record) (x : Option Aggregated) (q : Pane) (n m rest : ℕ) → 0 < n → w.slide ≡ pos n → w.size ≡ pos m
     → int_rem_euclid (at w.time r -ℤ w.offset) (pos n) ≡ pos rest → rest < n → x ≡ slid w r x q rest
 slid_start w r x q n m rest h slide size is low =
     sym (ap (λ b. if b && int_eq (at w.key r) q.key then merge w.aggregates x (aggregate_of w.aggregates (r ∷ [])) else x) (reached_none w (at w.time r) q.start n m rest h slide size is low))
 
-pub slid_end : (w : WindowSpec) (r : Record) (x : Option Aggregated) (q : Place) (b n m rest : ℕ) → 0 < n → w.slide ≡ pos n → w.size ≡ pos m
+pub slid_end : (w : WindowSpec) (r : Record) (x : Option Aggregated) (q : Pane) (b n m rest : ℕ) → 0 < n → w.slide ≡ pos n → w.size ≡ pos m
     → int_rem_euclid (at w.time r -ℤ w.offset) (pos n) ≡ pos rest → m ≤ b → slid w r x q b ≡ merge w.aggregates x (aggregate_at w (r ∷ []) q)
 slid_end w r x q b n m rest h slide size is high =
     ap (λ p. if p && int_eq (at w.key r) q.key then merge w.aggregates x (aggregate_of w.aggregates (r ∷ [])) else x) (reached_all w (at w.time r) q.start b n m rest h slide size is high)
     ∙ merge-one w r q x
 
 -- at a window that begins b before the time, the record is not in yet
-pub slid_fresh : (w : WindowSpec) (r : Record) (x : Option Aggregated) (q : Place) (b : ℕ) → int_eq (at w.time r -ℤ pos b) q.start ≡ true → slid w r x q b ≡ x
+pub slid_fresh : (w : WindowSpec) (r : Record) (x : Option Aggregated) (q : Pane) (b : ℕ) → int_eq (at w.time r -ℤ pos b) q.start ≡ true → slid w r x q b ≡ x
 slid_fresh w r x q b h =
     ap (λ p. if p && int_eq (at w.key r) q.key then merge w.aggregates x (aggregate_of w.aggregates (r ∷ [])) else x) (reached_once w (at w.time r) q.start b h)
 
 is_itself : (a : ℤ) → int_eq a a ≡ true
 is_itself a = grind (arith, ints)
-
-some_total : (o : Option AccData) (x : Option Aggregated) (a : AccData) → option_map (λ b. b.total) o ≡ x → o ≡ Some a → x ≡ Some a.total
-some_total o x a e is = sym e ∙ ap (option_map (λ b. b.total)) is
-
-total_of : (m : List (Place × AccData)) (q : Place) (t : Aggregated) → total_at m q ≡ Some t → (b : AccData) × (acc_at m q ≡ Some b) × (b.total ≡ t)
-total_of m q t h = by_case (acc_at m q) refl
-  where
-    by_case : (o : Option AccData) → acc_at m q ≡ o → (b : AccData) × (acc_at m q ≡ Some b) × (b.total ≡ t)
-    by_case None e = absurd (let none : None ≡ Some t = sym (ap (option_map (λ (b : AccData). b.total)) e) ∙ h in cc)
-    by_case (Some b) e = (b, e, (let same : Some b.total ≡ Some t = sym (ap (option_map (λ (c : AccData). c.total)) e) ∙ h in cc))
 
 is_first : (a b c : Bool) → (a && b) ≡ c → c ≡ true → a ≡ true
 is_first true b c e h = refl
@@ -94,7 +84,7 @@ or_true true = refl
 or_true false = refl
 
 -- the record counts at the window that begins b before its time, at its key
-pub counts_there : (w : WindowSpec) (r : Record) (q : Place) (b n m rest : ℕ) → 0 < n → w.slide ≡ pos n → w.size ≡ pos m → int_rem_euclid (at w.time r -ℤ w.offset) (pos n) ≡ pos rest
+pub counts_there : (w : WindowSpec) (r : Record) (q : Pane) (b n m rest : ℕ) → 0 < n → w.slide ≡ pos n → w.size ≡ pos m → int_rem_euclid (at w.time r -ℤ w.offset) (pos n) ≡ pos rest
     → b % n ≡ rest → b < m → at w.time r -ℤ pos b ≡ q.start → at w.key r ≡ q.key → aggregate_at w (r ∷ []) q ≡ aggregate_of w.aggregates (r ∷ [])
 counts_there w r q b n m rest h slide size is e low begins key =
     let t : ℤ = at w.time r in
@@ -106,21 +96,19 @@ counts_there w r q b n m rest h slide size is e low begins key =
     sym (merge-one w r q None) ∙ (λ i. if window i && same i then merge w.aggregates None y else None)
 
 -- so the window there can take it
-pub room_fresh : (w : WindowSpec) (r : Record) (old now : List (Place × AccData)) (q : Place) (b n m rest : ℕ) → 0 < n → w.slide ≡ pos n → w.size ≡ pos m → int_rem_euclid (at w.time r -ℤ w.offset) (pos n) ≡ pos rest
-    → b % n ≡ rest → b < m → at w.time r -ℤ pos b ≡ q.start → at w.key r ≡ q.key → HasRoom w (r ∷ []) old
-    → total_at now q ≡ slid w r (total_at old q) q b → (a : AccData) → acc_at now q ≡ Some a → a.total.count < 2 ^ 41
+pub room_fresh : (w : WindowSpec) (r : Record) (old now : Option Aggregated) (q : Pane) (b n m rest : ℕ) → 0 < n → w.slide ≡ pos n → w.size ≡ pos m → int_rem_euclid (at w.time r -ℤ w.offset) (pos n) ≡ pos rest
+    → b % n ≡ rest → b < m → at w.time r -ℤ pos b ≡ q.start → at w.key r ≡ q.key
+    → ((x y : Aggregated) → old ≡ Some x → aggregate_at w (r ∷ []) q ≡ Some y → x.count + y.count ≤ 2 ^ 41)
+    → now ≡ slid w r old q b → (a : Aggregated) → now ≡ Some a → a.count < 2 ^ 41
 room_fresh w r old now q b n m rest h slide size rem e low begins key room is a has =
-    let fresh : slid w r (total_at old q) q b ≡ total_at old q = slid_fresh w r (total_at old q) q b (ap (λ s. int_eq s q.start) begins ∙ is_itself q.start) in
-    let same : total_at old q ≡ Some a.total = some_total (acc_at now q) (total_at old q) a (is ∙ fresh) has in
-    let found = total_of old q a.total same in
-    let most = room q found.0 _ found.1 (counts_there w r q b n m rest h slide size rem e low begins key) in
-    let count = ap (λ (t : Aggregated). t.count) found.2 in
-    omega (arith, most, count)
+    let fresh : slid w r old q b ≡ old = slid_fresh w r old q b (ap (λ s. int_eq s q.start) begins ∙ is_itself q.start) in
+    let most = room a _ (sym (is ∙ fresh) ∙ has) (counts_there w r q b n m rest h slide size rem e low begins key) in
+    omega (arith, most)
 
 -- ---- several records
 
 -- one record more
-pub rows_step : (w : WindowSpec) (rs : List Record) (i : ℕ) (old now after : Option Aggregated) (q : Place) → i < length rs
+pub rows_step : (w : WindowSpec) (rs : List Record) (i : ℕ) (old now after : Option Aggregated) (q : Pane) → i < length rs
     → now ≡ merge w.aggregates old (aggregate_at w (take i rs) q) → after ≡ merge w.aggregates now (aggregate_at w (get_or rs i [] ∷ []) q)
     → after ≡ merge w.aggregates old (aggregate_at w (take (i + 1) rs) q)
 rows_step w rs i old now after q h is more =
@@ -129,68 +117,38 @@ rows_step w rs i old now after q h is more =
     ∙ merge_assoc w.aggregates old (aggregate_at w (take i rs) q) (aggregate_at w (get_or rs i [] ∷ []) q)
     ∙ sym (ap (merge w.aggregates old) (ap (λ l. aggregate_at w l q) (take_more rs i [] h) ∙ aggregate_at-append w (take i rs) (get_or rs i [] ∷ []) q))
 
-pub length-filter : {X : Type 0} (p : X → Bool) (xs : List X) → length (filter p xs) ≤ length xs
-length-filter p [] = omega arith
-length-filter p (x ∷ xs) = elim (p x) as (λ b. length (cond b (x ∷ filter p xs) (filter p xs)) ≤ length (x ∷ xs)) [
-  | true ↦ let h = length-filter p xs in omega (arith, h)
-  | false ↦ let h = length-filter p xs in omega (arith, h)
-]
-
-abbrev pub count_or : Option Aggregated → ℕ
-count_or None = 0
-count_or (Some a) = a.count
-
-count_of : (ks : List Aggregate) (rs : List Record) → count_or (aggregate_of ks rs) ≡ length rs
-count_of ks [] = refl
-count_of ks (r ∷ rs) = refl
-
-pub count_at : (w : WindowSpec) (rs : List Record) (q : Place) → count_or (aggregate_at w rs q) ≤ length rs
-count_at w rs q = elim (is_start w q.start) as (λ b. count_or (if b then aggregate_of w.aggregates (records_of w q rs) else None) ≤ length rs) [
-  | true ↦ omega (arith, count_of w.aggregates (records_of w q rs), length-filter (is_at w q) rs)
-  | false ↦ omega arith
-]
-
-pub count_merge : (ks : List Aggregate) (a b : Option Aggregated) → count_or (merge ks a b) ≡ count_or a + count_or b
-count_merge ks None b = omega arith
-count_merge ks (Some a) None = omega arith
-count_merge ks (Some a) (Some b) = refl
-
--- what some of the records come to at a place, beside all of them
-count_part : (w : WindowSpec) (rs : List Record) (i : ℕ) (q : Place) → i < length rs → count_or (aggregate_at w (take i rs) q) + count_or (aggregate_at w (get_or rs i [] ∷ []) q) ≤ count_or (aggregate_at w rs q)
+-- what some of the records come to in a pane, beside all of them
+count_part : (w : WindowSpec) (rs : List Record) (i : ℕ) (q : Pane) → i < length rs → count_or (aggregate_at w (take i rs) q) + count_or (aggregate_at w (get_or rs i [] ∷ []) q) ≤ count_or (aggregate_at w rs q)
 count_part w rs i q h =
     let more = ap (λ l. count_or (aggregate_at w l q)) (take_more rs i [] h) ∙ ap count_or (aggregate_at-append w (take i rs) (get_or rs i [] ∷ []) q) ∙ count_merge w.aggregates (aggregate_at w (take i rs) q) (aggregate_at w (get_or rs i [] ∷ []) q) in
     let all = ap (λ l. count_or (aggregate_at w l q)) (sym (take-append-drop (i + 1) rs)) ∙ ap count_or (aggregate_at-append w (take (i + 1) rs) (drop (i + 1) rs) q) ∙ count_merge w.aggregates (aggregate_at w (take (i + 1) rs) q) (aggregate_at w (drop (i + 1) rs) q) in
     omega (arith, more, all)
 
-count_old : (w : WindowSpec) (rs : List Record) (m : List (Place × AccData)) (q : Place) (t : Aggregated) → aggregate_at w rs q ≡ Some t → HasRoom w rs m → t.count ≤ 2 ^ 41 → count_or (total_at m q) + t.count ≤ 2 ^ 41
-count_old w rs m q t reached room few = by_case (acc_at m q) refl
-  where
-    by_case : (o : Option AccData) → acc_at m q ≡ o → count_or (option_map (λ b. b.total) (acc_at m q)) + t.count ≤ 2 ^ 41
-    by_case None e = rw e (omega (arith, few))
-    by_case (Some b) e = rw e (room q b t e reached)
+count_old : (x : Option Aggregated) (n : ℕ) → ((a : Aggregated) → x ≡ Some a → a.count + n ≤ 2 ^ 41) → n ≤ 2 ^ 41 → count_or x + n ≤ 2 ^ 41
+count_old None n room few = omega (arith, few)
+count_old (Some a) n room few = room a refl
 
 counted : (o : Option Aggregated) → 1 ≤ count_or o → (t : Aggregated) × (o ≡ Some t)
 counted None h = absurd (omega arith)
 counted (Some t) h = (t, refl)
 
-one_counted : (w : WindowSpec) (r : Record) (q : Place) (b : Aggregated) → aggregate_at w (r ∷ []) q ≡ Some b → b.count ≡ 1
+one_counted : (w : WindowSpec) (r : Record) (q : Pane) (b : Aggregated) → aggregate_at w (r ∷ []) q ≡ Some b → b.count ≡ 1
 one_counted w r q b is = elim (is_start w q.start) as (λ s. (if s then aggregate_of w.aggregates (records_of w q (r ∷ [])) else None) ≡ Some b → b.count ≡ 1) [
   | true ↦ λ e. elim (is_at w q r) as (λ x. aggregate_of w.aggregates (cond x (r ∷ []) []) ≡ Some b → b.count ≡ 1) [ true ↦ λ f. sym (ap count_or f) | false ↦ λ f. absurd cc ] e
   | false ↦ λ e. absurd cc
 ] is
 
 -- after i records there is room for one more
-pub room_rows : (w : WindowSpec) (rs : List Record) (i : ℕ) (old now : List (Place × AccData)) → i < length rs → length rs ≤ 2 ^ 41 → HasRoom w rs old
-    → ((q : Place) → total_at now q ≡ merge w.aggregates (total_at old q) (aggregate_at w (take i rs) q)) → HasRoom w (get_or rs i [] ∷ []) now
+pub room_rows : (w : WindowSpec) (rs : List Record) (i : ℕ) (old now : FinMap pane_cmp Aggregated) → i < length rs → length rs ≤ 2 ^ 41 → HasRoomFor w rs old
+    → ((q : Pane) → get now q ≡ merge w.aggregates (get old q) (aggregate_at w (take i rs) q)) → HasRoomFor w (get_or rs i [] ∷ []) now
 room_rows w rs i old now h few room is q a b has reached =
-    let t : Some a.total ≡ merge w.aggregates (total_at old q) (aggregate_at w (take i rs) q) = sym (some_total (acc_at now q) (total_at now q) a refl has) ∙ is q in
-    let count = ap count_or t ∙ count_merge w.aggregates (total_at old q) (aggregate_at w (take i rs) q) in
+    let count = ap count_or (sym has ∙ is q) ∙ count_merge w.aggregates (get old q) (aggregate_at w (take i rs) q) in
     let one = ap count_or reached in
     let single = one_counted w (get_or rs i []) q b reached in
     let part = count_part w rs i q h in
     let all : (x : Aggregated) × (aggregate_at w rs q ≡ Some x) = counted (aggregate_at w rs q) (omega (arith, part, one, single)) in
     let whole = ap count_or all.1 in
-    let most = count_old w rs old q all.0 all.1 room (omega (arith, whole, count_at w rs q, few)) in
+    let most = count_old (get old q) all.0.count (λ x there. room q x all.0 there all.1) (omega (arith, whole, count_at w rs q, few)) in
     omega (arith, count, one, part, whole, most)
 
 -- ---- the numbers of a window as the code holds them
@@ -224,7 +182,7 @@ at_most z n m e h = omega (arith, ints)
 fits_window : (z : ℤ) → pos 1 ≤ℤ z → z ≤ℤ pos (2 ^ 40) → FitsSigned w64 z
 fits_window z h k = grind (arith, ints)
 
-pub sliding : (w : WindowSpec) (r : Record) (rest : ℕ) → IsWindow w → int_rem_euclid (at w.time r -ℤ w.offset) w.slide ≡ pos rest → Sliding w r (held w.slide) (held w.size) rest
+sliding : (w : WindowSpec) (r : Record) (rest : ℕ) → IsWindow w → int_rem_euclid (at w.time r -ℤ w.offset) w.slide ≡ pos rest → Sliding w r (held w.slide) (held w.size) rest
 sliding w r rest h is =
     let slide : w.slide ≡ pos (held w.slide) = positive_is w.slide (fits_window w.slide h.slides h.slide_small) h.slides in
     let some : 0 < held w.slide = at_least_one w.slide (held w.slide) slide h.slides in
@@ -248,6 +206,16 @@ pub start_is : (t x : ℤ) (b : ℕ) → FitsSigned w64 x → x ≡ t → IsTime
 start_is t x b fits is time small =
     let back : to_z w64 b ≡ pos b = to_z_pos w64 b (omega arith) in
     (λ i. to_z w64 (of_z w64 ((to_z-of_z w64 x fits ∙ is) i -ℤ back i))) ∙ to_z-of_z w64 (t -ℤ pos b) (fits_start t b time small)
+
+-- the same of a copy of the window operator
+pub sliding_by : (v w : WindowSpec) (r : Record) (rest : ℕ) → w ≡ v → IsWindow v → int_rem_euclid (at v.time r -ℤ v.offset) v.slide ≡ pos rest → Sliding v r (held w.slide) (held w.size) rest
+sliding_by v w r rest same range rem = subst (λ (x : WindowSpec). Sliding v r (held x.slide) (held x.size) rest) (sym same) (sliding v r rest range rem)
+
+pub start_in_range : (t : ℤ) (b : ℕ) → IsTime t → b < 2 ^ 40 → IsStart (t -ℤ pos b)
+start_in_range t b time small =
+    let above = time.above in
+    let below = time.below in
+    record { above = grind (arith, ints, above, small); below = grind (arith, ints, below) }
 
 pub key_is : (k x : ℤ) → FitsSigned w64 x → x ≡ k → to_z w64 (of_z w64 x) ≡ k
 key_is k x fits is = to_z-of_z w64 x fits ∙ is

@@ -1,25 +1,31 @@
 -- The rows of windows that fire.
-use Rattle.std.specs.Prelude.{◌≡◌, ℤ, true, false, map, filter, List, if◌then◌else◌}
+use Rattle.std.specs.Prelude.{◌≡◌, ℤ, true, false, map, filter, List, Option, Some, None, if◌then◌else◌}
 use Rattle.std.specs.List.{All, list_any}
 use Rattle.std.specs.Ordering.{is_eq}
-use Rattle.logical_plan.specs.declared.spec.WindowSpec.{WindowSpec}
-use Rattle.logical_plan.specs.declared.spec.Place.{Place}
-use Rattle.logical_plan.specs.declared.spec.Row.{Row}
-use Rattle.logical_plan.specs.Rows.{place_cmp, is_due, row_at}
+use Rattle.plan_model.specs.declared.spec.Having.{Having}
+use Rattle.plan_model.specs.declared.spec.WindowSpec.{WindowSpec}
+use Rattle.plan_model.specs.declared.spec.Pane.{Pane}
+use Rattle.plan_model.specs.declared.spec.Row.{Row}
+use Rattle.plan_model.specs.Rows.{pane_cmp, is_due, keeps, row_at}
 use Rattle.aggregates.specs.Kinds.{AccData}
 
 -- the rows of the entries that fire by a watermark, in order
-abbrev pub rows_due : WindowSpec → ℤ → List (Place × AccData) → List Row
+abbrev pub rows_due : WindowSpec → ℤ → List (Pane × AccData) → List Row
 rows_due w watermark entries = map (λ e. row_at w e.0 e.1.total) (filter (λ e. is_due w watermark e.0.start) entries)
 
--- each window of the places fires by a watermark
-abbrev pub AllDue : WindowSpec → ℤ → List Place → Type 0
-AllDue w watermark places = All (λ p. is_due w watermark p.start ≡ true) places
+-- each window of the panes fires by a watermark
+abbrev pub AllDue : WindowSpec → ℤ → List Pane → Type 0
+AllDue w watermark panes = All (λ p. is_due w watermark p.start ≡ true) panes
 
--- no window of the places fires by a watermark
-abbrev pub NoneDue : WindowSpec → ℤ → List Place → Type 0
-NoneDue w watermark places = All (λ p. is_due w watermark p.start ≡ false) places
+-- no window of the panes fires by a watermark
+abbrev pub NoneDue : WindowSpec → ℤ → List Pane → Type 0
+NoneDue w watermark panes = All (λ p. is_due w watermark p.start ≡ false) panes
 
--- the rest has the places but for one
-abbrev pub IsWithout : Place → List Place → List Place → Type 0
-IsWithout p places rest = (q : Place) → list_any (λ x. is_eq (place_cmp q x)) rest ≡ (if is_eq (place_cmp p q) then false else list_any (λ x. is_eq (place_cmp q x)) places)
+-- the rest has the panes but for one
+abbrev pub IsWithout : Pane → List Pane → List Pane → Type 0
+IsWithout p panes rest = (q : Pane) → list_any (λ x. is_eq (pane_cmp q x)) rest ≡ (if is_eq (pane_cmp p q) then false else list_any (λ x. is_eq (pane_cmp q x)) panes)
+
+-- a row that meets the having conditions
+abbrev pub kept_where : List Having → Option Row → Option Row
+kept_where having None = None
+kept_where having (Some row) = if keeps having row.values then Some row else None

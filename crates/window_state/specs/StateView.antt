@@ -1,13 +1,13 @@
--- The fields of a window state, and the value that they stand for.
+-- The fields of open windows and of a window state, and the values that they stand for.
 use Rattle.std.specs.FinMap.{from_entries}
-use Rattle.window_state.specs.declared.state.WindowState.TheInside.{Inside}
-use Rattle.window_state.specs.State.{StateData, totals}
+use Rattle.window_state.specs.declared.windows.Windows.TheInside.{Inside as WindowsInside}
+use Rattle.window_state.specs.State.{OpenWindows, totals}
 use Rattle.window_state.specs.Windows.{IsOperator, AreWindows, AreOrdered}
 
-abbrev pub state_view : Inside → StateData
-state_view s = record { window = s.window; windows = from_entries (totals s.windows.accs.entries); has_failed = s.has_failed }
+abbrev pub windows_view : WindowsInside → OpenWindows
+windows_view s = record { window = s.window; totals = from_entries (totals s.accs.entries) }
 
-pub record IsStateInside (s : Inside) : Type 0 where
+pub record IsWindowsInside (s : WindowsInside) : Type 0 where
   pub operator : IsOperator s.window
-  pub windows : AreWindows s.window s.windows.accs.entries
-  pub order : AreOrdered s.windows.places.keys s.windows.accs.entries
+  pub windows : AreWindows s.window s.accs.entries
+  pub order : AreOrdered s.panes.keys s.accs.entries

@@ -1,18 +1,17 @@
 //! Windows that fire.
 
-ghost use Rattle.std.specs.Prelude.{◌≡◌, ◌∷◌, ◌↔◌, true, None, IfSome, IfNone, IfOk, if◌then◌else◌};
-ghost use Rattle.std.specs.List.Sorted.{IsStrictlySortedBy};
-ghost use Rattle.logical_plan.specs.Rows.{is_due as due, place_cmp, row_at};
-ghost use Rattle.aggregates.specs.Kinds.{AccData};
-ghost use Rattle.logical_plan.specs.declared.spec.Place.{Place as PlaceValue};
-ghost use Rattle.window_state.specs.Windows.{AreWindows, AreOrdered, IsOperator, IsStart, acc_at};
-ghost use Rattle.window_state.specs.Firing.{rows_due, AllDue, NoneDue, IsWithout};
-ghost use Rattle.window_state.specs.Parts.{entries_at};
+ghost use Rattle.std.specs.Prelude.{◌≡◌, ◌∷◌, ◌↔◌, true, not, IfSome, IfNone, IfOk};
+ghost use Rattle.std.specs.FinMap as map;
+ghost use Rattle.std.specs.List.Sorted.{IsSortedByKey, IsStrictlySortedBy};
+ghost use Rattle.plan_model.specs.Rows.{is_due as due, pane_cmp, pane_of, row_at, AreRowsOf};
+ghost use Rattle.window_state.specs.Windows.{IsOperator, IsStart};
+ghost use Rattle.window_state.specs.State.{fired};
+ghost use Rattle.window_state.specs.Firing.{AllDue, NoneDue, IsWithout};
 
-use crate::adding::Windows;
+use crate::windows::Windows;
 use aggregates::Acc;
-use logical_plan::{Place, Row, WindowSpec};
 use plain_data::Items;
+use plan_model::{Pane, Row, WindowSpec};
 use std::alloc::{AllocError, Global};
 use std::collections::BTreeSet;
 
@@ -24,17 +23,17 @@ fn is_due(w: &WindowSpec, watermark: i64, start: i64) -> bool
     start as i128 + w.size as i128 - 1 <= watermark as i128
 }
 
-/// The row of what stands at a place.
-fn row_of(alloc: Global, w: &WindowSpec, place: Place, acc: &Acc) -> Result<Row, AllocError>
+/// The row of what stands in a pane.
+fn row_of(alloc: Global, w: &WindowSpec, pane: Pane, acc: &Acc) -> Result<Row, AllocError>
     requires operator { IsOperator w.now }
-    requires start { IsStart place.start }
-    ensures { IfOk result (λ row. row ≡ row_at w.now place acc.now.total) }
+    requires start { IsStart pane.start }
+    ensures { IfOk result (λ row. row ≡ row_at w.now pane acc.now.total) }
 {
     let values = Items::from_vec(Vec::from_slice(alloc, acc.numbers())?);
     Ok(Row {
-        start: place.start,
-        end: place.start + w.size,
-        key: place.key,
+        start: pane.start,
+        end: pane.start + w.size,
+        key: pane.key,
         values,
     })
 }
@@ -42,71 +41,64 @@ fn row_of(alloc: Global, w: &WindowSpec, place: Place, acc: &Acc) -> Result<Row,
 /// The rows of the windows that fire by the watermark, in order.
 pub(crate) fn rows_of(
     alloc: Global,
-    w: &WindowSpec,
     windows: &Windows,
     watermark: i64,
 ) -> Result<Vec<Row>, AllocError>
-    requires operator { IsOperator w.now }
-    requires windows { AreWindows w.now windows.now.accs.entries }
-    requires order { AreOrdered windows.now.places.keys windows.now.accs.entries }
-    ensures { IfOk result (λ rows. rows.items ≡ rows_due w.now watermark (entries_at windows.now.accs.entries windows.now.places.keys)) }
+    ensures rows { IfOk result (λ rows. AreRowsOf (fired windows.now.window watermark (map.get windows.now.totals)) rows.items) }
+    ensures ordered { IfOk result (λ rows. IsSortedByKey pane_of pane_cmp rows.items) }
 {
     let mut rows = Vec::new(alloc);
-    for place in &windows.places {
-        if !is_due(w, watermark, place.start) {
+    for pane in &windows.panes {
+        if !is_due(&windows.window, watermark, pane.start) {
             break;
         }
-        if let Some(acc) = windows.accs.get(place) {
-            rows.push(row_of(alloc, w, *place, acc)?)?;
+        if let Some(acc) = windows.accs.get(pane) {
+            rows.push(row_of(alloc, &windows.window, *pane, acc)?)?;
         }
     }
     Ok(rows)
 }
 
 /// Takes the windows out that fire by the watermark.
-pub(crate) fn remove_due(windows: &mut Windows, w: &WindowSpec, watermark: i64)
-    requires windows { AreWindows w.now windows.old.accs.entries }
-    requires order { AreOrdered windows.old.places.keys windows.old.accs.entries }
-    ensures windows { AreWindows w.now windows.new.accs.entries }
-    ensures order { AreOrdered windows.new.places.keys windows.new.accs.entries }
-    ensures left { (q : PlaceValue) → acc_at windows.new.accs.entries q ≡ (if due w.now watermark q.start then None else acc_at windows.old.accs.entries q) }
+pub(crate) fn remove_due(windows: &mut Windows, watermark: i64)
+    ensures { windows.new ≡ record windows.old { totals = map.retain_keys windows.old.totals (λ q. not (due windows.old.window watermark q.start)) } }
 {
-    // Clearing takes time for each place that the map has memory for.
+    // Clearing takes time for each pane that the map has memory for.
     let is_filled = windows.accs.capacity() / 4 <= windows.accs.len();
-    if is_filled && are_all_due(&windows.places, w, watermark) {
-        windows.places.clear();
+    if is_filled && are_all_due(&windows.panes, &windows.window, watermark) {
+        windows.panes.clear();
         windows.accs.clear();
     } else {
-        while let Some(place) = pop_due(&mut windows.places, w, watermark) {
-            windows.accs.swap_remove(&place);
+        while let Some(pane) = pop_due(&mut windows.panes, &windows.window, watermark) {
+            windows.accs.swap_remove(&pane);
         }
     }
 }
 
-/// Whether the window of each place fires by the watermark: that of the last does.
-fn are_all_due(places: &BTreeSet<Place>, w: &WindowSpec, watermark: i64) -> bool
-    ensures { result ≡ true ↔ AllDue w.now watermark places.now.keys }
+/// Whether the window of each pane fires by the watermark: that of the last does.
+fn are_all_due(panes: &BTreeSet<Pane>, w: &WindowSpec, watermark: i64) -> bool
+    ensures { result ≡ true ↔ AllDue w.now watermark panes.now.keys }
 {
-    match places.last() {
+    match panes.last() {
         Some(last) => is_due(w, watermark, last.start),
         None => true,
     }
 }
 
-/// Takes the first place out, where its window fires by the watermark. All windows have one size, so that
+/// Takes the first pane out, where its window fires by the watermark. All windows have one size, so that
 /// those that fire come before those that do not.
-fn pop_due(places: &mut BTreeSet<Place>, w: &WindowSpec, watermark: i64) -> Option<Place>
-    requires ordered { IsStrictlySortedBy place_cmp places.old.keys }
-    ensures taken { IfSome result (λ p. places.old.keys ≡ p ∷ places.new.keys) }
+fn pop_due(panes: &mut BTreeSet<Pane>, w: &WindowSpec, watermark: i64) -> Option<Pane>
+    requires ordered { IsStrictlySortedBy pane_cmp panes.old.keys }
+    ensures taken { IfSome result (λ p. panes.old.keys ≡ p ∷ panes.new.keys) }
     ensures due { IfSome result (λ p. due w.now watermark p.start ≡ true) }
-    ensures others { IfSome result (λ p. IsWithout p places.old.keys places.new.keys) }
-    ensures none { IfNone result (places.new.keys ≡ places.old.keys) }
-    ensures all { IfNone result (NoneDue w.now watermark places.old.keys) }
-    ensures ordered { IsStrictlySortedBy place_cmp places.new.keys }
+    ensures others { IfSome result (λ p. IsWithout p panes.old.keys panes.new.keys) }
+    ensures none { IfNone result (panes.new.keys ≡ panes.old.keys) }
+    ensures all { IfNone result (NoneDue w.now watermark panes.old.keys) }
+    ensures ordered { IsStrictlySortedBy pane_cmp panes.new.keys }
 {
-    let first = places.first()?;
+    let first = panes.first()?;
     if is_due(w, watermark, first.start) {
-        places.pop_first()
+        panes.pop_first()
     } else {
         None
     }

@@ -1,12 +1,12 @@
-//! The hash of a place, by numbers that whoever writes an input does not know.
+//! The hash of a pane, by numbers that whoever writes an input does not know.
 
 use std::hash::{BuildHasher, Hasher};
 use std::io;
 use std::random::RandomSource;
 
-/// The secret numbers by which states hash the places of their windows: the two numbers of a place are
+/// The secret numbers by which states hash the panes of their windows: the two numbers of a pane are
 /// multiplied by one each and added up with the third, and the upper half of the 128 bits is the hash.
-/// Whoever picks places without knowing the numbers makes two of them agree in k bits of their hashes
+/// Whoever picks panes without knowing the numbers makes two of them agree in k bits of their hashes
 /// with a chance of 1 in 2^k, so that no choice of keys makes a state slow. No answer depends on them.
 #[derive(Clone, Copy)]
 pub struct HashKeys {
@@ -37,15 +37,15 @@ fn random_number<R: RandomSource>(rt: &R) -> io::Result<u128> {
 }
 
 impl BuildHasher for HashKeys {
-    type Hasher = PlaceHasher;
+    type Hasher = PaneHasher;
 
     ghost use Rattle.window_state.specs.Hashing.{first_hasher};
 
     ghost build_hasher = { first_hasher };
 
     #[inline(always)]
-    fn build_hasher(&self) -> PlaceHasher {
-        PlaceHasher {
+    fn build_hasher(&self) -> PaneHasher {
+        PaneHasher {
             sum: self.addend,
             next: self.start,
             later: self.key,
@@ -53,15 +53,15 @@ impl BuildHasher for HashKeys {
     }
 }
 
-/// What the numbers of a place come to so far, and what the next two are multiplied by.
+/// What the numbers of a pane come to so far, and what the next two are multiplied by.
 #[derive(Clone, Copy)]
-pub struct PlaceHasher {
+pub struct PaneHasher {
     sum: u128,
     next: u128,
     later: u128,
 }
 
-impl Hasher for PlaceHasher {
+impl Hasher for PaneHasher {
     ghost use Rattle.window_state.specs.Hashing.{written, finished};
 
     ghost write = { written };
@@ -80,7 +80,7 @@ impl Hasher for PlaceHasher {
             number = number.wrapping_mul(256).wrapping_add(*byte as u64);
         }
         let product = self.next.wrapping_mul(number as u128);
-        *self = PlaceHasher {
+        *self = PaneHasher {
             sum: self.sum.wrapping_add(product),
             next: self.later,
             later: self.next,

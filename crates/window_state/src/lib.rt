@@ -5,13 +5,16 @@ mod adding;
 mod fault;
 mod firing;
 mod hashing;
+mod having;
 mod parts;
 mod state;
 #[cfg(test)]
 mod tests;
+mod windows;
 
 pub use fault::StateFault;
 pub use hashing::HashKeys;
-pub use logical_plan::Row;
+pub use having::keep_rows;
 pub use parts::Part;
+pub use plan_model::Row;
 pub use state::WindowState;

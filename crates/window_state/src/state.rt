@@ -3,30 +3,30 @@ ghost use Rattle.std.specs.List.{All};
 ghost use Rattle.std.specs.List.Sorted.{IsSortedByKey};
 ghost use Rattle.std.specs.FinMap as map;
 ghost use Rattle.plain_data.specs.Record.{at};
-ghost use Rattle.logical_plan.specs.declared.spec.Place.{Place as PlaceValue};
-ghost use Rattle.logical_plan.specs.Windows.{IsTime};
-ghost use Rattle.logical_plan.specs.Aggregates.{merge};
-ghost use Rattle.logical_plan.specs.Rows.{aggregate_at, is_due, place_of, place_cmp, AreRowsOf};
+ghost use Rattle.plan_model.specs.declared.spec.Pane.{Pane as PaneValue};
+ghost use Rattle.plan_model.specs.Windows.{IsTime};
+ghost use Rattle.plan_model.specs.Aggregates.{merge};
+ghost use Rattle.plan_model.specs.Rows.{aggregate_at, is_due, pane_of, pane_cmp, AreRowsOf};
 ghost use Rattle.window_state.specs.Windows.{IsOperator, CanAggregate};
 ghost use Rattle.window_state.specs.State.{HasRoomFor, fired};
 ghost use Rattle.window_state.specs.Parts.{entries_of, IsPartOf};
 
-use crate::adding::{Windows, add_batch, no_windows, put_at};
+use crate::adding::add_batch;
 use crate::fault::StateFault;
 use crate::firing::{remove_due, rows_of};
 use crate::hashing::HashKeys;
 use crate::parts::{Part, parts_of};
+use crate::windows::Windows;
 use columns::Batch;
-use logical_plan::{Row, WindowSpec};
+use plan_model::{Row, WindowSpec};
 use std::alloc::Global;
 use std::marker::Model;
 
-/// What stands in the windows that have not fired: for each place, a window's start and a key, what its
+/// What stands in the windows that have not fired: for each pane, a window's start and a key, what its
 /// records come to.
 #[derive(Drop)]
 pub struct WindowState {
     alloc: Global,
-    window: WindowSpec,
     windows: Windows,
     has_failed: bool,
 }
@@ -41,19 +41,19 @@ impl Model for WindowState {
 
     ghost coded = { Prim.hlevel (codes, windows_code) };
 
-    ghost use Rattle.window_state.specs.StateView.{state_view, IsStateInside};
-
-    ghost view = { state_view };
-
-    ghost invariant = { IsStateInside };
+    ghost view = { λ s. record {
+      window = s.windows.window;
+      windows = s.windows.totals;
+      has_failed = s.has_failed;
+    } };
 }
 
 impl WindowState {
-    /// The state of a window operator that no record has reached. Its places are hashed by the keys.
+    /// The state of a window operator that no record has reached. Its panes are hashed by the keys.
     ///
     /// # Errors
     ///
-    /// Only `Memory`.
+    /// Only where memory runs out.
     pub fn new(
         alloc: Global,
         keys: HashKeys,
@@ -63,21 +63,24 @@ impl WindowState {
         ensures made { IfOk result (λ state. state ≡ record { window = window.now; windows = map.empty; has_failed = false }) }
         ensures fault { IfErr result (λ fault. fault ≡ StateFault.Memory) }
     {
+        let windows = Windows::new(alloc, keys, window.copy(alloc)?);
         Ok(WindowState {
             alloc,
-            window: window.copy(alloc)?,
-            windows: no_windows(alloc, keys),
+            windows,
             has_failed: false,
         })
     }
 
-    /// Brings each row of a batch in at each window of its time. Where no memory is to be had, some rows
-    /// may be in and others not, and every later call answers `Failed`.
+    /// Brings each row of a batch in at each window of its time.
+    ///
+    /// # Errors
+    ///
+    /// `Memory`: some rows may be in and others not, and every later call answers `Failed`.
     pub fn add(&mut self, batch: &Batch) -> Result<(), StateFault>
         requires window { CanAggregate batch.now.width self.old.window }
         requires times { All (λ r. IsTime (at self.old.window.time r)) batch.now.rows }
         requires room { HasRoomFor self.old.window batch.now.rows self.old.windows }
-        ensures added { OnOk result ((q : PlaceValue) → map.get self.new.windows q
+        ensures added { OnOk result ((q : PaneValue) → map.get self.new.windows q
             ≡ merge self.old.window.aggregates (map.get self.old.windows q) (aggregate_at self.old.window batch.now.rows q)) }
         ensures window_stays { self.new.window ≡ self.old.window }
         ensures ok { OnOk result (self.new.has_failed ≡ false) }
@@ -89,7 +92,7 @@ impl WindowState {
         if self.has_failed {
             return Err(StateFault::Failed);
         }
-        match add_batch(&mut self.windows, &self.window, batch) {
+        match add_batch(&mut self.windows, batch) {
             Ok(()) => Ok(()),
             Err(_) => {
                 self.has_failed = true;
@@ -99,10 +102,14 @@ impl WindowState {
     }
 
     /// Takes out the windows that fire by the watermark, those whose end less 1 is at most that, and gives
-    /// their rows in the order of start and key. Where no memory is to be had, nothing is taken out.
+    /// their rows in the order of start and key.
+    ///
+    /// # Errors
+    ///
+    /// `Failed` after an `add` that found no memory; `Memory`. Then nothing is taken out.
     pub fn fire(&mut self, watermark: i64) -> Result<Vec<Row>, StateFault>
         ensures rows { IfOk result (λ rows. AreRowsOf (fired self.old.window watermark (map.get self.old.windows)) rows.items) }
-        ensures ordered { IfOk result (λ rows. IsSortedByKey place_of place_cmp rows.items) }
+        ensures ordered { IfOk result (λ rows. IsSortedByKey pane_of pane_cmp rows.items) }
         ensures left { OnOk result (self.new
             ≡ record self.old { windows = map.retain_keys self.old.windows (λ q. not (is_due self.old.window watermark q.start)) }) }
         ensures err { OnErr result (self.new ≡ self.old) }
@@ -111,12 +118,16 @@ impl WindowState {
         if self.has_failed {
             return Err(StateFault::Failed);
         }
-        let rows = rows_of(self.alloc, &self.window, &self.windows, watermark)?;
-        remove_due(&mut self.windows, &self.window, watermark);
+        let rows = rows_of(self.alloc, &self.windows, watermark)?;
+        remove_due(&mut self.windows, watermark);
         Ok(rows)
     }
 
-    /// What stands at each place, in the order of start and key.
+    /// What stands in each pane, in the order of start and key.
+    ///
+    /// # Errors
+    ///
+    /// `Failed` after an `add` that found no memory; `Memory`.
     pub fn parts(&self, alloc: Global) -> Result<Vec<Part>, StateFault>
         ensures says { IfOk result (λ parts. entries_of parts.items ≡ map.entries self.now.windows) }
         ensures sound { IfOk result (λ parts. All (IsPartOf self.now.window) parts.items) }
@@ -128,12 +139,12 @@ impl WindowState {
         Ok(parts_of(alloc, &self.windows)?)
     }
 
-    /// The state that holds the parts, with its places hashed by the keys. Where a place stands twice, the
+    /// The state that holds the parts, with its panes hashed by the keys. Where a pane stands twice, the
     /// first part counts.
     ///
     /// # Errors
     ///
-    /// Only `Memory`.
+    /// Only where memory runs out.
     pub fn from_parts(
         alloc: Global,
         keys: HashKeys,
@@ -149,18 +160,16 @@ impl WindowState {
         }) }
         ensures fault { IfErr result (λ fault. fault ≡ StateFault.Memory) }
     {
-        let mut windows = no_windows(alloc, keys);
+        let mut windows = Windows::new(alloc, keys, window.copy(alloc)?);
         let mut left = parts.len();
         while left > 0 {
             left -= 1;
             let part = &parts[left];
-            put_at(&mut windows, part.place, part.acc)?;
+            windows.put(part.pane, part.acc)?;
         }
-        let window = window.copy(alloc)?;
         let has_failed = false;
         Ok(WindowState {
             alloc,
-            window,
             windows,
             has_failed,
         })

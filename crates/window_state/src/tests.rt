@@ -1,18 +1,18 @@
 ghost use Rattle.std.specs.Prelude.{IfOk, ◌≡◌, ◌≤◌, []};
 ghost use Rattle.std.specs.List.{All};
 ghost use Rattle.plain_data.specs.Record.{at};
-ghost use Rattle.logical_plan.specs.Windows.{IsTime};
+ghost use Rattle.plan_model.specs.Windows.{IsTime};
 ghost use Rattle.window_state.specs.Windows.{CanAggregate};
 ghost use Rattle.window_state.specs.Parts.{IsPartOf};
 
 use super::*;
 use columns::Batch;
-use logical_plan::{Aggregate, Place, WindowSpec};
 use plain_data::{Items, Text};
+use plan_model::{Aggregate, Pane, Uid, WindowSpec};
 use std::alloc::{AllocError, Global};
 use std::test::Fail;
 
-// Windows of times in column 0 and keys in column 1, which count the records and add up their keys.
+/// Windows of times in column 0 and keys in column 1, which count the records and add up their keys.
 fn window(alloc: Global, size: u8, slide: u8) -> Result<WindowSpec, AllocError>
     requires sized { 1 ≤ size }
     requires slides { 1 ≤ slide }
@@ -21,7 +21,7 @@ fn window(alloc: Global, size: u8, slide: u8) -> Result<WindowSpec, AllocError>
 {
     let aggregates = vec![in alloc; Aggregate::Count, Aggregate::Sum(1)]?;
     Ok(WindowSpec {
-        uid: Text::from_string(String::new(alloc)),
+        uid: Uid::from_text(Text::from_string(String::from_str(alloc, "w")?)),
         time: 0,
         key: 1,
         size: size as i64,
@@ -32,7 +32,7 @@ fn window(alloc: Global, size: u8, slide: u8) -> Result<WindowSpec, AllocError>
     })
 }
 
-// A batch of times and keys.
+/// A batch of times and keys.
 fn batch(alloc: Global, records: &[(i32, i64)]) -> Result<Batch, Fail>
     ensures width { IfOk result (λ b. b.width ≡ 2) }
     ensures times { IfOk result (λ b. All (λ r. IsTime (at 0 r)) b.rows) }
@@ -44,14 +44,14 @@ fn batch(alloc: Global, records: &[(i32, i64)]) -> Result<Batch, Fail>
     Ok(Batch::from_rows(alloc, &rows, 2)?)
 }
 
-// A batch of no records.
+/// A batch of no records.
 fn empty(alloc: Global) -> Result<Batch, Fail>
     ensures { IfOk result (λ b. b ≡ record { width = 2; rows = [] }) }
 {
     Ok(Batch::from_rows(alloc, &[], 2)?)
 }
 
-// The state of such windows that the records have reached.
+/// The state of such windows that the records have reached.
 fn state(
     alloc: Global,
     keys: HashKeys,
@@ -67,7 +67,7 @@ fn state(
     Ok(state)
 }
 
-// The count and the sum, which are all the numbers.
+/// The count and the sum, which are all the numbers.
 fn numbers(numbers: &[i128]) -> Result<(i128, i128), Fail> {
     match numbers {
         [count, sum] => Ok((*count, *sum)),
@@ -75,7 +75,7 @@ fn numbers(numbers: &[i128]) -> Result<(i128, i128), Fail> {
     }
 }
 
-// The starts, ends, keys, counts and sums of the rows that fire by the watermark.
+/// The starts, ends, keys, counts and sums of the rows that fire by the watermark.
 fn fired(
     alloc: Global,
     state: &mut WindowState,
@@ -166,23 +166,23 @@ fn faults_have_their_codes(rt: HostRuntime) -> Result<(), Fail> {
     Ok(())
 }
 
-// The start and key, the count of records, and the two numbers of each part.
+/// The start and key, the count of records, and the two numbers of each part.
 fn contents(alloc: Global, parts: &[Part]) -> Result<Vec<(i64, i64, u64, i128, i128)>, Fail> {
     let mut contents = Vec::new(alloc);
     for part in parts {
-        let Place { start, key } = part.place;
+        let Pane { start, key } = part.pane;
         let (count, sum) = numbers(part.acc.numbers())?;
         contents.push((start, key, part.acc.count(), count, sum))?;
     }
     Ok(contents)
 }
 
-// What is held at each place.
+/// What is held in each pane.
 fn held(alloc: Global, state: &WindowState) -> Result<Vec<(i64, i64, u64, i128, i128)>, Fail> {
     contents(alloc, &state.parts(alloc)?)
 }
 
-// The parts of the state that the records have reached.
+/// The parts of the state that the records have reached.
 fn parts_of(
     alloc: Global,
     keys: HashKeys,
@@ -196,7 +196,7 @@ fn parts_of(
     Ok(state(alloc, keys, window, records)?.parts(alloc)?)
 }
 
-// The state that the parts of a state make which the records have reached.
+/// The state that the parts of a state make which the records have reached.
 fn made_again(
     alloc: Global,
     keys: HashKeys,
@@ -237,7 +237,7 @@ fn parts_make_the_state_again(rt: HostRuntime) -> Result<(), Fail> {
     Ok(())
 }
 
-// The state that two states' parts make, those of the first before those of the second.
+/// The state that two states' parts make, those of the first before those of the second.
 fn made_of_both(
     alloc: Global,
     keys: HashKeys,
@@ -254,7 +254,7 @@ fn made_of_both(
 }
 
 #[test]
-fn the_first_part_of_a_place_counts(rt: HostRuntime) -> Result<(), Fail> {
+fn the_first_part_of_a_pane_counts(rt: HostRuntime) -> Result<(), Fail> {
     let alloc = rt.alloc();
     let window = window(alloc, 10, 10)?;
     let (first, second) = ([(0, 7), (9, 7), (9, -4)], [(3, 7), (14, 7)]);
@@ -266,7 +266,7 @@ fn the_first_part_of_a_place_counts(rt: HostRuntime) -> Result<(), Fail> {
     Ok(())
 }
 
-// One record in each of a hundred windows of 10, in no order: key -k at the window that begins at 10 * k.
+/// One record in each of a hundred windows of 10, in no order: key -k at the window that begins at 10 * k.
 fn hundred(alloc: Global, window: &WindowSpec, keys: HashKeys) -> Result<WindowState, Fail>
     requires time { window.now.time ≡ 0 }
     requires aggregates { CanAggregate 2 window.now }
@@ -274,8 +274,8 @@ fn hundred(alloc: Global, window: &WindowSpec, keys: HashKeys) -> Result<WindowS
 {
     let mut records = Vec::new(alloc);
     for i in 0..100u8 {
-        let place = (i as i32 * 37) % 100;
-        records.push((place * 10 + 3, -(place as i64)))?;
+        let pane = (i as i32 * 37) % 100;
+        records.push((pane * 10 + 3, -(pane as i64)))?;
     }
     state(alloc, keys, window, &records)
 }
@@ -329,7 +329,7 @@ fn all_windows_fire_in_one_go(rt: HostRuntime) -> Result<(), Fail> {
     Ok(())
 }
 
-// What an `add` to a new state answers, and the state.
+/// What an `add` to a new state answers, and the state.
 fn added(
     alloc: Global,
     keys: HashKeys,

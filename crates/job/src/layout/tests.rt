@@ -1,9 +1,7 @@
 use super::*;
+use crate::tests::PLAN;
 use plan_compiler::ScaleFault;
 use std::test::Fail;
-
-const PLAN: &str =
-    r#"{"columns":3,"maxParallelism":128,"time":0,"key":1,"sources":[{"uid":"s","partitions":2}],"window":{"uid":"w","size":10,"aggregates":[{"fn":"count"}]}}"#;
 
 const SCALE: &str = r#"{"ring":4,"operators":{"s":{"parallelism":2},"w":{"parallelism":3}}}"#;
 

@@ -6,27 +6,27 @@ ghost use Rattle.std.proofs.Common.{rules};
 
 use super::*;
 use indexmap::IndexMap;
-use logical_plan::Place;
+use plan_model::Pane;
 use std::alloc::AllocError;
 use std::cell::Cell;
 use std::hash::{BuildHasherDefault, FoldHasher, Hash};
 use std::test::Fail;
 
-// A place that counts how often it is compared.
+// A pane that counts how often it is compared.
 #[derive(Clone, Copy)]
 struct Counted<'a> {
-    place: Place,
+    pane: Pane,
     comparisons: &'a Cell<u64>,
 }
 
 impl PartialEq for Counted<'_> {
-    ghost eq = { eq_of_both (on (λ x. x.place.start) int_eq) (on (λ x. x.place.key) int_eq) };
+    ghost eq = { eq_of_both (on (λ x. x.pane.start) int_eq) (on (λ x. x.pane.key) int_eq) };
 
     ghost laws = { Prim.search (comparing, rules) };
 
     fn eq(&self, other: &Self) -> bool {
         self.comparisons.set(self.comparisons.get().wrapping_add(1));
-        self.place.start == other.place.start && self.place.key == other.place.key
+        self.pane.start == other.pane.start && self.pane.key == other.pane.key
     }
 }
 
@@ -35,13 +35,13 @@ impl Eq for Counted<'_> {
 }
 
 impl Hash for Counted<'_> {
-    ghost hash_input = { λ x. fed.i64 x.place.start ++ fed.i64 x.place.key };
+    ghost hash_input = { λ x. fed.i64 x.pane.start ++ fed.i64 x.pane.key };
 
     ghost respects_eq = { Prim.search (hashing, rules) };
 
     fn hash<H: Hasher>(&self, state: &mut H) {
-        state.write_i64(self.place.start);
-        state.write_i64(self.place.key);
+        state.write_i64(self.pane.start);
+        state.write_i64(self.pane.key);
     }
 }
 
@@ -54,9 +54,9 @@ fn keys() -> HashKeys {
     }
 }
 
-// These places have one hash by the kit's own hasher, whose numbers are public.
-fn hostile(public: &BuildHasherDefault<FoldHasher>, start: i64) -> Place {
-    Place {
+// These panes have one hash by the kit's own hasher, whose numbers are public.
+fn hostile(public: &BuildHasherDefault<FoldHasher>, start: i64) -> Pane {
+    Pane {
         start,
         key: (public.hash_one(start) ^ 12345).cast_signed(),
     }
@@ -66,15 +66,15 @@ fn hostile(public: &BuildHasherDefault<FoldHasher>, start: i64) -> Place {
 fn comparisons<S: BuildHasher + Drop>(
     rt: &HostRuntime,
     hasher: S,
-    places: u16,
+    panes: u16,
 ) -> Result<u64, Fail> {
     let public = BuildHasherDefault::new();
     let comparisons = Cell::new(0);
     let mut map = IndexMap::with_hasher(rt.alloc(), hasher);
-    for start in 0..places {
-        let place = hostile(&public, start as i64);
+    for start in 0..panes {
+        let pane = hostile(&public, start as i64);
         let counted = Counted {
-            place,
+            pane,
             comparisons: &comparisons,
         };
         map.insert(counted, start)?;
@@ -83,7 +83,7 @@ fn comparisons<S: BuildHasher + Drop>(
 }
 
 #[test]
-fn hostile_places_are_seldom_compared(rt: HostRuntime) -> Result<(), Fail> {
+fn hostile_panes_are_seldom_compared(rt: HostRuntime) -> Result<(), Fail> {
     let public = BuildHasherDefault::<FoldHasher>::new();
     assert_eq!(rt; comparisons(&rt, public, 1000)?, 1000 * 999 / 2);
     assert!(rt; comparisons(&rt, keys(), 1000)? < 200);
@@ -104,7 +104,7 @@ fn hashes_are_those_of_the_formula(rt: HostRuntime) -> Result<(), Fail> {
             0xd441_b9ac_662d_047a,
         ),
     ] {
-        assert_eq!(rt; keys().hash_one(Place { start, key }), hash);
+        assert_eq!(rt; keys().hash_one(Pane { start, key }), hash);
     }
     Ok(())
 }

@@ -1,5 +1,5 @@
 use Rattle.std.proofs.Common.{arith}
-use Rattle.logical_plan.specs.declared.spec.Aggregate.TheVariants.{Count}
+use Rattle.plan_model.specs.declared.spec.Aggregate.TheVariants.{Count}
 use Rattle.aggregates.specs.Kinds.{kind_of}
 use Rattle.aggregates.proofs.Fronts.{writes_map}
 use Rattle.aggregates.proofs.numbers.write_kinds.Goals as goal

@@ -1,7 +1,7 @@
 use Rattle.std.proofs.Common.{◌≡◌, true, ℕ, ◌<◌, [], ◌++◌, map, take, drop, slice_index_or}
-use Rattle.logical_plan.specs.declared.spec.Aggregate.{Aggregate}
-use Rattle.logical_plan.specs.Aggregates.{number_of}
-use Rattle.aggregates.specs.Kinds.{is_i64}
+use Rattle.plan_model.specs.declared.spec.Aggregate.{Aggregate}
+use Rattle.plan_model.specs.Aggregates.{number_of}
+use Rattle.byte_fields.specs.Fields.{is_i64}
 use Rattle.aggregates.proofs.numbers.write_numbers.Given as goal
 
 abbrev pub invariant-loop-i : goal.invariant-loop-i

@@ -4,20 +4,20 @@ use Rattle.std.specs.List.{All, filter}
 use Rattle.std.proofs.lemmas.List.Elements.{All-filter}
 use Rattle.plain_data.specs.Record.{Record, at}
 use Rattle.columns.specs.Table.{Table}
-use Rattle.logical_plan.specs.declared.spec.WindowSpec.{WindowSpec}
-use Rattle.logical_plan.specs.declared.spec.FilterSpec.{FilterSpec}
-use Rattle.logical_plan.specs.Windows.{passes, IsTime}
-use Rattle.logical_plan.specs.Aggregates.{merge}
-use Rattle.logical_plan.specs.Rows.{aggregate_at}
+use Rattle.plan_model.specs.declared.spec.WindowSpec.{WindowSpec}
+use Rattle.plan_model.specs.declared.spec.FilterSpec.{FilterSpec}
+use Rattle.plan_model.specs.Windows.{passes, IsTime}
+use Rattle.plan_model.specs.Aggregates.{merge}
+use Rattle.plan_model.specs.Rows.{aggregate_at}
 use Rattle.std.specs.FinMap.{get}
-use Rattle.window_state.proofs.Slides.{length-filter}
+use Rattle.std.proofs.lemmas.List.Sums.{length-filter, count_by-le-length}
 use Rattle.job.proofs.Folds.{passing_all, no_filters, room_for}
 use Rattle.job.proofs.folding.add_batch.Goals as goal
 
 pub add-requires-else-is_empty-clause-times : goal.add-requires-else-is_empty-clause-times
 add-requires-else-is_empty-clause-times c =
     let rows : List Record = c.args.batch.now.rows in
-    let kept = ap (λ (t : Table). t.rows) c.in_ok-passing.ensures.kept in
+    let kept = ap (λ (t : Table). t.rows) c.in_ok-passing.ensures in
     let filters = c.filters-filters.ensures.says in
     let time = ap (λ (w : WindowSpec). w.time) (sym c.requires.state.window) in
     subst (λ (i : ℕ). All (λ r. IsTime (at i r)) c.in_ok-passing.field-0.rows) time
@@ -28,9 +28,14 @@ add-requires-clause-room c = room_for c.args.plan.now c.args.state.now.window (l
 
 pub add-requires-else-is_empty-clause-room : goal.add-requires-else-is_empty-clause-room
 add-requires-else-is_empty-clause-room c =
-    let kept = ap (λ (t : Table). length t.rows) c.in_ok-passing.ensures.kept in
+    let kept = ap (λ (t : Table). length t.rows) c.in_ok-passing.ensures in
     room_for c.args.plan.now c.args.state.now.window (length c.args.batch.now.rows) c.in_ok-passing.field-0.rows c.args.state.now c.requires.state
-    (omega (arith, kept, length-filter (passes c.filters-filters.result.now) c.args.batch.now.rows))
+    (omega (
+      arith,
+      kept,
+      length-filter (passes c.filters-filters.result.now) c.args.batch.now.rows,
+      count_by-le-length (passes c.filters-filters.result.now) c.args.batch.now.rows,
+    ))
 
 pub returns-in_ok-of_state : goal.returns-in_ok-of_state
 returns-in_ok-of_state c =

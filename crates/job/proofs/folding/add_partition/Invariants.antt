@@ -1,5 +1,5 @@
 use Rattle.std.proofs.Common.{take}
-use Rattle.stream_input.specs.InputData.{records_in}
+use Rattle.stream_model.specs.InputData.{records_in}
 use Rattle.job.specs.Folding.{TakesIn}
 use Rattle.job.proofs.folding.add_partition.Given as goal
 

@@ -1,4 +1,4 @@
-use Rattle.stream_input.specs.InputData.{records_in}
+use Rattle.stream_model.specs.InputData.{records_in}
 use Rattle.job.proofs.Folds.{can_take_part, takes_part}
 use Rattle.job.proofs.folding.add_source.Goals as goal
 

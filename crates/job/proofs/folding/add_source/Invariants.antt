@@ -1,5 +1,5 @@
 use Rattle.std.proofs.Common.{take}
-use Rattle.stream_input.specs.InputData.{records_in_source}
+use Rattle.stream_model.specs.InputData.{records_in_source}
 use Rattle.job.specs.Folding.{TakesIn}
 use Rattle.job.proofs.folding.add_source.Given as goal
 

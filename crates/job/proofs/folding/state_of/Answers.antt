@@ -1,6 +1,6 @@
 use Rattle.std.proofs.Common.{◌≡◌, ◌∙◌, take, length, ap, subst, arith}
 use Rattle.std.proofs.lemmas.List.{take_all}
-use Rattle.stream_input.specs.InputData.{records_in_source, all_records}
+use Rattle.stream_model.specs.InputData.{records_in_source, all_records}
 use Rattle.window_state.specs.State.{StateData}
 use Rattle.job.specs.Folding.{TakesIn}
 use Rattle.job.proofs.Folds.{can_take_part, takes_part, can_take_all, takes_all}

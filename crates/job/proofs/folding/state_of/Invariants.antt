@@ -1,5 +1,5 @@
 use Rattle.std.proofs.Common.{take}
-use Rattle.stream_input.specs.InputData.{all_records}
+use Rattle.stream_model.specs.InputData.{all_records}
 use Rattle.job.specs.Folding.{TakesIn}
 use Rattle.job.proofs.folding.state_of.Given as goal
 

@@ -1,5 +1,5 @@
 use Rattle.std.proofs.Common.{◌∙◌}
-use Rattle.job.proofs.LayoutAnswers.{plan_refused, scale_refused, written}
+use Rattle.job.proofs.LayoutAnswers.{plan_refused, scale_refused, written, kept}
 use Rattle.job.proofs.layout.job_layout.Goals as goal
 
 pub returns-in_err-plan-clause-answers : goal.returns-in_err-plan-clause-answers
@@ -16,3 +16,6 @@ pub returns-clause-answers : goal.returns-clause-answers
 returns-clause-answers g c =
     written c.args.plan.now c.args.scale.now c.in_ok-plan.plan c.in_ok-scale.scale c.in_ok-layout.layout _ c.write_text.result (g.W.Write.contents c.args.out.now) (g.W.Write.contents c.write_text.new.out)
     c.in_ok-plan.ensures c.in_ok-scale.ensures.reads c.in_ok-layout.ensures (c.as_str.ensures.value ∙ c.in_ok-text.ensures) c.write_text.ensures
+
+pub returns-clause-kept : goal.returns-clause-kept
+returns-clause-kept g c = kept _ c.write_text.result (g.W.Write.contents c.args.out.now) (g.W.Write.contents c.write_text.new.out) c.write_text.ensures

@@ -1,5 +1,4 @@
 use Rattle.std.proofs.Common.{◌≡◌, string_bytes, ◌∷◌, ◌∙◌}
-use Rattle.std.proofs.lemmas.List.{map_push}
 use Rattle.serde_json.specs.View.{view, members_view}
 use Rattle.json_parts.proofs.EachMember.{member_goes_on}
 use Rattle.json_parts.proofs.members.each_of.Goals as goal
@@ -8,4 +7,4 @@ pub loop-key-preserved : goal.loop-key-preserved
 loop-key-preserved g c =
     let step : c.loop-key.key-iterator ≡ (c.in-Some.key.now, c.in-Some.value.now) ∷ c.next.new.self = c.in-Some.ensures.steps in
     let so_far = rw step at c.loop-key.invariant in
-    rw (c.in_ok-push.ensures.items, map_push) (member_goes_on g.T.FromValue.text_of _ (string_bytes c.in-Some.key.now) _ (view c.in-Some.value.now) _ (members_view c.next.new.self) _ (c.in_ok-name.ensures.ok ∙ c.as_str.ensures.value) c.in_ok-part.ensures so_far)
+    rw c.in_ok-push.ensures.items (member_goes_on g.T.FromValue.text_of _ (string_bytes c.in-Some.key.now) _ (view c.in-Some.value.now) _ (members_view c.next.new.self) _ (c.from_string-name.ensures ∙ c.in_ok-from_str.ensures.ok ∙ c.as_str.ensures.value) c.in_ok-part.ensures so_far)

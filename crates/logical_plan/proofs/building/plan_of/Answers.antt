@@ -2,10 +2,10 @@ use Rattle.std.proofs.Common.{◌≡◌, map, rules, arith, refl, ap, sym, subst
 use Rattle.std.specs.Prelude.{unsigned_abs}
 use Rattle.std.specs.Int.{w64}
 use Rattle.std.specs.List.{All}
-use Rattle.logical_plan.specs.declared.spec.WindowSpec.{WindowSpec}
-use Rattle.logical_plan.specs.PlanData.{plan_data_of, uids}
+use Rattle.plan_model.specs.declared.spec.WindowSpec.{WindowSpec}
+use Rattle.plan_model.specs.PlanData.{plan_data_of, uids}
 use Rattle.logical_plan.specs.Answer.{source_data, filter_data, having_data, window_data, plan_data}
-use Rattle.logical_plan.proofs.Meets.{meets, is_plan, same_uids, is_small, is_small_place, having_places}
+use Rattle.logical_plan.proofs.Meets.{meets, named_parts, is_plan, same_uids, is_small, is_small_place, having_places}
 use Rattle.logical_plan.proofs.building.plan_of.Goals as goal
 
 pub narrow-requires : goal.narrow-requires
@@ -29,8 +29,17 @@ window_spec-requires-clause-aggregates c = let m = (meets c.args.text c.requires
 pub window_spec-requires-clause-having : goal.window_spec-requires-clause-having
 window_spec-requires-clause-having c = having_places c.args.text (meets c.args.text c.requires.met)
 
-pub source_specs-requires : goal.source_specs-requires
-source_specs-requires c = (meets c.args.text c.requires.met).partitions
+pub window_spec-requires-clause-uid : goal.window_spec-requires-clause-uid
+window_spec-requires-clause-uid c = (named_parts c.args.text (meets c.args.text c.requires.met)).window
+
+pub source_specs-requires-clause-uids : goal.source_specs-requires-clause-uids
+source_specs-requires-clause-uids c = (named_parts c.args.text (meets c.args.text c.requires.met)).sources
+
+pub source_specs-requires-clause-partitions : goal.source_specs-requires-clause-partitions
+source_specs-requires-clause-partitions c = (meets c.args.text c.requires.met).partitions
+
+pub filter_specs-requires-clause-uids : goal.filter_specs-requires-clause-uids
+filter_specs-requires-clause-uids c = (named_parts c.args.text (meets c.args.text c.requires.met)).filters
 
 pub filter_specs-requires-clause-columns : goal.filter_specs-requires-clause-columns
 filter_specs-requires-clause-columns c = let m = (meets c.args.text c.requires.met).columns in search rules

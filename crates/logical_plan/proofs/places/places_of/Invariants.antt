@@ -1,5 +1,5 @@
 use Rattle.std.proofs.Common.{◌≡◌, true, map, take}
-use Rattle.logical_plan.specs.Uids.{are_distinct}
+use Rattle.plan_model.specs.Uids.{are_distinct}
 use Rattle.logical_plan.specs.Places.{texts}
 use Rattle.logical_plan.proofs.places.places_of.Given as goal
 

@@ -2,7 +2,7 @@ use Rattle.std.proofs.Common.{◌≡◌, ◌≤◌, true, map, length, take}
 use Rattle.std.specs.Ordering.{nat_cmp}
 use Rattle.std.specs.Cmp.Lexicographic.{slice_cmp}
 use Rattle.std.specs.List.{list_all}
-use Rattle.logical_plan.specs.Uids.{is_uid}
+use Rattle.plan_model.specs.Uids.{is_uid}
 use Rattle.logical_plan.specs.PlanRecord.{ascending}
 use Rattle.logical_plan.proofs.record.source_uids.Given as goal
 

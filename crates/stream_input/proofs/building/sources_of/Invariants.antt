@@ -1,7 +1,6 @@
 use Rattle.std.proofs.Common.{◌≡◌, map, take}
-use Rattle.stream_input.specs.Draft.{draft_text}
 use Rattle.stream_input.specs.Said.{entry_of, partitions_under}
 use Rattle.stream_input.proofs.building.sources_of.Given as goal
 
 abbrev pub invariant-loop-spec : goal.invariant-loop-spec
-invariant-loop-spec l = l.sources.items ≡ map (λ s. map (map (entry_of l.columns)) (partitions_under s.uid (draft_text l.drafts))) (take l.spec-index l.fn.plan.sources)
+invariant-loop-spec l = l.sources.items ≡ map (λ s. map (map (entry_of l.columns)) (partitions_under s.uid l.text)) (take l.spec-index l.fn.plan.sources)

@@ -1,7 +1,7 @@
 use Rattle.std.proofs.Common.{◌≡◌, ℕ, ◌^◌, false, true, Some, None, length, sym}
 use Rattle.std.specs.Prelude.{nat_le}
-use Rattle.stream_input.specs.InputData.{all_records}
-use Rattle.stream_input.specs.Late.{first_late}
+use Rattle.stream_model.specs.InputData.{all_records}
+use Rattle.stream_model.specs.Late.{first_late}
 use Rattle.stream_input.proofs.Sound.{sources_sound, partitions_few, sources_few}
 use Rattle.stream_input.proofs.FitAnswers.{late_said, many_said, none_said}
 use Rattle.stream_input.proofs.reading.orderly.Goals as goal

@@ -1,9 +1,8 @@
 use Rattle.std.proofs.Common.{sym, ◌∙◌}
-use Rattle.stream_input.specs.Draft.{draft_text}
 use Rattle.stream_input.specs.Fit.{AreOf}
 use Rattle.stream_input.proofs.reading.sources_from.Goals as goal
 
-are_of : (c : goal.In_ok-sources) → AreOf c.args.plan.now c.in_ok-sources.sources (draft_text c.args.drafts.now)
+are_of : (c : goal.In_ok-sources) → AreOf c.args.plan.now c.in_ok-sources.sources c.args.text.now
 are_of c = (
   record {
     named = sym c.has_sources.ensures ∙ c.if-not-has_sources.false;
@@ -17,7 +16,7 @@ are_of c = (
 )
 
 pub orderly-requires : goal.orderly-requires
-orderly-requires c = (draft_text c.args.drafts.now, are_of c)
+orderly-requires c = (c.args.text.now, are_of c)
 
 pub returns : goal.returns
-returns c = c.orderly.ensures (draft_text c.args.drafts.now) (are_of c.before)
+returns c = c.orderly.ensures c.args.text.now (are_of c.before)

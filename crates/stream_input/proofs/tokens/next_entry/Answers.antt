@@ -2,8 +2,8 @@ use Rattle.std.proofs.Common.{◌≡◌, ◌++◌, List, Option, ℤ, map, Some,
 use Rattle.json_parts.specs.Parts.{whole, list_text}
 use Rattle.json_tokens.specs.Rows.{row_text, joined}
 use Rattle.json_tokens.specs.Ahead.{part}
-use Rattle.json_tokens.proofs.MemberTurns.{one_member}
-use Rattle.stream_input.specs.declared.entry.Entry.TheVariants.{Rows, Watermark}
+use Rattle.json_tokens.proofs.Facts.{one_member}
+use Rattle.stream_model.specs.declared.entry.Entry.TheVariants.{Rows, Watermark}
 use Rattle.stream_input.specs.InputText.{rows}
 use Rattle.stream_input.specs.Said.{record_of}
 use Rattle.stream_input.specs.Requirements.{is_wide, is_whole, is_time}

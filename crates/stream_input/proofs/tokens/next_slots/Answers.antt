@@ -4,8 +4,8 @@ use Rattle.json.proofs.Grammar.{read_key-shorter}
 use Rattle.json_parts.specs.Parts.{list_text}
 use Rattle.serde_json.specs.Data.{no_members, put}
 use Rattle.serde_json.specs.Read.{of_json, converted}
-use Rattle.json_tokens.proofs.Converted.{converted_some}
-use Rattle.json_tokens.proofs.MemberTurns.{members_begin, members_go_on, members_over}
+use Rattle.json_tokens.proofs.Facts.{converted_some}
+use Rattle.json_tokens.proofs.Facts.{members_begin, members_go_on, members_over}
 use Rattle.stream_input.specs.Fit.{fit_entry, IsSlots}
 use Rattle.stream_input.proofs.FitSources.{no_members_yet, member_put}
 use Rattle.stream_input.proofs.tokens.next_slots.Goals as goal

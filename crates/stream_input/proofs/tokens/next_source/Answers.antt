@@ -2,7 +2,7 @@ use Rattle.std.proofs.Common.{◌≡◌, ◌-◌, ◌<◌, length, Some, None, s
 use Rattle.json.specs.Json.{after_end_array}
 use Rattle.json_parts.specs.Parts.{list_text}
 use Rattle.json_tokens.specs.Ahead.{part}
-use Rattle.json_tokens.proofs.ItemTurns.{ItemsRead, list_opens, items_begin, items_go_on, items_over}
+use Rattle.json_tokens.proofs.Facts.{ItemsRead, list_opens, items_begin, items_go_on, items_over}
 use Rattle.stream_input.specs.Fit.{fit_entry}
 use Rattle.stream_input.proofs.tokens.next_source.Goals as goal
 

@@ -1,6 +1,6 @@
 use Rattle.std.proofs.Common.{◌-◌, length}
 use Rattle.json_parts.specs.Parts.{list_text}
-use Rattle.json_tokens.proofs.ItemTurns.{ItemsRead}
+use Rattle.json_tokens.proofs.Facts.{ItemsRead}
 use Rattle.stream_input.specs.Fit.{fit_entry}
 use Rattle.stream_input.proofs.tokens.next_source.Given as goal
 

@@ -3,7 +3,7 @@ use Rattle.json.specs.Json.{value}
 use Rattle.json.specs.Lex.{tokens}
 use Rattle.serde_json.specs.Data.{object}
 use Rattle.serde_json.specs.Read.{of_json, converted}
-use Rattle.json_tokens.proofs.Converted.{text_read}
+use Rattle.json_tokens.proofs.Facts.{text_read}
 use Rattle.stream_input.proofs.FitSources.{all_fit}
 use Rattle.stream_input.proofs.tokens.sources_in.Goals as goal
 

@@ -1,7 +1,7 @@
 use Rattle.std.proofs.Common.{◌≡◌, ◌∙◌, sym, rules, FitsSigned}
 use Rattle.std.specs.Int.{w64}
 use Rattle.std.proofs.lemmas.Int.{to_z-of_z}
-use Rattle.logical_plan.specs.Rows.{is_due}
+use Rattle.plan_model.specs.Rows.{is_due}
 use Rattle.window_state.proofs.Due.{all_due, last_due}
 use Rattle.window_state.proofs.firing.are_all_due.Goals as goal
 
@@ -10,7 +10,7 @@ returns-in-Some c =
     let w = c.args.w.now in
     let t = c.args.watermark in
     let p = c.in-Some.last.now in
-    let ps = c.args.places.now.keys in
+    let ps = c.args.panes.now.keys in
     let fits : FitsSigned w64 t = c.ranges.watermark in
     let start_fits : FitsSigned w64 p.start = search rules in
     let is : c.is_due.result ≡ is_due w t p.start = c.is_due.ensures ∙ (λ i. is_due w (to_z-of_z w64 t fits i) (to_z-of_z w64 p.start start_fits i)) in

@@ -1,15 +1,16 @@
 use Rattle.std.proofs.Common.{◌≡◌, false, length}
-use Rattle.logical_plan.specs.declared.spec.Place.{Place}
-use Rattle.logical_plan.specs.Rows.{is_due}
-use Rattle.window_state.specs.Windows.{AreWindows, AreOrdered, acc_at}
+use Rattle.plan_model.specs.declared.spec.Pane.{Pane}
+use Rattle.plan_model.specs.Rows.{is_due}
+use Rattle.window_state.specs.Windows.{acc_at}
+use Rattle.window_state.specs.StateView.{IsWindowsInside}
 use Rattle.window_state.proofs.firing.remove_due.Given as goal
 
-abbrev pub invariant-loop-place : goal.invariant-loop-place
-invariant-loop-place l = record {
-  windows : AreWindows l.w l.windows.accs.entries;
-  order : AreOrdered l.windows.places.keys l.windows.accs.entries;
-  later : (q : Place) → is_due l.w l.watermark q.start ≡ false → acc_at l.windows.accs.entries q ≡ acc_at l.fn.windows.accs.entries q;
+abbrev pub invariant-loop-pane : goal.invariant-loop-pane
+invariant-loop-pane l = record {
+  window : l.windows-inside.window ≡ l.initial.windows-inside.window;
+  sound : IsWindowsInside l.windows-inside;
+  later : (q : Pane) → is_due l.windows-inside.window l.watermark q.start ≡ false → acc_at l.windows-inside.accs.entries q ≡ acc_at l.initial.windows-inside.accs.entries q;
 }
 
-abbrev pub decreases-loop-place : goal.decreases-loop-place
-decreases-loop-place l = length l.windows.places.keys
+abbrev pub decreases-loop-pane : goal.decreases-loop-pane
+decreases-loop-pane l = length l.windows-inside.panes.keys

@@ -3,7 +3,7 @@ use Rattle.std.specs.List.{All}
 use Rattle.std.proofs.lemmas.List.Elements.{All-map}
 use Rattle.plain_data.specs.Record.{Record, at}
 use Rattle.columns.specs.Table.{Table, rows_in}
-use Rattle.logical_plan.specs.Windows.{IsTime}
+use Rattle.plan_model.specs.Windows.{IsTime}
 use Rattle.window_state.proofs.tests.batch.Goals as goal
 
 pub returns-clause-times : goal.returns-clause-times

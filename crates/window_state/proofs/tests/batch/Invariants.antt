@@ -1,6 +1,6 @@
 use Rattle.std.specs.List.{All}
 use Rattle.plain_data.specs.Record.{at}
-use Rattle.logical_plan.specs.Windows.{IsTime}
+use Rattle.plan_model.specs.Windows.{IsTime}
 use Rattle.window_state.proofs.tests.batch.Given as goal
 
 abbrev pub invariant-loop-time : goal.invariant-loop-time

@@ -1,5 +1,5 @@
 use Rattle.std.proofs.Common.{◌≡◌, ◌≤◌, ◌+◌, ◌^◌, ◌∙◌, take, ap, sym, Some}
-use Rattle.logical_plan.specs.Aggregates.{merge_numbers}
+use Rattle.plan_model.specs.Aggregates.{merge_numbers}
 use Rattle.aggregates.specs.declared.acc.Acc.TheInside.{Inside}
 use Rattle.aggregates.specs.Kinds.{AccData, merge_all}
 use Rattle.aggregates.specs.Inside.{acc_view}

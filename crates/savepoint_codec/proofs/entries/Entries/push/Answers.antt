@@ -8,7 +8,7 @@ use Rattle.savepoint_codec.proofs.entries.Entries.push.Goals as goal
 pub invariant_of-self-2 : goal.invariant_of-self-2
 invariant_of-self-2 c =
     let e = c.self.inside in
-    let head : Head = record { place = c.args.entry.place; count = c.args.entry.count } in
+    let head : Head = record { pane = c.args.entry.pane; count = c.args.entry.count } in
     let heads = c.push_reserved.ensures.items ∙ ap (λ (hs : List Head). hs ++ head ∷ []) c.in_ok-reserve.ensures.items in
     let same = c.requires ∙ sym (ap (λ (v : EntriesData). v.width) c.self.view_is) in
     keeps_width e.width e.heads.items _ e.numbers.items _ head c.args.entry.numbers.now heads c.in_ok-extend_from_slice.ensures.items same c.self.invariant
@@ -17,7 +17,7 @@ pub returns-clause-ok : goal.returns-clause-ok
 returns-clause-ok c =
     let e = c.self.inside in
     let x = entry_data c.args.entry in
-    let head : Head = record { place = c.args.entry.place; count = c.args.entry.count } in
+    let head : Head = record { pane = c.args.entry.pane; count = c.args.entry.count } in
     let heads = c.push_reserved.ensures.items ∙ ap (λ (hs : List Head). hs ++ head ∷ []) c.in_ok-reserve.ensures.items in
     let same = c.requires ∙ sym (ap (λ (v : EntriesData). v.width) c.self.view_is) in
     let grown : entries_of e.width c.push_reserved.new.self.items c.extend_from_slice.new.self.items ≡ entries_of e.width e.heads.items e.numbers.items ++ x ∷ [] =

@@ -1,11 +1,23 @@
-use Rattle.std.proofs.Common.{◌≡◌, ◌<◌, ◌-◌, ◌≤◌, drop, length, sym, ap, subst, ◌∙◌, arith, false}
-use Rattle.std.specs.FinMap.{find}
-use Rattle.logical_plan.specs.Rows.{place_cmp}
+use Rattle.std.proofs.Common.{◌≡◌, ◌<◌, ◌≤◌, drop, length, sym, ap, ◌∙◌, arith, false}
+use Rattle.std.specs.FinMap.{find, get, get-empty}
+use Rattle.std.proofs.Math.ListN.{drop_of_length-le}
+use Rattle.plan_model.specs.Rows.{pane_cmp}
 use Rattle.window_state.specs.declared.parts.Part.{Part}
-use Rattle.window_state.specs.Parts.{entries_of, IsPartOf}
-use Rattle.window_state.proofs.Updates.{Writes, windows_written}
+use Rattle.window_state.specs.State.{OpenWindows}
+use Rattle.window_state.specs.Parts.{entries_of}
 use Rattle.window_state.proofs.PartMaps.{part_written, part_next, map_of_parts}
 use Rattle.window_state.proofs.state.WindowState.from_parts.Goals as goal
+
+pub loop-left-init : goal.loop-left-init
+loop-left-init c =
+    let made = c.new-windows.ensures in
+    record {
+      few = omega arith;
+      window = ap (λ (v : OpenWindows). v.window) made ∙ c.in_ok-copy.ensures;
+      totals = λ q.
+          ap (λ (v : OpenWindows). get v.totals q) made ∙ get-empty pane_cmp q
+          ∙ ap (λ l. find pane_cmp q (entries_of l)) (sym (drop_of_length-le c.args.parts.now (omega arith)));
+    }
 
 pub loop-left-preserved : goal.loop-left-preserved
 loop-left-preserved c =
@@ -13,21 +25,16 @@ loop-left-preserved c =
     let parts = c.args.parts.now in
     let few : c.loop-left.left ≤ length parts = c.loop-left.invariant.few in
     let some : 0 < c.loop-left.left = omega arith in
-    let inside : c.loop-left.left - 1 < length parts = omega (arith, few, some) in
-    let w : Writes part.place part.acc c.loop-left.windows.accs.entries c.put_at.new.windows.accs.entries = record { at = c.in_ok-put_at.ensures.put; distinct = c.put_at.ensures.distinct } in
-    let sound : IsPartOf c.args.window.now part = subst (IsPartOf c.args.window.now) (sym c.index-parts-left.is) (c.requires.parts (c.loop-left.left - 1) part inside) in
     record {
       few = omega (arith, few);
-      windows = windows_written c.args.window.now part.place part.acc c.loop-left.windows.accs.entries c.put_at.new.windows.accs.entries w c.loop-left.invariant.windows sound.kinds sound.start;
-      order = c.put_at.ensures.order;
+      window = c.put.ensures.window_stays ∙ c.loop-left.invariant.window;
       totals = λ q.
-          part_written part (drop c.loop-left.left parts) c.loop-left.windows.accs.entries c.put_at.new.windows.accs.entries w c.loop-left.invariant.totals q
-          ∙ ap (λ l. find place_cmp q (entries_of l)) (sym (part_next parts c.loop-left.left part some few c.index-parts-left.is));
+          part_written part (drop c.loop-left.left parts) c.loop-left.windows.totals c.put.new.self.totals c.in_ok-put.ensures.put c.loop-left.invariant.totals q
+          ∙ ap (λ l. find pane_cmp q (entries_of l)) (sym (part_next parts c.loop-left.left part some few c.index-parts-left.is));
     }
 
 pub returns-clause-made : goal.returns-clause-made
 returns-clause-made c =
     let none : c.loop-left.left ≡ 0 = omega arith in
-    let windows = map_of_parts c.loop-left.windows.accs.entries c.args.parts.now
-    (λ q. c.loop-left.invariant.totals q ∙ ap (λ n. find place_cmp q (entries_of (drop n c.args.parts.now))) none) in
-    λ i. record { window = c.in_ok-window.ensures i; windows = windows i; has_failed = false }
+    let windows = map_of_parts c.loop-left.windows.totals c.args.parts.now (λ q. c.loop-left.invariant.totals q ∙ ap (λ n. find pane_cmp q (entries_of (drop n c.args.parts.now))) none) in
+    λ i. record { window = c.loop-left.invariant.window i; windows = windows i; has_failed = false }

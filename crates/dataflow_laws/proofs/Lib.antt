@@ -1,0 +1,22 @@
+pub mod Facts
+mod Sums
+mod Streams
+mod Logs
+mod Relay
+mod Reader
+mod Same
+mod Sinks
+mod Windows
+mod Taken
+mod Graph
+mod Legs
+mod Openings
+mod Ends
+mod Complete
+mod Dealing
+mod Partial
+mod SameCuts
+mod Exact
+mod Lineage
+mod Cuts
+mod Savepoints

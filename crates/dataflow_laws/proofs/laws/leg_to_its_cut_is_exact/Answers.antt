@@ -1,0 +1,5 @@
+use Rattle.dataflow_laws.proofs.Exact.{leg_to_its_cut_is_exact}
+use Rattle.dataflow_laws.proofs.laws.leg_to_its_cut_is_exact.Goals as goal
+
+pub returns : goal.returns
+returns c = leg_to_its_cut_is_exact

@@ -1,0 +1,4 @@
+mod Totals
+mod Pendings
+mod Tests
+pub mod Facts

@@ -1,0 +1,5 @@
+use Rattle.dataflow_worlds.proofs.Going.{progress}
+use Rattle.dataflow_worlds.proofs.laws.progress.Goals as goal
+
+pub returns : goal.returns
+returns c = progress

@@ -1,0 +1,5 @@
+use Rattle.input_flow.proofs.Cuts.{due_at_end}
+use Rattle.input_flow.proofs.laws.due_at_end.Goals as goal
+
+pub returns : goal.returns
+returns c = due_at_end

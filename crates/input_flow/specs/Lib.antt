@@ -1,0 +1,2 @@
+pub mod InputEntries
+pub mod Laws

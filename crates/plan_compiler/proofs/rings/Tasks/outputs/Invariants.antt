@@ -1,7 +1,0 @@
-use Rattle.std.proofs.Common.{◌≡◌, map}
-use Rattle.std.specs.List.{range_with_len}
-use Rattle.layout_rules.specs.Stages.{outputs_of}
-use Rattle.plan_compiler.proofs.rings.Tasks.outputs.Given as goal
-
-abbrev pub invariant-loop-t : goal.invariant-loop-t
-invariant-loop-t l = l.all.items ≡ map (outputs_of l.self) (range_with_len 0 l.t)

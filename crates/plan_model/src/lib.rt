@@ -1,0 +1,14 @@
+//! What a plan asks for, and what it means: filters, windows, aggregates, conditions and rows.
+#![tactic(auto)]
+
+pub mod laws;
+mod limits;
+mod spec;
+mod uid;
+
+pub use limits::{
+    LONGEST_WINDOW, MOST_AGGREGATES, MOST_COLUMNS, MOST_CONDITIONS, MOST_PARTITIONS, MOST_SOURCES,
+    MOST_WINDOWS,
+};
+pub use spec::{Aggregate, FilterSpec, Having, Pane, Row, SourceSpec, WindowSpec};
+pub use uid::{Uid, is_uid, put_uid, read_uid};

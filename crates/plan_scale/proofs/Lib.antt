@@ -1,0 +1,3 @@
+mod Named
+mod TaskCount
+mod Sound

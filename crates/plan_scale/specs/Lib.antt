@@ -1,0 +1,6 @@
+pub mod ScaleText
+pub mod Fault
+pub mod Said
+pub mod Tasks
+pub mod Requirements
+pub mod Answer

@@ -1,6 +1,0 @@
-use Rattle.std.proofs.Common.{◌≡◌}
-use Rattle.stream_input.proofs.LateRecords.{watermark_before}
-use Rattle.stream_input.proofs.late.greatest_watermark.Given as goal
-
-abbrev pub invariant-loop-entry : goal.invariant-loop-entry
-invariant-loop-entry l = l.watermark ≡ watermark_before l.entries l.entry-index

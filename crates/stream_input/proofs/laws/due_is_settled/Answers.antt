@@ -1,5 +1,0 @@
-use Rattle.stream_input.proofs.Due.{due_is_settled}
-use Rattle.stream_input.proofs.laws.due_is_settled.Goals as goal
-
-pub returns : goal.returns
-returns c = due_is_settled

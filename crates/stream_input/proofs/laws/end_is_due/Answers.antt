@@ -1,5 +1,0 @@
-use Rattle.stream_input.proofs.Snapshots.{end_is_due}
-use Rattle.stream_input.proofs.laws.end_is_due.Goals as goal
-
-pub returns : goal.returns
-returns c = end_is_due

@@ -1,5 +1,0 @@
-use Rattle.stream_input.proofs.Snapshots.{snapshot_goes_on}
-use Rattle.stream_input.proofs.laws.snapshot_goes_on.Goals as goal
-
-pub returns : goal.returns
-returns c = snapshot_goes_on

@@ -1,0 +1,7 @@
+pub mod Facts
+mod Cuts
+mod Snapshots
+mod Due
+mod Unique
+mod Greatest
+mod LateRecords

@@ -1,0 +1,73 @@
+//! Records that come too late.
+
+ghost use Rattle.std.specs.Prelude.{◌≡◌, ◌<◌, ◌≤◌, length, int_le};
+ghost use Rattle.std.specs.List.{All, list_any};
+ghost use Rattle.plain_data.specs.Record.{at};
+ghost use Rattle.stream_model.specs.InputData.{records_of_entry, IsEntry};
+ghost use Rattle.stream_model.specs.Late as lateness;
+
+use crate::entry::{Entry, Partition, Source};
+
+/// The place of the first entry with a record that comes too late: of its source, then of its
+/// partition, then its own.
+pub fn first_late(columns: usize, time: usize, sources: &[Source]) -> Option<(u32, (u32, u64))>
+    requires time_in { time < columns }
+    requires sound { All (λ ps. All (λ es. All (IsEntry columns time) es) ps) sources.now }
+    requires sources_few { length sources.now ≤ 8 }
+    requires partitions_few { All (λ ps. length ps ≤ 64) sources.now }
+    ensures { result ≡ lateness.first_late time sources.now }
+{
+    for (place, source) in sources.iter().enumerate() {
+        if let Some(found) = first_in_source(columns, time, source.as_slice()) {
+            return Some((place as u32, found));
+        }
+    }
+    None
+}
+
+fn first_in_source(columns: usize, time: usize, partitions: &[Partition]) -> Option<(u32, u64)>
+    requires time_in { time < columns }
+    requires sound { All (λ es. All (IsEntry columns time) es) partitions.now }
+    requires few { length partitions.now ≤ 64 }
+    ensures { result ≡ lateness.first_at (lateness.first_late_entry time) partitions.now }
+{
+    for (place, partition) in partitions.iter().enumerate() {
+        if let Some(entry) = first_in_partition(columns, time, partition.as_slice()) {
+            return Some((place as u32, entry));
+        }
+    }
+    None
+}
+
+fn first_in_partition(columns: usize, time: usize, entries: &[Entry]) -> Option<u64>
+    requires time_in { time < columns }
+    requires sound { All (IsEntry columns time) entries.now }
+    ensures { result ≡ lateness.first_late_entry time entries.now }
+{
+    let mut watermark = i64::MIN;
+    for (place, entry) in entries.iter().enumerate() {
+        if is_late(columns, time, watermark, entry) {
+            return Some(place as u64);
+        }
+        watermark = entry.watermark_after(watermark);
+    }
+    None
+}
+
+/// Whether a record of the entry has a time that is not greater than the watermark.
+fn is_late(columns: usize, time: usize, watermark: i64, entry: &Entry) -> bool
+    requires time_in { time < columns }
+    requires sound { IsEntry columns time entry.now }
+    ensures { result ≡ list_any (λ r. int_le (at time r) watermark) (records_of_entry entry.now) }
+{
+    match entry {
+        Entry::Rows(batch) => has_at_most(batch.column(time), watermark),
+        Entry::Watermark(_) => false,
+    }
+}
+
+fn has_at_most(times: &[i64], watermark: i64) -> bool
+    ensures { result ≡ list_any (λ t. int_le t watermark) times.now }
+{
+    times.iter().any(|time| *time <= watermark)
+}

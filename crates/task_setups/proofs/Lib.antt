@@ -1,0 +1,5 @@
+mod Standing
+mod Picked
+mod Counted
+mod Leading
+mod Reading

@@ -1,0 +1,3 @@
+pub mod Setups
+pub mod Legs
+pub mod Laws

@@ -1,0 +1,181 @@
+ghost use Rattle.std.specs.Prelude.{◌<◌};
+
+use crate::{Leg, Until, setup_of};
+use dataflow_model::{Ending, Role};
+use lane_kernels::Cmp;
+use logical_plan::Plan;
+use plain_data::Items;
+use plan_compiler::compile;
+use plan_scale::Scale;
+use std::process::Abort;
+use std::test::Fail;
+use stream_input::Input;
+use task_steps::Setup;
+
+const NO_FILTER: &str =
+    r#"{"columns":3,"maxParallelism":128,"time":0,"key":1,"sources":[{"uid":"s","partitions":2}],"window":{"uid":"w","size":10,"aggregates":[{"fn":"count"}],"having":[{"aggregate":0,"op":"ge","value":1}]}}"#;
+
+const TWO_THREE: &str = r#"{"ring":4,"operators":{"s":{"parallelism":2},"w":{"parallelism":3}}}"#;
+
+const TWO_FILTERS: &str =
+    r#"{"columns":3,"maxParallelism":128,"time":0,"key":1,"sources":[{"uid":"s","partitions":2}],"filters":[{"uid":"f","column":2,"op":"gt","value":0},{"uid":"g","column":1,"op":"lt","value":100}],"window":{"uid":"w","size":10,"aggregates":[{"fn":"count"}]}}"#;
+
+const ONE_CHAINED: &str =
+    r#"{"ring":4,"operators":{"s":{"parallelism":2},"f":{"parallelism":2},"g":{"parallelism":2,"chain":false},"w":{"parallelism":2}}}"#;
+
+const TWO_SOURCES: &str =
+    r#"{"columns":3,"maxParallelism":128,"time":1,"key":2,"sources":[{"uid":"r","partitions":1},{"uid":"s","partitions":2}],"window":{"uid":"w","size":10,"aggregates":[{"fn":"count"}]}}"#;
+
+const ONE_TWO_ONE: &str =
+    r#"{"ring":4,"operators":{"r":{"parallelism":1},"s":{"parallelism":2},"w":{"parallelism":1}}}"#;
+
+const THREE_AND_TWO: &str =
+    r#"{"s":[[{"rows":[[1,1,5],[12,1,7]]},{"watermark":9},{"rows":[[15,0,-3]]}],[{"rows":[[3,0,4]]},{"watermark":11}]]}"#;
+
+const ONE_AND_NONE: &str =
+    r#"{"r":[[{"watermark":9}]],"s":[[],[{"watermark":5},{"watermark":7}]]}"#;
+
+/// What a task is told of a leg over an input, by a plan at a scale.
+fn told(
+    rt: &(impl AllocGlobal + Abort),
+    plan: &str,
+    scale: &str,
+    input: &str,
+    leg: &Leg,
+    task: u32,
+) -> Result<Setup, Fail>
+    requires { leg.now.number < u64.MAX }
+{
+    let plan = Plan::read(rt.alloc(), plan.as_bytes())?;
+    let scale = Scale::read(rt.alloc(), &plan, scale.as_bytes())?;
+    let input = Input::read(rt.alloc(), &plan, input.as_bytes())?;
+    let layout = compile(rt.alloc(), &plan, &scale)?;
+    assert!(rt; task < layout.task_count());
+    Ok(setup_of(rt.alloc(), &plan, &input, &layout, leg, task)?)
+}
+
+/// Its role, its inputs and outputs, by how many subtasks it deals out records, its partitions, and how far
+/// each is read.
+type Want<'a> = (Role, u32, u32, Option<u32>, &'a [u32], &'a [u64]);
+
+fn check(rt: &impl Abort, setup: &Setup, want: Want) {
+    let (role, inputs, outputs, subtasks, partitions, ends) = want;
+    assert_eq!(rt; setup.role, role);
+    assert_eq!(rt; (setup.inputs, setup.outputs), (inputs, outputs));
+    let split = match setup.split {
+        Some(split) => {
+            assert_eq!(rt; split.max.get(), 128);
+            Some(split.par.get())
+        }
+        None => None,
+    };
+    assert_eq!(rt; split, subtasks);
+    assert_eq!(rt; setup.partitions.as_slice(), partitions);
+    assert_eq!(rt; setup.ends.as_slice(), ends);
+    assert_eq!(rt; setup.limits.len(), 0);
+    assert_eq!(rt; setup.saves, 0);
+}
+
+#[test]
+fn each_task_of_a_leg_to_the_end(rt: HostRuntime) -> Result<(), Fail> {
+    let leg = Leg {
+        number: 0,
+        until: Until::ToEnd,
+    };
+    let want: [Want; 6] = [
+        (Role::Source, 1, 3, Some(3), &[0], &[3]),
+        (Role::Source, 1, 3, Some(3), &[1], &[2]),
+        (Role::Window, 2, 1, None, &[], &[]),
+        (Role::Window, 2, 1, None, &[], &[]),
+        (Role::Window, 2, 1, None, &[], &[]),
+        (Role::Sink, 3, 0, None, &[], &[]),
+    ];
+    for (task, want) in want.iter().enumerate() {
+        let setup = told(&rt, NO_FILTER, TWO_THREE, THREE_AND_TWO, &leg, task as u32)?;
+        check(&rt, &setup, *want);
+        assert_eq!(rt; (setup.first, setup.ending), (1, Ending::AtEnd));
+        assert_eq!(rt; (setup.columns, setup.time, setup.key), (3, 0, 1));
+        assert_eq!(rt; setup.having.len(), 1);
+        assert_eq!(rt; setup.filters.len(), 0);
+    }
+    Ok(())
+}
+
+/// The filters of a task, each by its uid, column, comparison and number.
+fn check_filters(rt: &impl Abort, setup: &Setup, want: &[(&str, u32, Cmp, i64)]) {
+    let filters = setup.filters.as_slice();
+    assert_eq!(rt; filters.len(), want.len());
+    for (filter, want) in filters.iter().zip(want) {
+        assert_eq!(rt; filter.uid.as_str(), want.0);
+        assert_eq!(rt;
+            (filter.column, filter.cmp, filter.value),
+            (want.1, want.2, want.3)
+        );
+    }
+}
+
+#[test]
+fn a_task_has_the_filters_of_its_stage(rt: HostRuntime) -> Result<(), Fail> {
+    let leg = Leg {
+        number: 0,
+        until: Until::ToEnd,
+    };
+    let f = ("f", 2, Cmp::Gt, 0);
+    let g = ("g", 1, Cmp::Lt, 100);
+    let want: [(Want, &[(&str, u32, Cmp, i64)]); 4] = [
+        ((Role::Source, 1, 1, None, &[0], &[3]), &[f]),
+        ((Role::Chain, 1, 2, Some(2), &[], &[]), &[g]),
+        ((Role::Window, 2, 1, None, &[], &[]), &[]),
+        ((Role::Sink, 2, 0, None, &[], &[]), &[]),
+    ];
+    for (stage, (want, filters)) in want.iter().enumerate() {
+        let task = 2 * stage as u32;
+        let setup = told(&rt, TWO_FILTERS, ONE_CHAINED, THREE_AND_TWO, &leg, task)?;
+        check(&rt, &setup, *want);
+        check_filters(&rt, &setup, filters);
+    }
+    Ok(())
+}
+
+#[test]
+fn the_second_source_to_a_cut(rt: HostRuntime) -> Result<(), Fail> {
+    let r = Items::from_vec(vec![in rt.alloc(); 1]?);
+    let s = Items::from_vec(vec![in rt.alloc(); 0, 2]?);
+    let leg = Leg {
+        number: 4,
+        until: Until::ToCut(Items::from_vec(vec![in rt.alloc(); r, s]?)),
+    };
+    let want: [(Want, u32); 4] = [
+        ((Role::Source, 1, 1, Some(1), &[0], &[1]), 0),
+        ((Role::Source, 1, 1, Some(1), &[0], &[0]), 1),
+        ((Role::Source, 1, 1, Some(1), &[1], &[2]), 1),
+        ((Role::Window, 3, 1, None, &[], &[]), 0),
+    ];
+    for (task, (want, source)) in want.iter().enumerate() {
+        let setup = told(
+            &rt,
+            TWO_SOURCES,
+            ONE_TWO_ONE,
+            ONE_AND_NONE,
+            &leg,
+            task as u32,
+        )?;
+        check(&rt, &setup, *want);
+        assert_eq!(rt; setup.source, *source);
+        assert_eq!(rt; (setup.first, setup.ending), (5, Ending::AtCut));
+        assert_eq!(rt; (setup.time, setup.key), (1, 2));
+    }
+    Ok(())
+}
+
+#[test]
+fn a_cut_that_lacks_a_partition_ends_at_nothing(rt: HostRuntime) -> Result<(), Fail> {
+    let leg = Leg {
+        number: u64::MAX - 1,
+        until: Until::ToCut(Items::from_vec(Vec::new(rt.alloc()))),
+    };
+    let setup = told(&rt, NO_FILTER, TWO_THREE, THREE_AND_TWO, &leg, 1)?;
+    check(&rt, &setup, (Role::Source, 1, 3, Some(3), &[1], &[0]));
+    assert_eq!(rt; setup.first, u64::MAX);
+    Ok(())
+}

@@ -1,0 +1,12 @@
+pub mod Pending
+pub mod Dealing
+pub mod Limits
+pub mod Sending
+pub mod TaskData
+pub mod Answers
+pub mod Taking
+pub mod Firing
+pub mod Running
+pub mod Reading
+pub mod Puts
+pub mod Beginning

@@ -1,0 +1,20 @@
+//! Rows that the sink collects.
+
+ghost use Rattle.std.specs.Prelude.{◌≡◌, ◌++◌, OnOk, OnErr};
+
+use plain_data::Items;
+use plan_model::Row;
+use std::alloc::AllocError;
+
+/// Puts rows after those that are there. Where no memory is to be had, nothing has changed.
+pub(crate) fn collect(rows: &mut Vec<Row>, more: Items<Row>) -> Result<(), AllocError>
+    ensures collected { OnOk result (rows.new.items ≡ rows.old.items ++ more) }
+    ensures kept { OnErr result (rows.new.items ≡ rows.old.items) }
+{
+    let more = more.into_vec();
+    rows.reserve(more.len())?;
+    for row in more {
+        rows.push_reserved(row);
+    }
+    Ok(())
+}

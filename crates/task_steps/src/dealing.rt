@@ -1,0 +1,59 @@
+//! The records of a batch dealt out by the groups of their keys.
+
+ghost use Rattle.std.specs.Prelude.{◌≡◌, ◌<◌, ◌≤◌, map, length, IfOk};
+ghost use Rattle.std.specs.List.{All, range_with_len};
+ghost use Rattle.plain_data.specs.Record.{column_of};
+ghost use Rattle.task_steps.specs.Dealing.{owner, dealt};
+
+use columns::Batch;
+use key_groups::{MaxParallelism, Parallelism, groups_into, owner_of};
+use std::alloc::{AllocError, Global};
+
+/// The subtask that owns each key.
+fn owners_into(max: MaxParallelism, par: Parallelism, keys: &[i64], out: &mut [u32])
+    requires fits { par ≤ max }
+    requires alike { length keys.now ≡ length out.old }
+    ensures owners { out.new ≡ map (owner max par) keys.now }
+    ensures below { All (λ o. o < par) out.new }
+{
+    let _groups = max.get();
+    groups_into(keys, max, out);
+    for o in out.iter_mut() {
+        *o = owner_of(max, par, *o);
+    }
+}
+
+fn owners_of(
+    alloc: Global,
+    max: MaxParallelism,
+    par: Parallelism,
+    keys: &[i64],
+) -> Result<Vec<u32>, AllocError>
+    requires fits { par ≤ max }
+    ensures owners { IfOk result (λ owners. owners.items ≡ map (owner max par) keys.now) }
+    ensures below { IfOk result (λ owners. All (λ o. o < par) owners.items) }
+{
+    let mut owners = vec![in alloc; 0u32; keys.len()]?;
+    owners_into(max, par, keys, &mut owners);
+    Ok(owners)
+}
+
+/// The records of a batch in a piece for each subtask.
+pub(crate) fn pieces_of(
+    alloc: Global,
+    max: MaxParallelism,
+    par: Parallelism,
+    key: u32,
+    batch: &Batch,
+) -> Result<Vec<Batch>, AllocError>
+    requires fits { par ≤ max }
+    requires key { key < batch.now.width }
+    ensures pieces { IfOk result (λ pieces. pieces.items ≡ map (dealt max par key batch.now) (range_with_len 0 par)) }
+{
+    let keys = batch.column(key as usize);
+    let owners = owners_of(alloc, max, par, keys)?;
+    match batch.split(alloc, &owners, par.get()) {
+        Ok(pieces) => Ok(pieces),
+        Err(_) => Err(AllocError),
+    }
+}

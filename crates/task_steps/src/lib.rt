@@ -1,0 +1,17 @@
+//! One task of a leg, and its local steps.
+#![tactic(auto)]
+
+mod admitting;
+mod collecting;
+mod dealing;
+mod fault;
+mod firing;
+mod pending;
+mod reading;
+mod sending;
+mod setup;
+mod task;
+
+pub use fault::StepFault;
+pub use setup::{Setup, Split};
+pub use task::Task;

@@ -1,0 +1,94 @@
+//! Records that a task sends on: filtered, and made pending by the task's edge.
+
+ghost use Rattle.std.specs.Prelude.{◌≡◌, ℕ, suc, ◌+◌, ◌≤◌, ◌<◌, ◌^◌, [], length, IfOk, OnOk, OnErr, filter, nat_lt, if◌then◌else◌, Some};
+ghost use Rattle.std.specs.List.{All};
+ghost use Rattle.std.specs.VecDeque.{deque_len, deque_capacity};
+ghost use Rattle.columns.specs.Parts.{with_rows};
+ghost use Rattle.plan_model.specs.Windows.{passes};
+ghost use Rattle.dataflow_model.specs.Routes.{next_cursor};
+ghost use Rattle.task_steps.specs.Sending.{sends, IsSplit};
+
+use crate::dealing::pieces_of;
+use crate::pending::to_each;
+use crate::setup::Split;
+use columns::Batch;
+use dataflow_model::Message;
+use filtering::passing;
+use plan_model::FilterSpec;
+use std::alloc::{AllocError, Global};
+use std::collections::VecDeque;
+
+/// The records that pass all filters. Without filters nothing is copied.
+pub(crate) fn kept(alloc: Global, filters: &[FilterSpec], batch: Batch) -> Result<Batch, AllocError>
+    requires { All (λ f. f.column < batch.width) filters.now }
+    ensures { IfOk result (λ kept. kept ≡ with_rows batch (filter (passes filters.now) batch.rows)) }
+{
+    if filters.is_empty() {
+        return Ok(batch);
+    }
+    passing(alloc, filters, &batch)
+}
+
+/// The output of the batch after this one, where whole batches go to the outputs in turn.
+fn next_turn(cursor: u32, outputs: u32) -> u32
+    requires { cursor < outputs }
+    ensures { result ≡ (if nat_lt (suc cursor) outputs then suc cursor else 0) }
+{
+    if cursor + 1 < outputs { cursor + 1 } else { 0 }
+}
+
+/// Makes records pending, each for the output that owns its key.
+pub(crate) fn send_split(
+    alloc: Global,
+    split: Split,
+    key: u32,
+    pending: &mut VecDeque<(u32, Message)>,
+    batch: &Batch,
+) -> Result<(), AllocError>
+    requires idle { pending.old.items ≡ [] }
+    requires room { deque_len pending.old + split.par ≤ deque_capacity pending.old }
+    requires fits { split.par ≤ split.max }
+    requires key { key < batch.now.width }
+    ensures pending { OnOk result (pending.new.items ≡ sends (Some split) split.par key 0 batch.now) }
+    ensures kept { OnErr result (pending.new.items ≡ pending.old.items) }
+    ensures capacity { deque_capacity pending.new ≡ deque_capacity pending.old }
+{
+    let max = split.max;
+    let par = split.par;
+    let _subtasks = par.get();
+    let pieces = pieces_of(alloc, max, par, key, batch)?;
+    to_each(pending, pieces);
+    Ok(())
+}
+
+/// Makes records pending that have passed the filters. Where no memory is to be had, nothing has changed.
+pub(crate) fn send(
+    alloc: Global,
+    split: Option<Split>,
+    outputs: u32,
+    key: u32,
+    cursor: &mut u32,
+    pending: &mut VecDeque<(u32, Message)>,
+    batch: Batch,
+) -> Result<(), AllocError>
+    requires idle { pending.old.items ≡ [] }
+    requires room { deque_len pending.old + outputs ≤ deque_capacity pending.old }
+    requires turn { cursor.old < outputs }
+    requires split { IsSplit split outputs }
+    requires key { key < batch.width }
+    ensures pending { OnOk result (pending.new.items ≡ sends split outputs key cursor.old batch) }
+    ensures turn { OnOk result (cursor.new ≡ next_cursor outputs cursor.old batch.rows) }
+    ensures kept { OnErr result (pending.new.items ≡ pending.old.items) }
+    ensures kept_turn { OnErr result (cursor.new ≡ cursor.old) }
+    ensures capacity { deque_capacity pending.new ≡ deque_capacity pending.old }
+{
+    if batch.is_empty() {
+        return Ok(());
+    }
+    match split {
+        None => pending.push_back_reserved((*cursor, Message::Rows(batch))),
+        Some(split) => send_split(alloc, split, key, pending, &batch)?,
+    }
+    *cursor = next_turn(*cursor, outputs);
+    Ok(())
+}
