@@ -1,4 +1,3 @@
-pub mod Facts
 mod Sums
 mod Streams
 mod Logs
@@ -20,3 +19,23 @@ mod Exact
 mod Lineage
 mod Cuts
 mod Savepoints
+mod Building
+mod Listing
+mod Needs
+mod Worlds
+mod Events
+mod Opened
+mod Counting
+mod Reading
+mod Counts
+mod Marks
+mod Aligning
+mod Sending
+mod Admission
+mod Searching
+mod Going
+mod Falling
+mod Finishing
+mod Examples
+mod Admitted
+mod Delivered

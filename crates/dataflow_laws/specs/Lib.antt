@@ -1,3 +1,13 @@
+pub mod Needs
+pub mod World
+pub mod StepTask
+pub mod Count
+pub mod Admission
+pub mod Progress
+pub mod Measure
+pub mod Finish
+pub mod Example
 pub mod Laws
 pub mod Legs
 pub mod Savepoints
+pub mod Inputs

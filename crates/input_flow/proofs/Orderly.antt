@@ -14,7 +14,7 @@ use Rattle.stream_model.proofs.Facts.{watermark_goes_on, le_fold, partition_wate
 use Rattle.stream_model.specs.Watermarks.{IsOrderlyPartition, partition_watermark, watermark_of_entry}
 use Rattle.dataflow_model.specs.Message.{records_of}
 use Rattle.layout_rules.specs.Layouts.{source_at, number_at}
-use Rattle.task_steps.specs.Reading.{message_of, brings}
+use Rattle.input_flow.specs.InputEntries.{message_of, brings}
 use Rattle.input_flow.specs.Laws.{InputIsOrderly}
 
 -- ---- what holds of each element holds of the one at a place, or of what stands for none

@@ -12,7 +12,7 @@ use Rattle.dataflow_model.specs.Message.{records_of}
 use Rattle.dataflow_model.specs.Leg.{count_at}
 use Rattle.dataflow_model.specs.Cuts.{joined}
 use Rattle.layout_rules.specs.Below.{sum_below}
-use Rattle.task_steps.specs.Reading.{message_of}
+use Rattle.input_flow.specs.InputEntries.{message_of}
 use Rattle.input_flow.proofs.Orderly.{records_of_message}
 
 -- ---- lists, joined

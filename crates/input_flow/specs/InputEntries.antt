@@ -1,15 +1,25 @@
 -- An input as layouts and legs have it.
-use Rattle.std.specs.Prelude.{ℕ, suc, ◌==◌, List, length, slice_index_or}
-use Rattle.plain_data.specs.Times.{lowest}
+use Rattle.std.specs.Prelude.{ℕ, suc, ◌==◌, ℤ, List, length, slice_index_or, Bool, if◌then◌else◌}
+use Rattle.plain_data.specs.Times.{lowest, highest}
 use Rattle.plan_model.specs.PlanData.{PlanData}
 use Rattle.stream_model.specs.declared.entry.Entry.{Entry}
 use Rattle.stream_model.specs.declared.entry.Entry.TheVariants as entry
 use Rattle.stream_model.specs.InputData.{InputData, partition_at}
-use Rattle.stream_model.specs.Watermarks.{partition_watermark}
+use Rattle.stream_model.specs.Watermarks.{watermark_of_entry, partition_watermark}
+use Rattle.dataflow_model.specs.declared.message.Message.{Message}
+use Rattle.dataflow_model.specs.declared.message.Message.TheVariants.{Rows, Watermark}
 use Rattle.dataflow_model.specs.Leg.{count_at}
 use Rattle.dataflow_model.specs.AbstractLayout.{AbstractInput}
 use Rattle.layout_rules.specs.Layouts.{Entries, abstract_input, source_at, number_at}
-use Rattle.task_steps.specs.Reading.{message_of, brings}
+
+-- an entry as a message
+abbrev pub message_of : Entry → Message
+message_of (entry.Rows t) = Rows t
+message_of (entry.Watermark t) = Watermark t
+
+-- the watermark that an entry brings: the greatest i64 with the last one
+abbrev pub brings : Entry → Bool → ℤ
+brings e last = if last then highest else watermark_of_entry e
 
 -- entry n of a partition, by its source and its number there; past its end a watermark that moves nothing
 abbrev pub entry_at : InputData → ℕ → ℕ → ℕ → Entry

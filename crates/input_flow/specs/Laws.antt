@@ -1,17 +1,11 @@
 -- The laws that tie an input to what layouts and legs have of it.
-use Rattle.std.specs.Prelude.{◌≡◌, ℕ, ◌<◌, ℤ, List}
+use Rattle.std.specs.Prelude.{◌≡◌, ℕ, List}
 use Rattle.plan_model.specs.declared.spec.Pane.{Pane}
 use Rattle.plan_model.specs.PlanData.{PlanData, IsPlan}
-use Rattle.plan_model.specs.declared.spec.Row.{Row}
-use Rattle.plan_model.specs.Rows.{AreRowsOf}
 use Rattle.stream_model.specs.InputData.{InputData, IsInput, BelongsTo}
 use Rattle.stream_model.specs.Watermarks.{IsOrderly, IsCut, full_cut, merged_watermark, records_before}
 use Rattle.stream_model.specs.PlanRows.{passing, plan_rows, due_rows, snapshot}
 use Rattle.dataflow_model.specs.InputCuts.{AreOrderlyPartitions, IsWatermarkAt, records_up_to, snapshot_at, due_row}
-use Rattle.dataflow_model.specs.Leg.{Leg}
-use Rattle.dataflow_model.specs.AbstractLayout.{AbstractLayout, Deals}
-use Rattle.dataflow_laws.specs.Legs.{JobLeg, Legs, cut_left}
-use Rattle.dataflow_worlds.specs.Tidy.{IsAdmittedInput}
 use Rattle.input_flow.specs.InputEntries.{input_of, counts_at}
 
 -- an input whose sources are orderly has orderly partitions
@@ -38,21 +32,3 @@ DueAtCut = (p : PlanData) (i : InputData) (cut : List (List ℕ)) (q : Pane) →
 -- and at the full cut it is the plan's row
 abbrev pub DueAtEnd : Type 0
 DueAtEnd = (p : PlanData) (i : InputData) (q : Pane) → IsPlan p → IsInput i → BelongsTo p i → due_row p (input_of p i) (merged_watermark i.sources (full_cut i.sources)) q ≡ plan_rows p i.sources q
-
--- whatever layout deals an input, its entries are admitted: they have the plan's width and times in range, and at most 2^40 records
-abbrev pub InputIsAdmitted : Type 0
-InputIsAdmitted = (p : PlanData) (i : InputData) (leg : Leg) (l : AbstractLayout) → IsInput i → BelongsTo p i → Deals (input_of p i) leg l → IsAdmittedInput p l
-
--- a leg came to a cut of the input
-abbrev pub ComesTo : (p : PlanData) (i : InputData) → JobLeg p (input_of p i) → List (List ℕ) → Type 0
-ComesTo p i g cut = (q : ℕ) → q < (input_of p i).partitions → cut_left g q ≡ counts_at p cut q
-
--- legs of which the last came to a cut deliver together the plan's rows that are due there, each once, and nothing else
-abbrev pub LegsDeliverDue : Type 0
-LegsDeliverDue = (p : PlanData) (i : InputData) (g : JobLeg p (input_of p i)) (cut : List (List ℕ)) (w : ℤ) (rows : List Row) → IsInput i → IsOrderly i.time i.sources → BelongsTo p i → IsCut i.sources cut
-    → ComesTo p i g cut → Legs p (input_of p i) g w rows → AreRowsOf (due_rows p i.sources cut) rows
-
--- and where it came to the end of each partition, all of the plan's rows
-abbrev pub LegsDeliverAll : Type 0
-LegsDeliverAll = (p : PlanData) (i : InputData) (g : JobLeg p (input_of p i)) (w : ℤ) (rows : List Row) → IsPlan p → IsInput i → IsOrderly i.time i.sources → BelongsTo p i
-    → ComesTo p i g (full_cut i.sources) → Legs p (input_of p i) g w rows → AreRowsOf (plan_rows p i.sources) rows

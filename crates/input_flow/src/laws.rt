@@ -1,6 +1,6 @@
 //! Laws of the definitions, each the contract of a function that does nothing.
 
-ghost use Rattle.input_flow.specs.Laws.{InputIsOrderly, RecordsAtCut, WatermarkAtCut, SnapshotAtCut, DueAtCut, DueAtEnd, InputIsAdmitted, LegsDeliverDue, LegsDeliverAll};
+ghost use Rattle.input_flow.specs.Laws.{InputIsOrderly, RecordsAtCut, WatermarkAtCut, SnapshotAtCut, DueAtCut, DueAtEnd};
 
 /// The partitions of an input that is read are orderly, as the theorems on legs ask of a layout's sources.
 pub fn input_is_orderly()
@@ -30,21 +30,4 @@ pub fn due_at_cut()
 /// At the full cut, these are all of the plan's rows.
 pub fn due_at_end()
     ensures { DueAtEnd }
-{}
-
-/// Whatever layout deals the input, its tasks admit the entries: they have the plan's width and times in range, and at
-/// most 2^40 records together.
-pub fn input_is_admitted()
-    ensures { InputIsAdmitted }
-{}
-
-/// Whatever the layouts, the cuts between and the order of steps: one leg or more, from the beginning of the input to a
-/// cut, deliver together the plan's rows that are due there, each once, and nothing else.
-pub fn legs_deliver_due()
-    ensures { LegsDeliverDue }
-{}
-
-/// Once they have come to the end of each partition, they have delivered all of the plan's rows.
-pub fn legs_deliver_all()
-    ensures { LegsDeliverAll }
 {}

@@ -20,8 +20,7 @@ use Rattle.layout_rules.specs.Stages.{role_of, source_of, task_stage, partitions
 use Rattle.layout_rules.specs.Layouts.{partition_counts, abstract_layout}
 use Rattle.layout_rules.proofs.Facts.{compiled_is_layout}
 use Rattle.task_steps.specs.Limits.{limit_in}
-use Rattle.task_steps.specs.Reading.{message_of, brings}
-use Rattle.input_flow.specs.InputEntries.{entries_of, input_of}
+use Rattle.input_flow.specs.InputEntries.{message_of, brings, entries_of, input_of}
 use Rattle.input_flow.proofs.Facts.{same_sources, there}
 use Rattle.task_setups.specs.Laws.{EveryTaskReads, IsWithin}
 use Rattle.task_setups.specs.Setups.{setup_of, limits_at}

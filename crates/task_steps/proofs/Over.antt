@@ -2,9 +2,8 @@
 use Rattle.std.proofs.Common.{◌≡◌, ℕ, zero, suc, Bool, true, false, List, [], ◌∷◌, refl, sym, ap, subst, ◌∙◌}
 use Rattle.input_state.specs.declared.inputs.Shut.{Shut}
 use Rattle.input_state.specs.declared.inputs.Shut.TheVariants.{Free, Held, Ended}
-use Rattle.input_state.specs.declared.inputs.Aligned.TheVariants as aligned
-use Rattle.input_state.specs.Inputs.{is_free, shut_at, all_shut, any_held, alignment}
-use Rattle.std.specs.Prelude.{Option, Some, None, if◌then◌else◌}
+use Rattle.input_state.specs.Inputs.{is_free, shut_at, all_shut}
+use Rattle.std.specs.Prelude.{Option, Some, None}
 use Rattle.plan_model.specs.declared.spec.WindowSpec.{WindowSpec}
 use Rattle.window_state.specs.State.{StateData}
 use Rattle.window_state.specs.Windows.{CanAggregate}

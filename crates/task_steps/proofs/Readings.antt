@@ -25,7 +25,8 @@ use Rattle.task_steps.specs.declared.setup.Split.{Split}
 use Rattle.task_steps.specs.Dealing.{owner}
 use Rattle.task_steps.specs.Sending.{sends}
 use Rattle.task_steps.specs.TaskData.{TaskData, Stands}
-use Rattle.task_steps.specs.Reading.{message_of, brings, entries_at, ReadsFrom, IsReadable, IsMine, sends_of}
+use Rattle.input_flow.specs.InputEntries.{message_of, brings}
+use Rattle.task_steps.specs.Reading.{entries_at, ReadsFrom, IsReadable, IsMine, sends_of}
 use Rattle.task_steps.proofs.Lists.{filter_alike}
 use Rattle.task_steps.proofs.Standing.{routed}
 use Rattle.task_steps.proofs.Runnings.{can_run}

@@ -1,6 +1,6 @@
 -- What is spread over outputs.
 use Rattle.std.proofs.Common.{◌≡◌, ℕ, zero, suc, ◌<◌, ◌==◌, Bool, true, false, List, [], ◌∷◌, ◌++◌, map, length, refl, sym, ap, ◌∙◌, arith, inl, inr, eq-eqb}
-use Rattle.std.specs.Prelude.{if◌then◌else◌, nat_lt, Option, Some, None}
+use Rattle.std.specs.Prelude.{if◌then◌else◌, Option, Some, None}
 use Rattle.std.specs.List.{filter, range_with_len}
 use Rattle.plain_data.specs.Record.{Record, at}
 use Rattle.columns.specs.Table.{Table}
@@ -11,7 +11,7 @@ use Rattle.std.proofs.lemmas.List.FromFn.{length-range_with_len}
 use Rattle.std.proofs.lemmas.Bool.{cases_eq, ne_eqb, eqb-true}
 use Rattle.dataflow_model.specs.declared.message.Message.{Message}
 use Rattle.dataflow_model.specs.declared.message.Message.TheVariants.{Rows}
-use Rattle.dataflow_model.specs.Routes.{spread, batch, next_cursor}
+use Rattle.dataflow_model.specs.Routes.{spread, batch}
 use Rattle.task_steps.specs.declared.setup.Split.{Split}
 use Rattle.task_steps.specs.Dealing.{owner, dealt}
 use Rattle.task_steps.specs.Pending.{numbered}

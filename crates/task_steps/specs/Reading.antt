@@ -1,27 +1,17 @@
 -- What a source reads.
-use Rattle.std.specs.Prelude.{◌≡◌, ℕ, suc, ◌<◌, ◌≤◌, ◌==◌, ℤ, List, [], length, Bool, slice_index, slice_index_or, filter, if◌then◌else◌}
+use Rattle.std.specs.Prelude.{◌≡◌, ℕ, suc, ◌<◌, ◌≤◌, ◌==◌, List, [], length, slice_index, slice_index_or, filter}
 use Rattle.columns.specs.Parts.{with_rows}
 use Rattle.plan_model.specs.Windows.{passes}
 use Rattle.stream_model.specs.declared.entry.Entry.{Entry}
 use Rattle.stream_model.specs.declared.entry.Entry.TheVariants as entry
 use Rattle.stream_model.specs.InputData.{InputData, partition_at}
-use Rattle.stream_model.specs.Watermarks.{watermark_of_entry}
-use Rattle.plain_data.specs.Times.{highest}
+use Rattle.input_flow.specs.InputEntries.{message_of, brings}
 use Rattle.dataflow_model.specs.declared.message.Message.{Message}
-use Rattle.dataflow_model.specs.declared.message.Message.TheVariants.{Rows, Watermark}
 use Rattle.dataflow_model.specs.AbstractTask.{AbstractTask}
 use Rattle.task_steps.specs.declared.setup.Setup.{Setup}
 use Rattle.task_steps.specs.Sending.{sends}
 use Rattle.task_steps.specs.TaskData.{TaskData, limit_at}
 use Rattle.task_steps.specs.Running.{IsRunning}
-
-abbrev pub message_of : Entry → Message
-message_of (entry.Rows t) = Rows t
-message_of (entry.Watermark t) = Watermark t
-
--- the watermark that an entry brings: the greatest i64 with the last one
-abbrev pub brings : Entry → Bool → ℤ
-brings e last = if last then highest else watermark_of_entry e
 
 -- the entries of the task's partition q
 abbrev pub entries_at : Setup → InputData → ℕ → List Entry

@@ -8,7 +8,7 @@ ghost use Rattle.plan_model.specs.Windows.{passes};
 ghost use Rattle.dataflow_model.specs.Routes as routes;
 ghost use Rattle.stream_model.specs.InputData.{records_of_entry, IsEntry};
 ghost use Rattle.task_steps.specs.Sending.{IsSplit};
-ghost use Rattle.task_steps.specs.Reading.{brings, sends_of};
+ghost use Rattle.task_steps.specs.Reading.{sends_of};
 
 use crate::pending::{Notice, to_all};
 use crate::sending::send;
@@ -20,19 +20,6 @@ use plan_model::FilterSpec;
 use std::alloc::{AllocError, Global};
 use std::collections::VecDeque;
 use stream_model::Entry;
-
-/// The watermark that an entry brings.
-pub(crate) fn brought(entry: &Entry, last: bool) -> i64
-    ensures { result ≡ brings entry.now last }
-{
-    if last {
-        return i64::MAX;
-    }
-    match entry {
-        Entry::Rows(_) => i64::MIN,
-        Entry::Watermark(t) => *t,
-    }
-}
 
 /// Makes a watermark pending for every output, if there is one.
 pub(crate) fn announce(pending: &mut VecDeque<(u32, Message)>, outputs: u32, low: Option<i64>)

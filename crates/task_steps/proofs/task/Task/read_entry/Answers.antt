@@ -14,7 +14,8 @@ use Rattle.dataflow_model.specs.State.{State}
 use Rattle.dataflow_model.specs.Routes.{next_cursor, announce}
 use Rattle.dataflow_model.specs.Steps.{with_mark}
 use Rattle.task_steps.specs.TaskData.{TaskData, task_view}
-use Rattle.task_steps.specs.Reading.{HasPartitions, IsReadable, entries_at, sends_of, brings}
+use Rattle.input_flow.specs.InputEntries.{brings}
+use Rattle.task_steps.specs.Reading.{HasPartitions, IsReadable, entries_at, sends_of}
 use Rattle.task_steps.proofs.Readings.{found, there, sends_of_few, read_step, own}
 use Rattle.task_steps.proofs.task.Task.read_entry.Goals as goal
 

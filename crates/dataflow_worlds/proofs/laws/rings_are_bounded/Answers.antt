@@ -1,5 +1,0 @@
-use Rattle.dataflow_worlds.proofs.Worlds.{rings_are_bounded}
-use Rattle.dataflow_worlds.proofs.laws.rings_are_bounded.Goals as goal
-
-pub returns : goal.returns
-returns c = rings_are_bounded

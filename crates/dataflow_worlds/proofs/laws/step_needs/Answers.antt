@@ -1,5 +1,0 @@
-use Rattle.dataflow_worlds.proofs.Needs.{step_needs}
-use Rattle.dataflow_worlds.proofs.laws.step_needs.Goals as goal
-
-pub returns : goal.returns
-returns c = step_needs

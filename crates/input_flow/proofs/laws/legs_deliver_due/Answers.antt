@@ -1,5 +1,0 @@
-use Rattle.input_flow.proofs.Delivered.{legs_deliver_due}
-use Rattle.input_flow.proofs.laws.legs_deliver_due.Goals as goal
-
-pub returns : goal.returns
-returns c = legs_deliver_due
