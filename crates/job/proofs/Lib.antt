@@ -1,4 +1,5 @@
 mod Folds
+mod Unique
 mod PlanText
 mod Refusals
 mod Numerals

@@ -24,7 +24,7 @@ use Rattle.stream_model.specs.InputData.{InputData, IsInput, IsEntry, records_of
 use Rattle.stream_model.specs.Watermarks.{records_before, records_before_in, full_cut}
 use Rattle.plain_data.specs.Times.{highest}
 use Rattle.stream_model.specs.PlanRows.{passing, plan_aggregate, plan_rows}
-use Rattle.stream_model.specs.Text.{IsTextOf, text_of_rows}
+use Rattle.job.specs.Text.{IsTextOf, text_of_rows}
 use Rattle.window_state.specs.State.{StateData, fired}
 use Rattle.window_state.specs.Firing.{kept_where}
 use Rattle.job.specs.Folding.{HasAll}

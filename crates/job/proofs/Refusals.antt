@@ -10,7 +10,7 @@ use Rattle.stream_model.specs.InputData.{InputData}
 use Rattle.stream_input.specs.Answer.{input_of_bytes}
 use Rattle.stream_input.specs.Answer as inputs
 use Rattle.stream_model.specs.PlanRows.{plan_rows}
-use Rattle.stream_model.specs.Text.{IsTextOf}
+use Rattle.job.specs.Text.{IsTextOf}
 use Rattle.stream_input.specs.declared.fault.InputFault.{InputFault}
 use Rattle.stream_input.specs.declared.fault.InputFault.TheVariants as input
 use Rattle.layout_rules.specs.ScaleData.{ScaleData}

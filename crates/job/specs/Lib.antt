@@ -1,6 +1,7 @@
 pub mod Fault
 pub mod FaultText
 pub mod Folding
+pub mod Text
 pub mod Group
 pub mod Layout
 pub mod LayoutText

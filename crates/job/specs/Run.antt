@@ -6,7 +6,7 @@ use Rattle.logical_plan.specs.Answer.{plan_of_bytes}
 use Rattle.stream_model.specs.InputData.{InputData}
 use Rattle.stream_input.specs.Answer.{input_of_bytes}
 use Rattle.stream_model.specs.PlanRows.{plan_rows}
-use Rattle.stream_model.specs.Text.{IsTextOf}
+use Rattle.job.specs.Text.{IsTextOf}
 use Rattle.logical_plan.specs.declared.fault.PlanFault.{PlanFault}
 use Rattle.stream_input.specs.declared.fault.InputFault.{InputFault}
 use Rattle.job.specs.declared.fault.JobFault.{JobFault}

@@ -7,7 +7,7 @@ use Rattle.savepoint_codec.specs.declared.savepoint.SavedSource.{SavedSource}
 use Rattle.savepoint_codec.specs.declared.savepoint.SavedGroup.{SavedGroup}
 use Rattle.savepoint_codec.specs.declared.savepoint.Contents.{Contents}
 use Rattle.savepoint_codec.specs.EntriesData.{EntryData}
-use Rattle.stream_model.specs.Text.{spaced}
+use Rattle.job.specs.Text.{spaced}
 use Rattle.job.specs.LayoutText.{spaced as count_word}
 
 abbrev pub partition_line : List ℕ → ℕ × SavedPartition → List ℕ

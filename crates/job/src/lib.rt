@@ -4,6 +4,7 @@
 mod fault;
 mod folding;
 mod group;
+pub mod laws;
 mod layout;
 mod layout_text;
 #[cfg(test)]

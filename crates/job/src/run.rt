@@ -3,7 +3,7 @@
 ghost use Rattle.std.specs.Prelude.{◌≡◌, MatchResult, string_bytes};
 ghost use Rattle.stream_model.specs.InputData.{BelongsTo};
 ghost use Rattle.stream_model.specs.PlanRows.{plan_rows};
-ghost use Rattle.stream_model.specs.Text.{IsTextOf};
+ghost use Rattle.job.specs.Text.{IsTextOf};
 ghost use Rattle.std.specs.Io.KnownBytes.{Appends};
 ghost use Rattle.job.specs.Run.{Answers, run_said};
 ghost use Rattle.job.specs.Tells.{KeepsWriter};

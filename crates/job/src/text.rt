@@ -2,7 +2,7 @@
 
 ghost use Rattle.std.specs.Prelude.{◌≡◌, ◌++◌, OnOk, IfOk, string_bytes};
 ghost use Rattle.std.specs.Fmt.{signed_decimal};
-ghost use Rattle.stream_model.specs.Text.{line_of, spaced, text_of_rows};
+ghost use Rattle.job.specs.Text.{line_of, spaced, text_of_rows};
 
 use crate::number::{push_decimal, push_number, push_numbers};
 use plan_model::Row;

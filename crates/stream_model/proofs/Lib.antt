@@ -2,6 +2,5 @@ pub mod Facts
 mod Cuts
 mod Snapshots
 mod Due
-mod Unique
 mod Greatest
 mod LateRecords

@@ -1,5 +1,5 @@
 -- The laws of watermarks, cuts and the plan's rows.
-use Rattle.std.specs.Prelude.{◌≡◌, ◌≢◌, ℕ, ◌+◌, ◌<◌, ℤ, ◌≤ℤ◌, ◌⊎◌, true, false, List, length, slice_index_or, take, Option, Some, None, if◌then◌else◌}
+use Rattle.std.specs.Prelude.{◌≡◌, ◌≢◌, ℕ, ◌+◌, ◌<◌, ℤ, ◌≤ℤ◌, ◌⊎◌, true, false, List, length, slice_index_or, take, Some, None, if◌then◌else◌}
 use Rattle.std.specs.Int.{int_max}
 use Rattle.std.specs.List.{All, AllByRecursion, list_any}
 use Rattle.std.specs.Option.{option_and_then}
@@ -15,7 +15,6 @@ use Rattle.stream_model.specs.InputData.{InputData, IsInput, BelongsTo}
 use Rattle.stream_model.specs.Watermarks.{watermark_of_entry, partition_watermark, merged_watermark, records_before, records_between, full_cut, empty_cut, IsOrderly, IsCut, IsBefore}
 use Rattle.plain_data.specs.Times.{lowest, highest}
 use Rattle.stream_model.specs.PlanRows.{plan_aggregate, plan_rows, due_rows, snapshot, carried}
-use Rattle.stream_model.specs.Text.{IsTextOf}
 
 -- short of its end, a partition's watermark is at least each watermark before it, and is one of them or the least i64
 abbrev pub WatermarkIsGreatest : Type 0
@@ -70,7 +69,3 @@ CarriedFires = (plan : PlanData) (i : InputData) (b c : List (List ℕ)) (q : Pa
     → is_due plan.window (merged_watermark i.sources b) q.start ≡ false
     → due_rows plan i.sources c q
     ≡ (if is_due plan.window (merged_watermark i.sources c) q.start then option_and_then (kept_row plan.window q) (carried plan i.sources b c q) else None)
-
--- rows have one text
-abbrev pub TextIsDetermined : Type 0
-TextIsDetermined = (f : Pane → Option Row) (s t : List ℕ) → IsTextOf f s → IsTextOf f t → s ≡ t

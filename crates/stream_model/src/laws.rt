@@ -1,6 +1,6 @@
 //! Laws of the definitions, each the contract of a function that does nothing.
 
-ghost use Rattle.stream_model.specs.Laws.{WatermarkIsGreatest, WatermarkGoesOn, DueIsSettled, DueStays, CutsMerge, EndIsDue, DueRowsStay, NothingAtFirst, SnapshotGoesOn, CarriedFires, TextIsDetermined};
+ghost use Rattle.stream_model.specs.Laws.{WatermarkIsGreatest, WatermarkGoesOn, DueIsSettled, DueStays, CutsMerge, EndIsDue, DueRowsStay, NothingAtFirst, SnapshotGoesOn, CarriedFires};
 
 /// Short of its end, a partition's watermark is the greatest among its entries so far: it bounds each of
 /// them, and is one of them or the least i64.
@@ -52,9 +52,4 @@ pub fn snapshot_goes_on()
 /// What fires between two cuts are the rows of the earlier snapshot, merged with the records between.
 pub fn carried_fires()
     ensures { CarriedFires }
-{}
-
-/// The rows of a plan in the order of start and key, and so their text, are determined.
-pub fn text_is_determined()
-    ensures { TextIsDetermined }
 {}

@@ -3,7 +3,7 @@ use Rattle.plan_model.specs.declared.spec.Having.{Having}
 use Rattle.plan_model.specs.declared.spec.WindowSpec.{WindowSpec}
 use Rattle.plan_model.specs.Rows.{AreRowsOf}
 use Rattle.plain_data.specs.Times.{highest}
-use Rattle.stream_model.specs.Text.{text_of_rows}
+use Rattle.job.specs.Text.{text_of_rows}
 use Rattle.std.specs.FinMap.{get}
 use Rattle.window_state.specs.State.{fired}
 use Rattle.window_state.specs.Firing.{kept_where}

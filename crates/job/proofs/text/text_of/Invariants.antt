@@ -1,5 +1,5 @@
 use Rattle.std.proofs.Common.{◌≡◌, take, string_bytes}
-use Rattle.stream_model.specs.Text.{text_of_rows}
+use Rattle.job.specs.Text.{text_of_rows}
 use Rattle.job.proofs.text.text_of.Given as goal
 
 abbrev pub invariant-loop-row : goal.invariant-loop-row

@@ -8,9 +8,9 @@ use Rattle.std.proofs.lemmas.List.Sorted.{sorted_far, ranks_by}
 use Rattle.plan_model.specs.declared.spec.Pane.{Pane}
 use Rattle.plan_model.specs.declared.spec.Row.{Row}
 use Rattle.plan_model.specs.Rows.{pane_of, pane_cmp, row_is_at}
-use Rattle.stream_model.specs.Text.{IsTextOf, line_of}
+use Rattle.job.specs.Text.{IsTextOf, line_of}
 use Rattle.plan_model.proofs.Facts.{pane_cmp_total}
-use Rattle.stream_model.proofs.Due.{filter_nothing}
+use Rattle.stream_model.proofs.Facts.{filter_nothing}
 
 abbrev before : Row → Row → Bool
 before x y = is_lt (pane_cmp (pane_of x) (pane_of y))

@@ -25,3 +25,7 @@ pub record IsTextOf (f : Pane → Option Row) (text : List ℕ) : Type 0 where
   pub are : AreRowsOf f rows
   pub ordered : IsSortedByKey pane_of pane_cmp rows
   pub lines : text ≡ text_of_rows rows
+
+-- rows have one text
+abbrev pub TextIsDetermined : Type 0
+TextIsDetermined = (f : Pane → Option Row) (s t : List ℕ) → IsTextOf f s → IsTextOf f t → s ≡ t
