@@ -15,10 +15,11 @@ use Rattle.dataflow_model.specs.declared.role.Role.TheVariants.{Source, Chain, W
 use Rattle.dataflow_model.specs.AbstractTask.{AbstractTask}
 use Rattle.dataflow_model.specs.State.{State}
 use Rattle.dataflow_model.specs.Opening.{IsOpening, IsUntouched}
-use Rattle.dataflow_model.specs.AbstractLayout.{AbstractLayout, IsLayout, AbstractInput, reader_of, place_in_reader, partition_read}
+use Rattle.dataflow_model.specs.Leg.{Leg}
+use Rattle.dataflow_model.specs.AbstractLayout.{AbstractLayout, IsLayout, AbstractInput, Deals, reader_of, place_in_reader, partition_read}
 use Rattle.dataflow_model.specs.Cuts.{cut_of, IsOrderlyInput, IsMergedWatermark, joined, aggregate_until, row_between}
 use Rattle.dataflow_model.specs.InputCuts.{AreOrderlyPartitions, IsWatermarkAt, aggregate_up_to, snapshot_at, due_row}
-use Rattle.dataflow_model.specs.Start.{IsStart}
+use Rattle.dataflow_model.specs.Start.{AreOpenings, IsStart}
 use Rattle.dataflow_laws.specs.Laws.{IsExact}
 use Rattle.dataflow_laws.specs.Legs.{AreAt, JobLeg, IsBetween, BeginsAnew, GoesOn, leg_rows, cut_left, Legs, HaveSnapshot, LeaveSnapshot, LegBetweenIsExact, LegsAreExact}
 use Rattle.dataflow_laws.specs.Legs.Legs.{first, next}
@@ -28,25 +29,57 @@ use Rattle.dataflow_laws.proofs.Graph.{read_at}
 use Rattle.dataflow_laws.proofs.Legs.{IsBegun, aggregate_between, later_watermark}
 use Rattle.dataflow_laws.proofs.Openings.{begun}
 use Rattle.dataflow_laws.proofs.Complete.{flow_of, drained}
-use Rattle.dataflow_laws.proofs.Dealing.{same_up_to, merged_of, orderly_of}
+use Rattle.dataflow_laws.proofs.Dealing.{IsSame, same_up_to, merged_of, orderly_of}
 use Rattle.dataflow_laws.proofs.Exact.{leg_is_exact}
+
+-- a layout that deals the input, and a cut of its tasks that is a cut of the input
+module _ (p : PlanData) (i : AbstractInput) (o : AreOrderlyPartitions p i) (leg : Leg) (l : AbstractLayout) (d : Deals i leg l) where
+  -- how many entries the partitions have
+  sizes : ℕ → ℕ → ℕ
+  sizes t k = (l.task t).size k
+
+  sizes_are : (t k : ℕ) → t < l.before → (l.task t).role ≡ Source → k < (l.task t).inputs → sizes t k ≡ i.size (partition_read i l t k)
+  unfolding sizes
+  sizes_are t k b a kl = (d.there t k b a kl).size
+
+  -- what a pane that is due comes to is what it comes to on the whole input
+  whole_at : (mine : ℕ → ℕ → ℕ) (cut : ℕ → ℕ) (v : ℤ) → IsSame i leg l d mine cut
+      → ((t k : ℕ) → t < l.before → (l.task t).role ≡ Source → k < (l.task t).inputs → mine t k ≤ (l.task t).size k) → IsWatermarkAt i cut v
+      → (q : Pane) → is_due p.window v q.start ≡ true → aggregate_up_to p i cut q ≡ aggregate_up_to p i i.size q
+  unfolding sizes
+  whole_at mine cut v same within wt q due =
+      let merged = merged_of i leg l d mine cut v same wt in
+      sym (same_up_to i leg l d p mine cut same q)
+      ∙ aggregate_between p l (orderly_of i leg l d p o) q mine sizes v due (λ t k b a kl. let h = within t k b a kl in (h, omega arith, merged.below t k b a kl))
+      ∙ same_up_to i leg l d p sizes i.size sizes_are q
+
+  -- the row of a pane that becomes due
+  pub row_at : (mine : ℕ → ℕ → ℕ) (cut : ℕ → ℕ) (w v : ℤ) → IsSame i leg l d mine cut
+      → ((t k : ℕ) → t < l.before → (l.task t).role ≡ Source → k < (l.task t).inputs → mine t k ≤ (l.task t).size k) → IsWatermarkAt i cut v
+      → (q : Pane) → option_to_list (row_between p w v q (aggregate_until p l mine q)) ≡ option_to_list (if is_due p.window w q.start then None else due_row p i v q)
+  row_at mine cut w v same within wt q =
+      elim (cases_Bool (is_due p.window v q.start)) [
+        | inl e ↦ ap (λ a. option_to_list (row_between p w v q a)) (same_up_to i leg l d p mine cut same q ∙ whole_at mine cut v same within wt q e)
+        | inr e ↦ rw e refl
+      ]
+
+  -- tasks that open with the snapshot of a cut of the input
+  pub starts_at : (start : ℕ → State) (cut : ℕ → ℕ) (w : ℤ) → AreOpenings p l start → AreAt i l start cut → HaveSnapshot p i l start cut w → IsWatermarkAt i cut w → IsStart p l start w
+  starts_at start cut w opens begins restored wf = record {
+    opens = opens;
+    merged = merged_of i leg l d (cut_of start) cut w begins wf;
+    windows = λ u b m q. restored u b m q ∙ ap (λ a. cond (eqb (l.owner q.key) u) (cond (is_due p.window w q.start) None a) None) (sym (same_up_to i leg l d p (cut_of start) cut begins q));
+  }
 
 module _ (p : PlanData) (i : AbstractInput) (from to : ℕ → ℕ) (w v : ℤ) (o : AreOrderlyPartitions p i) (wf : IsWatermarkAt i from w) (g : JobLeg p i) (bt : IsBetween p i g from w to) (wt : IsWatermarkAt i to v) where
   orderly : IsOrderlyInput p g.layout
   orderly = orderly_of i g.leg g.layout g.deals p o
 
-  merged_from : IsMergedWatermark g.layout (cut_of g.start) w
-  merged_from = merged_of i g.leg g.layout g.deals (cut_of g.start) from w bt.begins wf
+  starts : IsStart p g.layout g.start w
+  starts = starts_at p i o g.leg g.layout g.deals g.start from w bt.opens bt.begins bt.restored wf
 
   merged_to : IsMergedWatermark g.layout (cut_of g.history.end) v
   merged_to = merged_of i g.leg g.layout g.deals (cut_of g.history.end) to v bt.comes wt
-
-  starts : IsStart p g.layout g.start w
-  starts = record {
-    opens = bt.opens;
-    merged = merged_from;
-    windows = λ u b m q. bt.restored u b m q ∙ ap (λ a. cond (eqb (g.layout.owner q.key) u) (cond (is_due p.window w q.start) None a) None) (sym (same_up_to i g.leg g.layout g.deals p (cut_of g.start) from bt.begins q));
-  }
 
   exact : IsExact p g.layout w v (cut_of g.history.end) g.history.end
   exact = leg_is_exact p g.layout g.start w v g.is_layout orderly g.is_leg starts g.history g.complete merged_to
@@ -63,40 +96,14 @@ module _ (p : PlanData) (i : AbstractInput) (from to : ℕ → ℕ) (w v : ℤ) 
       let z = g.is_leg.within t k b a kl in
       (x, omega (arith, y, z))
 
-  sizes : ℕ → ℕ → ℕ
-  sizes t k = (g.layout.task t).size k
-
-  sizes_are : (t k : ℕ) → t < g.layout.before → (g.layout.task t).role ≡ Source → k < (g.layout.task t).inputs → sizes t k ≡ i.size (partition_read i g.layout t k)
-  unfolding sizes
-  sizes_are t k b a kl = (g.deals.there t k b a kl).size
-
-  -- what a pane that is due comes to is what it comes to on the whole input
-  whole : (q : Pane) → is_due p.window v q.start ≡ true → aggregate_up_to p i to q ≡ aggregate_up_to p i i.size q
-  unfolding sizes
-  whole q due =
-      sym (same_up_to i g.leg g.layout g.deals p (cut_of g.history.end) to bt.comes q)
-      ∙ aggregate_between p g.layout orderly q (cut_of g.history.end) sizes v due (λ t k b a kl. let c = counts t k b a kl in (c.1, omega arith, merged_to.below t k b a kl))
-      ∙ same_up_to i g.leg g.layout g.deals p sizes i.size sizes_are q
-
   whole_before : (q : Pane) → is_due p.window w q.start ≡ true → aggregate_up_to p i from q ≡ aggregate_up_to p i i.size q
-  unfolding sizes
-  whole_before q due =
-      sym (same_up_to i g.leg g.layout g.deals p (cut_of g.start) from bt.begins q)
-      ∙ aggregate_between p g.layout orderly q (cut_of g.start) sizes w due (λ t k b a kl. let c = counts t k b a kl in (omega (arith, c), omega arith, merged_from.below t k b a kl))
-      ∙ same_up_to i g.leg g.layout g.deals p sizes i.size sizes_are q
+  whole_before = whole_at p i o g.leg g.layout g.deals (cut_of g.start) from w bt.begins (λ t k b a kl. let c = counts t k b a kl in omega (arith, c)) wf
 
   rises : w ≤ℤ v
   rises = later_watermark p g.layout g.is_layout g.start w known (flow_of g.history) (drained p g.layout g.is_layout g.start g.is_leg bt.opens g.history g.complete) v merged_to
 
-  row_whole : (q : Pane) → option_to_list (row_between p w v q (aggregate_until p g.layout (cut_of g.history.end) q)) ≡ option_to_list (if is_due p.window w q.start then None else due_row p i v q)
-  row_whole q =
-      elim (cases_Bool (is_due p.window v q.start)) [
-        | inl e ↦ ap (λ a. option_to_list (row_between p w v q a)) (same_up_to i g.leg g.layout g.deals p (cut_of g.history.end) to bt.comes q ∙ whole q e)
-        | inr e ↦ rw e refl
-      ]
-
   rows_are : AreRowsOf (λ q. if is_due p.window w q.start then None else due_row p i v q) (leg_rows g)
-  rows_are q = exact.rows q ∙ row_whole q
+  rows_are q = exact.rows q ∙ row_at p i o g.leg g.layout g.deals (cut_of g.history.end) to w v bt.comes (λ t k b a kl. (counts t k b a kl).1) wt q
 
   left_windows : HaveSnapshot p i g.layout g.history.end to v
   left_windows u b m q = exact.windows u b m q ∙ ap (λ a. cond (eqb (g.layout.owner q.key) u) (cond (is_due p.window v q.start) None a) None) (same_up_to i g.leg g.layout g.deals p (cut_of g.history.end) to bt.comes q)

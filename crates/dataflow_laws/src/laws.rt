@@ -11,7 +11,7 @@ ghost use Rattle.dataflow_laws.specs.Example.{SmallLeg};
 ghost use Rattle.dataflow_laws.specs.Laws.{DrainedIsExact, LegIsExact, LegReachesItsCut, LegToItsCutIsExact, EachMoment};
 ghost use Rattle.dataflow_laws.specs.Legs.{LegBetweenIsExact, LegsAreExact};
 ghost use Rattle.dataflow_laws.specs.Savepoints.{SavepointIsExact};
-ghost use Rattle.dataflow_laws.specs.Inputs.{InputIsAdmitted, LegsDeliverDue, LegsDeliverAll};
+ghost use Rattle.dataflow_laws.specs.Inputs.{InputIsAdmitted, LegDelivers, SoFarDelivers, LegsDeliverDue, LegsDeliverAll};
 
 /// A task makes a step only where the step's conditions hold.
 pub fn step_needs()
@@ -127,6 +127,18 @@ pub fn savepoint_is_exact()
 /// most 2^40 records together.
 pub fn input_is_admitted()
     ensures { InputIsAdmitted }
+{}
+
+/// A leg that opens with the snapshot of one cut of an input and comes to another delivers the rows that become due
+/// between them, each once, and nothing else, and leaves the snapshot of the other: whatever its layout and the order
+/// of its steps.
+pub fn leg_delivers()
+    ensures { LegDelivers }
+{}
+
+/// At every moment of such a leg, done or not, its sink has of each pane nothing, or just that row.
+pub fn so_far_delivers()
+    ensures { SoFarDelivers }
 {}
 
 /// Whatever the layouts, the cuts between and the order of steps: one leg or more, from the beginning of the input to a
