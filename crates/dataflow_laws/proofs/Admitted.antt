@@ -22,20 +22,20 @@ use Rattle.dataflow_model.specs.AbstractLayout.{AbstractLayout, Deals, partition
 use Rattle.dataflow_model.specs.Cuts.{joined}
 use Rattle.dataflow_model.proofs.Facts.{total_same}
 use Rattle.dataflow_laws.proofs.Dealing.{total_dealt}
-use Rattle.dataflow_laws.specs.Count as count
-use Rattle.dataflow_laws.specs.Admission as admission
+use Rattle.dataflow_laws.specs.Count.{record_count}
+use Rattle.dataflow_laws.specs.Admission.{FitsPlan}
 use Rattle.layout_rules.specs.Layouts.{source_at, number_at}
 use Rattle.input_flow.specs.InputEntries.{message_of, entry_at, input_of}
 use Rattle.dataflow_laws.specs.Inputs.{InputIsAdmitted}
 use Rattle.input_flow.proofs.Facts.{at_or, partition_has, records_dealt, full_is_cut, full_counts}
 
-admitted : (p : PlanData) (i : InputData) → BelongsTo p i → (e : Entry) → IsEntry i.columns i.time e → admission.IsEntry p (message_of e)
+admitted : (p : PlanData) (i : InputData) → BelongsTo p i → (e : Entry) → IsEntry i.columns i.time e → FitsPlan p (message_of e)
 admitted p i belongs (entry.Rows t) h = (h.0 ∙ belongs.columns, subst (λ c. All (λ r. IsTime (at c r)) t.rows) belongs.time h.1)
 admitted p i belongs (entry.Watermark t) h = tt
 
-each_admitted : (p : PlanData) (i : InputData) → IsInput i → BelongsTo p i → (x k n : ℕ) → admission.IsEntry p (message_of (entry_at i x k n))
+each_admitted : (p : PlanData) (i : InputData) → IsInput i → BelongsTo p i → (x k n : ℕ) → FitsPlan p (message_of (entry_at i x k n))
 each_admitted p i input belongs x k n =
-    let P : Entry → Type 0 = λ e. admission.IsEntry p (message_of e) in
+    let P : Entry → Type 0 = λ e. FitsPlan p (message_of e) in
     let Q : Entry → Type 0 = IsEntry i.columns i.time in
     at_or P (partition_at i.sources x k) n (entry.Watermark lowest) tt
     (All-weaker Q P (admitted p i belongs) (partition_at i.sources x k) (partition_has i Q input.entries x k))
@@ -79,7 +79,7 @@ reads Chain e = absurd cc
 reads Window e = absurd cc
 reads Sink e = absurd cc
 
-tasks_have : (p : PlanData) (i : InputData) (leg : Leg) (l : AbstractLayout) → Deals (input_of p i) leg l → count.all_records l ≡ total (input_of p i).partitions (records_at p i)
+tasks_have : (p : PlanData) (i : InputData) (leg : Leg) (l : AbstractLayout) → Deals (input_of p i) leg l → record_count l ≡ total (input_of p i).partitions (records_at p i)
 unfolding records_at
 tasks_have p i leg l d =
     total_same l.before _ (λ t. cond (is_source (l.task t).role) (total (l.task t).inputs (λ k. records_at p i (partition_read (input_of p i) l t k))) 0) (λ t m. elim (cases_Bool (is_source (l.task t).role)) [
@@ -96,6 +96,6 @@ input_is_admitted p i leg l input belongs d = record {
   entries = λ t k n b a kl nl.
       let x = d.there t k b a kl in
       let c = partition_read (input_of p i) l t k in
-      subst (admission.IsEntry p) (sym (x.entry n)) (each_admitted p i input belongs (source_at p c) (number_at p c) n);
+      subst (FitsPlan p) (sym (x.entry n)) (each_admitted p i input belongs (source_at p c) (number_at p c) n);
   few = let f = input.few in subst (λ n. n ≤ 2 ^ 40) (sym (tasks_have p i leg l d ∙ partitions_have p i belongs)) f;
 }

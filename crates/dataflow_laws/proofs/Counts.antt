@@ -16,7 +16,7 @@ use Rattle.dataflow_model.specs.Runs.Run.{none, more}
 use Rattle.dataflow_model.specs.History.{History}
 use Rattle.dataflow_model.proofs.Facts.{total_same, total_add, total_none, total_front, total_at, total_swap, total_le, total_up, total_places, front_and_one, onto_ahead, no_source, source_yes}
 use Rattle.dataflow_model.specs.Start.{IsLegStart}
-use Rattle.dataflow_laws.specs.Count.{all_records, TakesNoMore}
+use Rattle.dataflow_laws.specs.Count.{record_count, TakesNoMore}
 use Rattle.dataflow_laws.proofs.Needs.{step_needs}
 use Rattle.dataflow_laws.proofs.Opened.{fresh, long_offsets}
 use Rattle.dataflow_laws.proofs.Reading.{HasLimits, Reading, reading, reading_fresh}
@@ -144,7 +144,7 @@ module _ (p : PlanData) (l : AbstractLayout) (ok : IsLayout l) (start : ℕ → 
       omega (arith, o, c, i, r)
 
   -- what was given to a task before the sink
-  all_given : (t : ℕ) → t < l.sink → total (suc l.sink) (λ s. a s t) ≤ all_records l
+  all_given : (t : ℕ) → t < l.sink → total (suc l.sink) (λ s. a s t) ≤ record_count l
   all_given t m = elim (cases_lt t l.before) [
     | inl q ↦
         (let f = flow_le (suc l.sink) t t a src (omega arith) (omega (arith, m)) (λ s v c d e. a_none s v (no_ring s v (omega (arith, c, d)))) (λ v c. local v (omega (arith, c, q))) in
@@ -158,7 +158,7 @@ module _ (p : PlanData) (l : AbstractLayout) (ok : IsLayout l) (start : ℕ → 
   ]
 
   -- a message on a ring can be taken too
-  pub with_message : (s t : ℕ) (rest : List Message) (m : Message) → t < l.sink → l.ring s t ≡ true → H.holds s t ≡ rest ++ m ∷ [] → (H.end t).taken + length (records_of m) ≤ all_records l
+  pub with_message : (s t : ℕ) (rest : List Message) (m : Message) → t < l.sink → l.ring s t ≡ true → H.holds s t ≡ rest ++ m ∷ [] → (H.end t).taken + length (records_of m) ≤ record_count l
   with_message s t rest m tl r e =
       let ns : (l.task t).role ≡ Source → ⊥ = λ z. false≢true (sym (ok.no_ring_in s t z) ∙ r) in
       let fw = ok.forward s t r in
@@ -174,7 +174,7 @@ module _ (p : PlanData) (l : AbstractLayout) (ok : IsLayout l) (start : ℕ → 
       let o = (counting_at t (omega (arith, tl))).took in
       omega (arith, i, x, c, d, g, o)
 
-  no_more : (t : ℕ) → t < l.sink → (H.end t).taken ≤ all_records l
+  no_more : (t : ℕ) → t < l.sink → (H.end t).taken ≤ record_count l
   no_more t m =
       let o = (counting_at t (omega (arith, m))).took in
       let i = taken_less t (omega (arith, m)) in

@@ -13,8 +13,8 @@ use Rattle.dataflow_model.specs.Role.{is_source}
 use Rattle.dataflow_model.specs.Leg.{Leg}
 use Rattle.dataflow_model.specs.Sums.{total}
 use Rattle.dataflow_model.specs.AbstractLayout.{AbstractLayout, AbstractInput, Deals, reader_of, place_in_reader, partition_read}
-use Rattle.dataflow_model.specs.Cuts.{IsOrderlyInput, IsMergedWatermark, records_until, aggregate_until}
-use Rattle.dataflow_model.specs.InputCuts.{AreOrderlyPartitions, IsWatermarkAt, records_up_to, aggregate_up_to}
+use Rattle.dataflow_model.specs.Cuts.{AreOrderlySources, IsMergedWatermark, records_until, aggregate_until}
+use Rattle.dataflow_model.specs.InputCuts.{IsOrderlyInput, IsWatermarkAt, records_up_to, aggregate_up_to}
 use Rattle.dataflow_model.proofs.Facts.{total_same, total_none, total_swap, total_at, total_places, eqb_swap, no_source, source_yes}
 use Rattle.dataflow_laws.proofs.Streams.{weigh}
 use Rattle.dataflow_laws.proofs.Logs.{weigh_of, weigh_same, weigh_filter}
@@ -91,7 +91,7 @@ module _ (i : AbstractInput) (leg : Leg) (l : AbstractLayout) (d : Deals i leg l
         subst (λ n. v ≤ℤ i.watermark n (cut n)) x.back (subst (λ z. v ≤ℤ z) (watermark_is (reader_of i l q) (place_in_reader i l q) mine cut same x.reads.early x.reads.role x.place) y));
   }
 
-  pub orderly_of : (p : PlanData) → AreOrderlyPartitions p i → IsOrderlyInput p l
+  pub orderly_of : (p : PlanData) → IsOrderlyInput p i → AreOrderlySources p l
   orderly_of p o t b a = record {
     moves = λ k n kl nl.
         let x = d.there t k b a kl in

@@ -16,11 +16,11 @@ use Rattle.dataflow_model.specs.declared.role.Role.TheVariants.{Source, Chain, W
 use Rattle.dataflow_model.specs.declared.ending.Ending.TheVariants.{AtCut}
 use Rattle.dataflow_model.specs.AbstractLayout.{AbstractLayout, IsLayout, Sends}
 use Rattle.dataflow_model.specs.Message.{records_of}
-use Rattle.dataflow_model.specs.Cuts.{IsOrderlyInput, cut_of, snapshot_until}
+use Rattle.dataflow_model.specs.Cuts.{AreOrderlySources, cut_of, snapshot_until}
 use Rattle.dataflow_model.specs.Snapshots.{AtOwners}
 use Rattle.dataflow_model.specs.Start.{AreOpenings, IsStart}
 use Rattle.dataflow_model.specs.OneLeg.{IsOneLeg}
-use Rattle.dataflow_laws.specs.Admission.{IsEntry}
+use Rattle.dataflow_laws.specs.Admission.{FitsPlan}
 use Rattle.dataflow_laws.specs.Example.{small_entry, small_brings, small_watermark, small_ring, small_from, small_layout, small_start, SmallLeg}
 
 ring_leads : (s t : ℕ) → small_ring s t ≡ true → (t ≡ suc s) × (s < 2)
@@ -175,14 +175,14 @@ module _ (p : PlanData) where
   zero_time : IsTime (pos 0)
   zero_time = record { above = omega (arith, ints); below = omega (arith, ints) }
 
-  admitted_entry : (n : ℕ) → IsEntry p (small_entry p n)
+  admitted_entry : (n : ℕ) → FitsPlan p (small_entry p n)
   admitted_entry zero =
       let r = replicate p.columns (pos 0) in
       let P : Record → Type 0 = λ x. IsTime (at p.window.time x) in
       (refl, All-cons P r [] (subst IsTime (sym (zeros p.columns p.window.time)) zero_time) (All-nil P))
   admitted_entry (suc n) = tt
 
-  entries : (t q n : ℕ) → t < 1 → IsEntry p ((L.task t).entry q n)
+  entries : (t q n : ℕ) → t < 1 → FitsPlan p ((L.task t).entry q n)
   entries zero q n l = admitted_entry n
   entries (suc t) q n l = absurd (omega (arith, l))
 
@@ -203,7 +203,7 @@ module _ (p : PlanData) where
   late (suc zero) l = All-nil (λ x. lowest <ℤ at p.window.time x)
   late (suc (suc n)) l = absurd (omega (arith, l))
 
-  is_orderly : IsOrderlyInput p L
+  is_orderly : AreOrderlySources p L
   is_orderly zero b a = record { moves = λ q n k l. moves n l; bounded = λ q n k l. bounded n; late = λ q n k l. late n l }
   is_orderly (suc t) b a = absurd (omega (arith, b))
 

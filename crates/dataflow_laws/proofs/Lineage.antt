@@ -17,8 +17,8 @@ use Rattle.dataflow_model.specs.State.{State}
 use Rattle.dataflow_model.specs.Opening.{IsOpening, IsUntouched}
 use Rattle.dataflow_model.specs.Leg.{Leg}
 use Rattle.dataflow_model.specs.AbstractLayout.{AbstractLayout, IsLayout, AbstractInput, Deals, reader_of, place_in_reader, partition_read}
-use Rattle.dataflow_model.specs.Cuts.{cut_of, IsOrderlyInput, IsMergedWatermark, joined, aggregate_until, row_between}
-use Rattle.dataflow_model.specs.InputCuts.{AreOrderlyPartitions, IsWatermarkAt, aggregate_up_to, snapshot_at, due_row}
+use Rattle.dataflow_model.specs.Cuts.{cut_of, AreOrderlySources, IsMergedWatermark, joined, aggregate_until, row_between}
+use Rattle.dataflow_model.specs.InputCuts.{IsOrderlyInput, IsWatermarkAt, aggregate_up_to, snapshot_at, due_row}
 use Rattle.dataflow_model.specs.Start.{AreOpenings, IsStart}
 use Rattle.dataflow_laws.specs.Laws.{IsExact}
 use Rattle.dataflow_laws.specs.Legs.{AreAt, JobLeg, IsBetween, BeginsAnew, GoesOn, leg_rows, cut_left, Legs, HaveSnapshot, LeaveSnapshot, LegBetweenIsExact, LegsAreExact}
@@ -33,7 +33,7 @@ use Rattle.dataflow_laws.proofs.Dealing.{IsSame, same_up_to, merged_of, orderly_
 use Rattle.dataflow_laws.proofs.Exact.{leg_is_exact}
 
 -- a layout that deals the input, and a cut of its tasks that is a cut of the input
-module _ (p : PlanData) (i : AbstractInput) (o : AreOrderlyPartitions p i) (leg : Leg) (l : AbstractLayout) (d : Deals i leg l) where
+module _ (p : PlanData) (i : AbstractInput) (o : IsOrderlyInput p i) (leg : Leg) (l : AbstractLayout) (d : Deals i leg l) where
   -- how many entries the partitions have
   sizes : ℕ → ℕ → ℕ
   sizes t k = (l.task t).size k
@@ -71,8 +71,8 @@ module _ (p : PlanData) (i : AbstractInput) (o : AreOrderlyPartitions p i) (leg 
     windows = λ u b m q. restored u b m q ∙ ap (λ a. cond (eqb (l.owner q.key) u) (cond (is_due p.window w q.start) None a) None) (sym (same_up_to i leg l d p (cut_of start) cut begins q));
   }
 
-module _ (p : PlanData) (i : AbstractInput) (from to : ℕ → ℕ) (w v : ℤ) (o : AreOrderlyPartitions p i) (wf : IsWatermarkAt i from w) (g : JobLeg p i) (bt : IsBetween p i g from w to) (wt : IsWatermarkAt i to v) where
-  orderly : IsOrderlyInput p g.layout
+module _ (p : PlanData) (i : AbstractInput) (from to : ℕ → ℕ) (w v : ℤ) (o : IsOrderlyInput p i) (wf : IsWatermarkAt i from w) (g : JobLeg p i) (bt : IsBetween p i g from w to) (wt : IsWatermarkAt i to v) where
+  orderly : AreOrderlySources p g.layout
   orderly = orderly_of i g.leg g.layout g.deals p o
 
   starts : IsStart p g.layout g.start w
@@ -233,7 +233,7 @@ record IsKnown (p : PlanData) (i : AbstractInput) (g : JobLeg p i) (v : ℤ) (ro
   rows_due : AreRowsOf (due_row p i v) rows
   leaves : LeaveSnapshot p i g.layout g.history.end (cut_left g) v
 
-known_first : (p : PlanData) (i : AbstractInput) (w v : ℤ) (o : AreOrderlyPartitions p i) (g : JobLeg p i) → BeginsAnew p i g → IsWatermarkAt i (λ q. 0) w → IsWatermarkAt i (cut_left g) v → IsKnown p i g v (leg_rows g)
+known_first : (p : PlanData) (i : AbstractInput) (w v : ℤ) (o : IsOrderlyInput p i) (g : JobLeg p i) → BeginsAnew p i g → IsWatermarkAt i (λ q. 0) w → IsWatermarkAt i (cut_left g) v → IsKnown p i g v (leg_rows g)
 known_first p i w v o g b a wt =
     let bt = anew p i w g b in
     let lw : lowest ≤ℤ w = a.greatest lowest (omega (arith, ints)) (λ q l. o.bounded q 0 l (omega arith)) in
@@ -248,7 +248,7 @@ known_first p i w v o g b a wt =
       leaves = leaves p i (λ n. 0) (cut_left g) w v o a g bt wt;
     }
 
-known_next : (p : PlanData) (i : AbstractInput) (w v : ℤ) (o : AreOrderlyPartitions p i) (g g' : JobLeg p i) (rows : List Row) → IsKnown p i g w rows → GoesOn p i g g' → IsWatermarkAt i (cut_left g') v → IsKnown p i g' v (rows ++ leg_rows g')
+known_next : (p : PlanData) (i : AbstractInput) (w v : ℤ) (o : IsOrderlyInput p i) (g g' : JobLeg p i) (rows : List Row) → IsKnown p i g w rows → GoesOn p i g g' → IsWatermarkAt i (cut_left g') v → IsKnown p i g' v (rows ++ leg_rows g')
 known_next p i w v o g g' rows r go wt =
     let bt = on p i g g' w r.low r.leaves go in
     let up = rises p i (cut_left g) (cut_left g') w v o r.watermark g' bt wt in
@@ -263,7 +263,7 @@ known_next p i w v o g g' rows r go wt =
       leaves = leaves p i (cut_left g) (cut_left g') w v o r.watermark g' bt wt;
     }
 
-known_legs : (p : PlanData) (i : AbstractInput) (o : AreOrderlyPartitions p i) (g : JobLeg p i) (v : ℤ) (rows : List Row) → Legs p i g v rows → IsKnown p i g v rows
+known_legs : (p : PlanData) (i : AbstractInput) (o : IsOrderlyInput p i) (g : JobLeg p i) (v : ℤ) (rows : List Row) → Legs p i g v rows → IsKnown p i g v rows
 known_legs p i o g v rows (first {w = w} g1 b a wt) = known_first p i w v o g b a wt
 known_legs p i o g v rows (next {g = g0} {w = w} {rows = before} ls g1 go wt) = known_next p i w v o g0 g before (known_legs p i o g0 w before ls) go wt
 

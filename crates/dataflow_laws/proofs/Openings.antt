@@ -12,7 +12,7 @@ use Rattle.dataflow_model.specs.AbstractLayout.{AbstractLayout, IsLayout, Sends}
 use Rattle.dataflow_model.specs.State.{Windows, State}
 use Rattle.dataflow_model.specs.Opening.{opening, IsOpening, IsSourceOpening}
 use Rattle.dataflow_model.specs.OneLeg.{IsOneLeg}
-use Rattle.dataflow_model.specs.Cuts.{IsOrderlyInput}
+use Rattle.dataflow_model.specs.Cuts.{AreOrderlySources}
 use Rattle.dataflow_model.specs.Start.{IsStart}
 use Rattle.dataflow_laws.proofs.Streams.{Reaches}
 use Rattle.dataflow_laws.proofs.Relay.{IsFresh}
@@ -48,7 +48,7 @@ limits_rise l start leg t b a q k (suc n) m e =
     let i = limits_rise l start leg t b a q k n (suc m) (omega arith) in
     omega (arith, r, i)
 
-module _ (p : PlanData) (l : AbstractLayout) (start : ℕ → State) (w : ℤ) (ok : IsLayout l) (orderly : IsOrderlyInput p l) (leg : IsOneLeg l start) (st : IsStart p l start w) where
+module _ (p : PlanData) (l : AbstractLayout) (start : ℕ → State) (w : ℤ) (ok : IsLayout l) (orderly : AreOrderlySources p l) (leg : IsOneLeg l start) (st : IsStart p l start w) where
   pub limits_of : (t : ℕ) → t < l.before → (l.task t).role ≡ Source → (m q : ℕ) → q < (l.task t).inputs → m ≤ (l.task t).saves → ((l.task t).limit m q ≤ (l.task t).limit (l.task t).saves q) × ((l.task t).limit (l.task t).saves q ≤ (l.task t).size q)
   limits_of t b a m q k le = (limits_rise l start leg t b a q k ((l.task t).saves - m) m (omega arith), leg.within t q b a k)
 

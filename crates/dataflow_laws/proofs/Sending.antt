@@ -27,7 +27,7 @@ use Rattle.dataflow_model.specs.Steps.LocalStep.{put, opens, reads, saves, stops
 use Rattle.dataflow_model.specs.Runs.{Run, sent, only, onto, given}
 use Rattle.dataflow_model.specs.Runs.Run.{none, more}
 use Rattle.dataflow_model.proofs.Facts.{given_put, given_spread}
-use Rattle.dataflow_laws.specs.Admission.{IsEntry}
+use Rattle.dataflow_laws.specs.Admission.{FitsPlan}
 use Rattle.dataflow_laws.proofs.Events.{IsPut, put_is, sent_same}
 use Rattle.dataflow_laws.proofs.Opened.{IsFresh}
 use Rattle.dataflow_laws.proofs.Reading.{HasLimits, limit_up, Reading, reading}
@@ -42,7 +42,7 @@ sends_rows Sink = false
 
 -- a message that a task of this role gives
 abbrev pub Gives : PlanData → Role → Message → Type 0
-Gives p r (Rows t) = (sends_rows r ≡ true) × IsEntry p (Rows t)
+Gives p r (Rows t) = (sends_rows r ≡ true) × FitsPlan p (Rows t)
 Gives p r (Fired rows) = is_window r ≡ true
 Gives p r (Watermark t) = Unit {0}
 Gives p r (Barrier n) = Unit {0}
@@ -63,11 +63,11 @@ fit_batch : (p : PlanData) (k : AbstractTask) (j width : ℕ) (xs : List Record)
 fit_batch p k j width [] l s w h = tt
 fit_batch p k j width (x ∷ xs) l s w h = ((l, tt, (s, (w, h))), tt)
 
-fit_route : (p : PlanData) (k : AbstractTask) (cursor : ℕ) (t : Table) → sends_rows k.role ≡ true → IsEntry p (Rows t) → AllByRecursion (Fit p k) (route p.window.key k cursor t)
+fit_route : (p : PlanData) (k : AbstractTask) (cursor : ℕ) (t : Table) → sends_rows k.role ≡ true → FitsPlan p (Rows t) → AllByRecursion (Fit p k) (route p.window.key k cursor t)
 fit_route p k cursor t s e = all_spread (Fit p k) k.outputs (λ j. batch t.width (part p.window.key k.routing cursor (filter k.keeps t.rows) j)) (λ j l.
     fit_batch p k j t.width (part p.window.key k.routing cursor (filter k.keeps t.rows) j) l s e.0 (times_part p p.window.key k.routing cursor (filter k.keeps t.rows) j (All-filter k.keeps (λ r. IsTime (at p.window.time r)) t.rows e.1)))
 
-fit_route_of : (p : PlanData) (k : AbstractTask) (cursor : ℕ) (m : Message) → sends_rows k.role ≡ true → IsEntry p m → AllByRecursion (Fit p k) (route_of p.window.key k cursor m)
+fit_route_of : (p : PlanData) (k : AbstractTask) (cursor : ℕ) (m : Message) → sends_rows k.role ≡ true → FitsPlan p m → AllByRecursion (Fit p k) (route_of p.window.key k cursor m)
 fit_route_of p k cursor (Rows t) s e = fit_route p k cursor t s e
 fit_route_of p k cursor (Fired rows) s e = tt
 fit_route_of p k cursor (Watermark t) s e = tt
@@ -101,7 +101,7 @@ pub record Sound (p : PlanData) (k : AbstractTask) (start : State) : Type 0 wher
   pub some : is_source k.role ≡ false → 0 < k.inputs
   pub limits : k.role ≡ Source → HasLimits k
   pub begins : k.role ≡ Source → Reading k start
-  pub entries : k.role ≡ Source → (q n : ℕ) → q < k.inputs → n < k.size q → IsEntry p (k.entry q n)
+  pub entries : k.role ≡ Source → (q n : ℕ) → q < k.inputs → n < k.size q → FitsPlan p (k.entry q n)
 
 none_pending : (p : PlanData) (k : AbstractTask) (ps : List (ℕ × Message)) → ps ≡ [] → AllByRecursion (Fit p k) ps
 none_pending p k ps e = subst (AllByRecursion (Fit p k)) (sym e) tt

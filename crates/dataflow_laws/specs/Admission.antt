@@ -12,20 +12,20 @@ use Rattle.dataflow_model.specs.State.{State}
 use Rattle.dataflow_model.specs.Steps.{CanTake, Admits}
 use Rattle.dataflow_laws.specs.World.{World, IsEnd}
 use Rattle.dataflow_model.specs.Start.{IsLegStart}
-use Rattle.dataflow_laws.specs.Count.{all_records}
+use Rattle.dataflow_laws.specs.Count.{record_count}
 
 -- rows of the plan's width with times in range; watermarks need nothing
-abbrev pub IsEntry : PlanData → Message → Type 0
-IsEntry p (Rows t) = (t.width ≡ p.columns) × All (λ r. IsTime (at p.window.time r)) t.rows
-IsEntry p (Fired rows) = Unit {0}
-IsEntry p (Watermark t) = Unit {0}
-IsEntry p (Barrier n) = Unit {0}
-IsEntry p End = Unit {0}
+abbrev pub FitsPlan : PlanData → Message → Type 0
+FitsPlan p (Rows t) = (t.width ≡ p.columns) × All (λ r. IsTime (at p.window.time r)) t.rows
+FitsPlan p (Fired rows) = Unit {0}
+FitsPlan p (Watermark t) = Unit {0}
+FitsPlan p (Barrier n) = Unit {0}
+FitsPlan p End = Unit {0}
 
 -- all entries of the sources are such, and have at most 2^40 records together
 pub record IsAdmittedInput (p : PlanData) (l : AbstractLayout) : Type 0 where
-  pub entries : (t q n : ℕ) → t < l.before → (l.task t).role ≡ Source → q < (l.task t).inputs → n < (l.task t).size q → IsEntry p ((l.task t).entry q n)
-  pub few : all_records l ≤ 2 ^ 40
+  pub entries : (t q n : ℕ) → t < l.before → (l.task t).role ≡ Source → q < (l.task t).inputs → n < (l.task t).size q → FitsPlan p ((l.task t).entry q n)
+  pub few : record_count l ≤ 2 ^ 40
 
 -- at every moment, where a task can take from a ring, it admits the oldest message there
 abbrev pub RingsAreAdmitted : Type 0

@@ -12,7 +12,7 @@ use Rattle.dataflow_model.specs.AbstractLayout.{AbstractLayout, IsLayout}
 use Rattle.dataflow_model.specs.State.{State}
 use Rattle.dataflow_model.specs.Opening.{opening}
 use Rattle.dataflow_model.specs.Start.{IsLegStart, IsStart}
-use Rattle.dataflow_model.specs.Cuts.{IsOrderlyInput}
+use Rattle.dataflow_model.specs.Cuts.{AreOrderlySources}
 use Rattle.dataflow_laws.specs.Admission.{IsAdmittedInput}
 
 -- a record of zeros, and then the watermark that the partition has come to its end
@@ -94,4 +94,4 @@ small_start (suc (suc t)) = opening (past_sink t) [] (replicate (past_sink t) lo
 
 -- it meets what the laws of legs ask for, and begins with the snapshot of its beginning
 abbrev pub SmallLeg : Type 0
-SmallLeg = (p : PlanData) → IsLayout (small_layout p) × IsLegStart p (small_layout p) small_start × IsAdmittedInput p (small_layout p) × IsOrderlyInput p (small_layout p) × IsStart p (small_layout p) small_start lowest
+SmallLeg = (p : PlanData) → IsLayout (small_layout p) × IsLegStart p (small_layout p) small_start × IsAdmittedInput p (small_layout p) × AreOrderlySources p (small_layout p) × IsStart p (small_layout p) small_start lowest

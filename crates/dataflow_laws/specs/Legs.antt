@@ -14,7 +14,7 @@ use Rattle.dataflow_model.specs.Opening.{IsUntouched}
 use Rattle.dataflow_model.specs.Start.{AreOpenings}
 use Rattle.dataflow_model.specs.OneLeg.{IsOneLeg}
 use Rattle.dataflow_model.specs.Cuts.{cut_of}
-use Rattle.dataflow_model.specs.InputCuts.{AreOrderlyPartitions, IsWatermarkAt, snapshot_at, due_row}
+use Rattle.dataflow_model.specs.InputCuts.{IsOrderlyInput, IsWatermarkAt, snapshot_at, due_row}
 use Rattle.dataflow_model.specs.History.{History, IsComplete}
 
 -- tasks that read partitions have come to the cut of the input
@@ -82,9 +82,9 @@ pub data Legs (p : PlanData) (i : AbstractInput) : JobLeg p i → ℤ → List R
 
 -- a leg delivers the plan's row of each pane that is due at its end and was not at its start, once, and leaves the snapshot of the cut that it came to
 abbrev pub LegBetweenIsExact : Type 0
-LegBetweenIsExact = (p : PlanData) (i : AbstractInput) (from to : ℕ → ℕ) (w v : ℤ) → AreOrderlyPartitions p i → IsWatermarkAt i from w → (g : JobLeg p i) → IsBetween p i g from w to → IsWatermarkAt i to v
+LegBetweenIsExact = (p : PlanData) (i : AbstractInput) (from to : ℕ → ℕ) (w v : ℤ) → IsOrderlyInput p i → IsWatermarkAt i from w → (g : JobLeg p i) → IsBetween p i g from w to → IsWatermarkAt i to v
     → AreRowsOf (λ q. if is_due p.window w q.start then None else due_row p i v q) (leg_rows g) × LeaveSnapshot p i g.layout g.history.end to v
 
 -- whatever the layouts, the cuts and the order of steps, legs deliver together the plan's row of each pane that is due, once, and nothing else, and leave the snapshot
 abbrev pub LegsAreExact : Type 0
-LegsAreExact = (p : PlanData) (i : AbstractInput) (g : JobLeg p i) (v : ℤ) (rows : List Row) → AreOrderlyPartitions p i → Legs p i g v rows → AreRowsOf (due_row p i v) rows × LeaveSnapshot p i g.layout g.history.end (cut_left g) v
+LegsAreExact = (p : PlanData) (i : AbstractInput) (g : JobLeg p i) (v : ℤ) (rows : List Row) → IsOrderlyInput p i → Legs p i g v rows → AreRowsOf (due_row p i v) rows × LeaveSnapshot p i g.layout g.history.end (cut_left g) v

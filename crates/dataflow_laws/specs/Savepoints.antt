@@ -6,7 +6,7 @@ use Rattle.dataflow_model.specs.declared.role.Role.TheVariants.{Source}
 use Rattle.dataflow_model.specs.AbstractLayout.{AbstractLayout, IsLayout}
 use Rattle.dataflow_model.specs.State.{State, kept_at}
 use Rattle.dataflow_model.specs.OneLeg.{IsOneLeg}
-use Rattle.dataflow_model.specs.Cuts.{IsOrderlyInput, IsMergedWatermark, save_cut, aggregate_until, snapshot_until, row_between}
+use Rattle.dataflow_model.specs.Cuts.{AreOrderlySources, IsMergedWatermark, save_cut, aggregate_until, snapshot_until, row_between}
 use Rattle.dataflow_model.specs.Snapshots.{HaveWatermarks, AtOwners}
 use Rattle.dataflow_model.specs.Start.{IsStart}
 use Rattle.dataflow_model.specs.History.{History}
@@ -20,5 +20,5 @@ pub record IsSavepoint (p : PlanData) (l : AbstractLayout) (w v : ℤ) (m : ℕ)
 
 -- once every task has aligned on the barrier of a savepoint, at whatever moment, they have kept just what it is to have
 abbrev pub SavepointIsExact : Type 0
-SavepointIsExact = (p : PlanData) (l : AbstractLayout) (start : ℕ → State) (w v : ℤ) (m : ℕ) → IsLayout l → IsOrderlyInput p l → IsOneLeg l start → IsStart p l start w → (h : History p l start)
+SavepointIsExact = (p : PlanData) (l : AbstractLayout) (start : ℕ → State) (w v : ℤ) (m : ℕ) → IsLayout l → AreOrderlySources p l → IsOneLeg l start → IsStart p l start w → (h : History p l start)
     → m < (l.task l.sink).saves → ((t : ℕ) → t ≤ l.sink → m < (h.end t).next) → IsMergedWatermark l (save_cut l m) v → IsSavepoint p l w v m h.end

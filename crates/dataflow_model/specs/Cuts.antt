@@ -23,8 +23,8 @@ pub record IsOrderlySource (p : PlanData) (k : AbstractTask) : Type 0 where
   pub late : (q n : ℕ) → q < k.inputs → n < k.size q → All (λ r. k.watermark q n <ℤ at p.window.time r) (records_of (k.entry q n))
 
 -- all sources of a layout are orderly
-abbrev pub IsOrderlyInput : PlanData → AbstractLayout → Type 0
-IsOrderlyInput p l = (t : ℕ) → t < l.before → (l.task t).role ≡ Source → IsOrderlySource p (l.task t)
+abbrev pub AreOrderlySources : PlanData → AbstractLayout → Type 0
+AreOrderlySources p l = (t : ℕ) → t < l.before → (l.task t).role ≡ Source → IsOrderlySource p (l.task t)
 
 -- the cut that tasks have come to: how many entries of each partition they have read
 abbrev pub cut_of : (ℕ → State) → ℕ → ℕ → ℕ

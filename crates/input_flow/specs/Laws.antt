@@ -5,12 +5,12 @@ use Rattle.plan_model.specs.PlanData.{PlanData, IsPlan}
 use Rattle.stream_model.specs.InputData.{InputData, IsInput, BelongsTo}
 use Rattle.stream_model.specs.Watermarks.{IsOrderly, IsCut, full_cut, merged_watermark, records_before}
 use Rattle.stream_model.specs.PlanRows.{passing, plan_rows, due_rows, snapshot}
-use Rattle.dataflow_model.specs.InputCuts.{AreOrderlyPartitions, IsWatermarkAt, records_up_to, snapshot_at, due_row}
+use Rattle.dataflow_model.specs.InputCuts.{IsOrderlyInput, IsWatermarkAt, records_up_to, snapshot_at, due_row}
 use Rattle.input_flow.specs.InputEntries.{input_of, counts_at}
 
 -- an input whose sources are orderly has orderly partitions
 abbrev pub InputIsOrderly : Type 0
-InputIsOrderly = (p : PlanData) (i : InputData) → IsInput i → IsOrderly i.time i.sources → BelongsTo p i → AreOrderlyPartitions p (input_of p i)
+InputIsOrderly = (p : PlanData) (i : InputData) → IsInput i → IsOrderly i.time i.sources → BelongsTo p i → IsOrderlyInput p (input_of p i)
 
 -- the records up to a cut are those before it that pass the filters
 abbrev pub RecordsAtCut : Type 0
