@@ -1,5 +1,5 @@
 -- What legs deliver of an input.
-use Rattle.std.proofs.Common.{◌≡◌, ℕ, ℤ, ◌<◌, ◌≤ℤ◌, List, Option, None, option_to_list, cond, eqb, inl, inr, sym, ap, subst, ◌∙◌, arith, if◌then◌else◌}
+use Rattle.std.proofs.Common.{◌≡◌, ℕ, ℤ, ◌<◌, ◌≤ℤ◌, List, None, option_to_list, cond, eqb, inl, inr, sym, ap, subst, ◌∙◌, arith, if◌then◌else◌}
 use Rattle.std.proofs.lemmas.Int.{ints}
 use Rattle.plan_model.specs.declared.spec.Pane.{Pane}
 use Rattle.plan_model.specs.declared.spec.Row.{Row}
@@ -70,6 +70,14 @@ one_watermark i cut there v w same a b =
     between v w
     (b.greatest v a.bound (λ q l. subst (λ n. v ≤ℤ i.watermark q n) (same q l) (a.below q l)))
     (a.greatest w b.bound (λ q l. subst (λ n. w ≤ℤ i.watermark q n) (sym (same q l)) (b.below q l)))
+
+-- where cuts agree, so do their watermarks
+pub same_watermark : (i : AbstractInput) (cut there : ℕ → ℕ) (w : ℤ) → ((q : ℕ) → q < i.partitions → cut q ≡ there q) → IsWatermarkAt i there w → IsWatermarkAt i cut w
+same_watermark i cut there w same m = record {
+  bound = m.bound;
+  below = λ q l. subst (λ n. w ≤ℤ i.watermark q n) (sym (same q l)) (m.below q l);
+  greatest = λ v top f. m.greatest v top (λ q l. subst (λ n. v ≤ℤ i.watermark q n) (same q l) (f q l));
+}
 
 legs_watermark : (p : PlanData) (i : AbstractInput) (g : JobLeg p i) (w : ℤ) (rows : List Row) → Legs p i g w rows → IsWatermarkAt i (cut_left g) w
 legs_watermark p i g w rows (first _ b z x) = x

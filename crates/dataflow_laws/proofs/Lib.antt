@@ -39,3 +39,4 @@ mod Finishing
 mod Examples
 mod Admitted
 mod Delivered
+mod Compiled

@@ -153,8 +153,8 @@ due_none true false x e = absurd (false≢true e)
 anew : (p : PlanData) (i : AbstractInput) (w : ℤ) (g : JobLeg p i) → BeginsAnew p i g → IsBetween p i g (λ q. 0) w (cut_left g)
 anew p i w g b = record {
   opens = b.opens;
-  begins = b.offsets;
-  restored = λ u lo hi q. b.windows u lo hi q ∙ none_of (eqb (g.layout.owner q.key) u) (is_due p.window w q.start) (aggregate_up_to p i (λ n. 0) q) (nothing_yet p i q);
+  begins = b.nothing.offsets;
+  restored = λ u lo hi q. b.nothing.windows u lo hi q ∙ none_of (eqb (g.layout.owner q.key) u) (is_due p.window w q.start) (aggregate_up_to p i (λ n. 0) q) (nothing_yet p i q);
   comes = came p i g;
 }
 

@@ -61,11 +61,15 @@ leg_rows g = (g.history.end g.layout.sink).rows
 abbrev pub cut_left : {p : PlanData} {i : AbstractInput} → JobLeg p i → ℕ → ℕ
 cut_left {i = i} g q = cut_of g.history.end (reader_of i g.layout q) (place_in_reader i g.layout q)
 
--- a leg that begins with nothing: no entry was read, and all windows are empty
+-- no entry was read, and all windows are empty
+pub record HaveNothing (i : AbstractInput) (l : AbstractLayout) (states : ℕ → State) : Type 0 where
+  pub offsets : AreAt i l states (λ q. 0)
+  pub windows : (u : ℕ) → l.before ≤ u → u < l.sink → (q : Pane) → get (states u).windows q ≡ None
+
+-- a leg that begins with nothing
 pub record BeginsAnew (p : PlanData) (i : AbstractInput) (g : JobLeg p i) : Type 0 where
   pub opens : AreOpenings p g.layout g.start
-  pub offsets : AreAt i g.layout g.start (λ q. 0)
-  pub windows : (u : ℕ) → g.layout.before ≤ u → u < g.layout.sink → (q : Pane) → get (g.start u).windows q ≡ None
+  pub nothing : HaveNothing i g.layout g.start
 
 -- a leg that goes on with what another left, and with nothing else: of each partition how far it was read and its watermark, as the task had them that read it, and what stood in each pane at the window task that owned its key
 pub record GoesOn (p : PlanData) (i : AbstractInput) (g next : JobLeg p i) : Type 0 where

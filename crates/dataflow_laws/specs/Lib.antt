@@ -11,3 +11,4 @@ pub mod Laws
 pub mod Legs
 pub mod Savepoints
 pub mod Inputs
+pub mod Compiled

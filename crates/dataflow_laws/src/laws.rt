@@ -12,6 +12,7 @@ ghost use Rattle.dataflow_laws.specs.Laws.{DrainedIsExact, LegIsExact, LegReache
 ghost use Rattle.dataflow_laws.specs.Legs.{LegBetweenIsExact, LegsAreExact};
 ghost use Rattle.dataflow_laws.specs.Savepoints.{SavepointIsExact};
 ghost use Rattle.dataflow_laws.specs.Inputs.{InputIsAdmitted, LegDelivers, SoFarDelivers, LegsDeliverDue, LegsDeliverAll};
+ghost use Rattle.dataflow_laws.specs.Compiled.{CompiledLegDelivers, CompiledLegDeliversAll};
 
 /// A task makes a step only where the step's conditions hold.
 pub fn step_needs()
@@ -150,4 +151,16 @@ pub fn legs_deliver_due()
 /// Once they have come to the end of each partition, they have delivered all of the plan's rows.
 pub fn legs_deliver_all()
     ensures { LegsDeliverAll }
+{}
+
+/// On the compiled layout of a plan at a scale, a leg that opens with the snapshot of a cut of the input, and whose
+/// tasks are all done, has delivered just the rows that became due, each once, and leaves the snapshot of the cut that it
+/// was to come to: the end of the input, or a cut.
+pub fn compiled_leg_delivers()
+    ensures { CompiledLegDelivers }
+{}
+
+/// One that starts from nothing and runs to the end has delivered all rows of the plan, each once, and nothing else.
+pub fn compiled_leg_delivers_all()
+    ensures { CompiledLegDeliversAll }
 {}

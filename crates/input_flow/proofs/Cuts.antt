@@ -11,7 +11,7 @@ use Rattle.plan_model.specs.Rows.{aggregate_at, kept_row, is_due}
 use Rattle.stream_model.specs.declared.entry.Entry.{Entry}
 use Rattle.stream_model.specs.declared.entry.Entry.TheVariants as entry
 use Rattle.stream_model.specs.InputData.{InputData, BelongsTo}
-use Rattle.stream_model.specs.Watermarks.{IsCut, full_cut, records_before, partition_watermark, merged_watermark}
+use Rattle.stream_model.specs.Watermarks.{IsCut, full_cut, empty_cut, records_before, partition_watermark, merged_watermark}
 use Rattle.stream_model.proofs.Facts.{end_is_due}
 use Rattle.dataflow_model.specs.Message.{records_of}
 use Rattle.dataflow_model.specs.Leg.{count_at}
@@ -74,6 +74,21 @@ full_count ss x k =
 -- as counts of the partitions, through all sources
 pub full_counts : (p : PlanData) (i : InputData) → counts_at p (full_cut i.sources) ≡ (input_of p i).size
 full_counts p i = λ j q. full_count i.sources (source_at p q) (number_at p q) j
+
+none_source : (ps : List (List Entry)) → AllZip (λ p n. n ≤ length p) ps (map (λ p. 0) ps)
+none_source [] = tt
+none_source (p ∷ ps) = (omega arith, none_source ps)
+
+pub empty_is_cut : (ss : List (List (List Entry))) → IsCut ss (empty_cut ss)
+empty_is_cut [] = tt
+empty_is_cut (s ∷ ss) = (none_source s, empty_is_cut ss)
+
+empty_count : (ss : List (List (List Entry))) (x k : ℕ) → count_at (empty_cut ss) x k ≡ 0
+empty_count ss x k = ap (λ c. slice_index c k) (get_or-map (map (λ p. 0)) ss x []) ∙ get_or-map (λ p. 0) (get_or ss x []) k []
+
+-- nothing is counted at the beginning
+pub empty_counts : (p : PlanData) (i : InputData) → counts_at p (empty_cut i.sources) ≡ (λ q. 0)
+empty_counts p i = λ j q. empty_count i.sources (source_at p q) (number_at p q) j
 
 pub due_at_cut : DueAtCut
 due_at_cut p i cut q belongs =

@@ -1,0 +1,43 @@
+-- What a leg delivers that runs on the compiled layout of a plan at a scale.
+use Rattle.std.specs.Prelude.{◌≡◌, ℕ, List, []}
+use Rattle.plan_model.specs.PlanData.{PlanData, IsPlan}
+use Rattle.plan_model.specs.Rows.{AreRowsOf}
+use Rattle.stream_model.specs.InputData.{InputData, IsInput, BelongsTo}
+use Rattle.stream_model.specs.Watermarks.{IsOrderly, IsCut, full_cut}
+use Rattle.stream_model.specs.PlanRows.{plan_rows}
+use Rattle.dataflow_model.specs.Leg.{Until, leg_of}
+use Rattle.dataflow_model.specs.Leg.Until.{ToEnd, ToCut, TillAsked}
+use Rattle.dataflow_model.specs.AbstractLayout.{AbstractLayout}
+use Rattle.dataflow_model.specs.State.{State}
+use Rattle.dataflow_model.specs.Start.{IsLegStart}
+use Rattle.dataflow_model.specs.History.{History, IsComplete}
+use Rattle.layout_rules.specs.declared.stage.Stage.{Stage}
+use Rattle.layout_rules.specs.Rules.{IsCompiled, window_of}
+use Rattle.layout_rules.specs.Scale.{ScaleData, IsScale}
+use Rattle.layout_rules.specs.Layouts.{abstract_layout}
+use Rattle.input_flow.specs.InputEntries.{entries_of, input_of, counts_at}
+use Rattle.dataflow_laws.specs.Legs.{HaveMarks, HaveNothing}
+use Rattle.dataflow_laws.specs.Inputs.{due_between, HaveCut}
+
+-- the cut that a leg comes to, where no stop is asked for
+abbrev pub cut_to : InputData → Until → List (List ℕ)
+cut_to i ToEnd = full_cut i.sources
+cut_to i (ToCut cut) = cut
+cut_to i TillAsked = full_cut i.sources
+
+-- the layout of stages in a leg from savepoint n, or from nothing where n is 0, with no savepoint on the way
+abbrev pub layout_to : PlanData → InputData → ℕ → Until → List Stage → AbstractLayout
+layout_to p i n until stages = abstract_layout p (entries_of i) (leg_of n [] until (entries_of i).size) stages (window_of stages)
+
+-- a leg that opens with the snapshot of a cut, whose tasks are all done, has delivered just the rows that became due, each once, and leaves the snapshot of the cut that it was to come to
+abbrev pub CompiledLegDelivers : Type 0
+CompiledLegDelivers = (p : PlanData) (c : ScaleData) (i : InputData) (n : ℕ) (b : List (List ℕ)) (until : Until) (stages : List Stage) (start : ℕ → State)
+    → IsPlan p → IsScale p c → IsCompiled p c stages → IsInput i → IsOrderly i.time i.sources → BelongsTo p i → IsCut i.sources b → IsCut i.sources (cut_to i until) → (until ≡ TillAsked → ⊥)
+    → let l = layout_to p i n until stages in IsLegStart p l start → HaveCut p i l start b → (h : History p l start) → IsComplete h
+    → AreRowsOf (due_between p i.sources b (cut_to i until)) (h.end l.sink).rows × HaveCut p i l h.end (cut_to i until) × HaveMarks (input_of p i) l h.end (counts_at p (cut_to i until))
+
+-- and one that starts from nothing and runs to the end all rows of the plan
+abbrev pub CompiledLegDeliversAll : Type 0
+CompiledLegDeliversAll = (p : PlanData) (c : ScaleData) (i : InputData) (stages : List Stage) (start : ℕ → State)
+    → IsPlan p → IsScale p c → IsCompiled p c stages → IsInput i → IsOrderly i.time i.sources → BelongsTo p i
+    → let l = layout_to p i 0 ToEnd stages in IsLegStart p l start → HaveNothing (input_of p i) l start → (h : History p l start) → IsComplete h → AreRowsOf (plan_rows p i.sources) (h.end l.sink).rows
