@@ -13,7 +13,10 @@ pub use Rattle.layout_rules.proofs.Rows.{row_is, row_at}
 pub use Rattle.layout_rules.proofs.Groups.{headed}
 pub use Rattle.layout_rules.proofs.Counted.{tasks_counted}
 pub use Rattle.layout_rules.proofs.Shapes.{compiled_is_layout}
-use Rattle.layout_rules.proofs.Once.{compiled_ever, made_length, made_operators}
+pub use Rattle.layout_rules.proofs.Legs.{tasks_are_one_leg}
+pub use Rattle.layout_rules.proofs.Outputs.{rings_by_group, tasks_have_outputs, sink_is_last}
+pub use Rattle.layout_rules.proofs.Once.{compiled_once, compiled_ever}
+use Rattle.layout_rules.proofs.Once.{made_length, made_operators}
 
 -- rows that have numbers have at least as many as there are rows
 rows_few : (f : ℕ → ℕ) (n : ℕ) → ((a : ℕ) → a < n → 0 < f a) → n ≤ sum_below f n

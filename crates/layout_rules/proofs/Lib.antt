@@ -8,4 +8,5 @@ mod Groups
 mod Counted
 mod FiveStages
 mod Legs
+mod Outputs
 pub mod Facts

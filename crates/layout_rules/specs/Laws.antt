@@ -1,16 +1,17 @@
 -- The laws of compiled layouts.
-use Rattle.std.specs.Prelude.{◌≡◌, ℕ, ◌+◌, ◌<◌, ◌≤◌, slice_index, List, [], ◌∷◌, ◌++◌, if◌then◌else◌, length, sum}
+use Rattle.std.specs.Prelude.{◌≡◌, ℕ, ◌+◌, ◌<◌, ◌≤◌, slice_index, List, [], ◌∷◌, ◌++◌, if◌then◌else◌, length, sum, Some}
 use Rattle.std.specs.List.{AllByRecursion}
 use Rattle.plan_model.specs.PlanData.{PlanData, IsPlan}
-use Rattle.dataflow_model.specs.declared.role.Role.TheVariants.{Source}
+use Rattle.dataflow_model.specs.declared.role.Role.TheVariants.{Source, Sink}
 use Rattle.dataflow_model.specs.Leg.{Leg, Until, TillAsked, count_at, until_at, leg_of}
 use Rattle.dataflow_model.specs.State.{State}
 use Rattle.dataflow_model.specs.OneLeg.{IsOneLeg}
 use Rattle.dataflow_model.specs.AbstractLayout.{IsLayout, Deals}
 use Rattle.layout_rules.specs.declared.stage.Operator.{Operator}
+use Rattle.layout_rules.specs.declared.stage.Edge.TheVariants.{ByGroup}
 use Rattle.layout_rules.specs.declared.stage.Stage.{Stage}
 use Rattle.layout_rules.specs.Below.{sum_below}
-use Rattle.layout_rules.specs.Stages.{task_count}
+use Rattle.layout_rules.specs.Stages.{parallelism_at, next_stage, stage_of, task_stage, task_role, task_count, outputs_of}
 use Rattle.layout_rules.specs.Rules.{is_chained, stage_operators_from, stage_operators, IsCompiled, window_of, stages_of, tasks_opened_by, last_of, onto_last, HasParallelism}
 use Rattle.layout_rules.specs.Scale.{ScaleData, IsScale, AreStages}
 use Rattle.layout_rules.specs.Layouts.{Entries, abstract_task, abstract_layout, abstract_input}
@@ -45,6 +46,14 @@ TasksCounted = (p : PlanData) (c : ScaleData) → IsPlan p → length c.sources 
 -- what is known of a plan's stages
 abbrev pub StagesAreBounded : Type 0
 StagesAreBounded = (p : PlanData) (c : ScaleData) → IsPlan p → IsScale p c → AreStages p.max (length p.sources) (stages_of p c)
+
+-- where a stage's edge leads by key group, each of its tasks has a ring to each task of the next stage
+abbrev pub RingsByGroup : Type 0
+RingsByGroup = (stages : List Stage) (t : ℕ) → (task_stage stages t).edge ≡ Some ByGroup → length (outputs_of stages t) ≡ parallelism_at stages (next_stage stages (stage_of stages t))
+
+-- each task but the sink has a ring out
+abbrev pub TasksHaveOutputs : Type 0
+TasksHaveOutputs = (p : PlanData) (c : ScaleData) (stages : List Stage) (t : ℕ) → IsPlan p → IsScale p c → IsCompiled p c stages → t < task_count stages → (task_role stages t ≡ Sink → ⊥) → 0 < length (outputs_of stages t)
 
 -- cuts that follow one another from a start to an end: each counts at least as many entries of each partition as the one before
 abbrev pub AreRising : (ℕ → ℕ → ℕ) → List (List (List ℕ)) → (ℕ → ℕ → ℕ) → Type 0

@@ -1,6 +1,6 @@
 //! Laws of the definitions, each the contract of a function that does nothing.
 
-ghost use Rattle.layout_rules.specs.Laws.{CompiledIsLayout, CompiledOnce, CompiledEver, OneMore, StagesAlike, StagesAreBounded, TasksAreOneLeg, TasksCounted};
+ghost use Rattle.layout_rules.specs.Laws.{CompiledIsLayout, CompiledOnce, CompiledEver, OneMore, RingsByGroup, StagesAlike, StagesAreBounded, TasksAreOneLeg, TasksCounted, TasksHaveOutputs};
 ghost use Rattle.layout_rules.specs.Example.{FiveStages};
 
 /// The stages of a plan at a scale are a layout: its tasks and rings go together, each key has an output that
@@ -40,6 +40,16 @@ pub fn stages_are_bounded()
 /// stage, of the window, and the sink's.
 pub fn tasks_counted()
     ensures { TasksCounted }
+{}
+
+/// Out of a task whose stage's edge leads by key group there are as many rings as the next stage has tasks.
+pub fn rings_by_group()
+    ensures { RingsByGroup }
+{}
+
+/// A ring leads out of each task but the sink.
+pub fn tasks_have_outputs()
+    ensures { TasksHaveOutputs }
 {}
 
 /// In a leg from a start over cuts that rise to its end, all tasks of a layout are the tasks of one leg.

@@ -3,3 +3,4 @@ mod Picked
 mod Counted
 mod Leading
 mod Reading
+mod Beginning

@@ -1,3 +1,4 @@
 pub mod Setups
 pub mod Legs
 pub mod Laws
+pub mod Beginnings
