@@ -4,3 +4,4 @@ mod Counted
 mod Leading
 mod Reading
 mod Beginning
+pub mod Facts

@@ -35,7 +35,7 @@ count_in (p ∷ ps) [] k cut = absurd cut
 count_in (p ∷ ps) (n ∷ ns) zero cut = cut.0
 count_in (p ∷ ps) (n ∷ ns) (suc k) cut = count_in ps ns k cut.1
 
-cut_in : (ss : List (List (List Entry))) (cs : List (List ℕ)) (x k : ℕ) → IsCut ss cs → count_at cs x k ≤ length (partition_at ss x k)
+pub cut_in : (ss : List (List (List Entry))) (cs : List (List ℕ)) (x k : ℕ) → IsCut ss cs → count_at cs x k ≤ length (partition_at ss x k)
 cut_in [] [] x k cut = omega arith
 cut_in [] (c ∷ cs) x k cut = absurd cut
 cut_in (s ∷ ss) [] x k cut = absurd cut

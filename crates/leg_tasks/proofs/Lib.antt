@@ -1,0 +1,3 @@
+mod Partitions
+mod Suiting
+mod Starting
