@@ -5,7 +5,8 @@ ghost use Rattle.layout_rules.specs.Stages as rule;
 ghost use Rattle.stream_model.specs.InputData.{BelongsTo};
 ghost use Rattle.task_setups.specs.Beginnings.{Suits};
 ghost use Rattle.task_setups.specs.Laws.{IsWithin};
-ghost use Rattle.task_setups.specs.Legs.{IsLayoutOf, leg_over, until_of};
+ghost use Rattle.leg_lists.specs.Stops.{until_of};
+ghost use Rattle.task_setups.specs.Legs.{IsLayoutOf, leg_over};
 ghost use Rattle.task_setups.specs.Setups.{setup_of as setup_said};
 ghost use Rattle.task_steps.specs.Beginning.{begun};
 ghost use Rattle.leg_tasks.specs.Beginning as first;
@@ -93,7 +94,7 @@ pub fn tasks(
     requires laid_out { IsLayoutOf plan.now layout.now }
     requires belongs { BelongsTo plan.now input.now }
     requires number { leg.now.number < u64.MAX }
-    requires within { IsWithin input.now (until_of leg.now.until) }
+    requires within { IsWithin input.now (until_of leg.now.stop) }
     ensures are { IfOk result (λ made. made.items ≡ first.first_tasks plan.now input.now (leg_over leg.now input.now) layout.now.stages) }
     ensures begin { IfOk result (λ made. first.BeginLeg plan.now input.now (first.layout_over plan.now input.now leg.now layout.now) made.items) }
 {

@@ -4,15 +4,9 @@ use Rattle.plan_model.specs.PlanData.{PlanData}
 use Rattle.dataflow_model.specs.Leg as model
 use Rattle.layout_rules.specs.Scale.{ScaleData, IsScale}
 use Rattle.stream_model.specs.InputData.{InputData, partition_at}
+use Rattle.leg_lists.specs.Stops.{until_of}
 use Rattle.plan_compiler.specs.LayoutData.{LayoutData, layout_of}
 use Rattle.task_setups.specs.declared.leg.Leg.{Leg}
-use Rattle.task_setups.specs.declared.leg.Until.{Until}
-use Rattle.task_setups.specs.declared.leg.Until.TheVariants.{ToEnd, ToCut}
-
--- how far it is to go
-abbrev pub until_of : Until → model.Until
-until_of ToEnd = model.ToEnd
-until_of (ToCut cut) = model.ToCut cut
 
 -- how many entries each source and partition of an input has
 abbrev pub sizes_of : InputData → ℕ → ℕ → ℕ
@@ -20,7 +14,7 @@ sizes_of i x q = length (partition_at i.sources x q)
 
 -- the leg over an input, with no savepoints while it goes on
 abbrev pub leg_over : Leg → InputData → model.Leg
-leg_over leg i = model.leg_of leg.number [] (until_of leg.until) (sizes_of i)
+leg_over leg i = model.leg_of leg.number [] (until_of leg.stop) (sizes_of i)
 
 -- the layout is the plan's at some scale
 pub record IsLayoutOf (p : PlanData) (l : LayoutData) : Type 0 where

@@ -2,38 +2,31 @@
 
 ghost use Rattle.std.specs.Prelude.{◌≡◌, IfOk};
 ghost use Rattle.dataflow_model.specs.Leg as model;
-ghost use Rattle.task_setups.specs.Legs.{until_of, sizes_of, leg_over};
+ghost use Rattle.leg_lists.specs.Stops.{until_of};
+ghost use Rattle.task_setups.specs.Legs.{sizes_of, leg_over};
 ghost use Rattle.task_setups.specs.Setups as told;
 
 use dataflow_model::Ending;
+use leg_lists::Stop;
 use plain_data::Items;
 use std::alloc::{AllocError, Global};
 use stream_input::Input;
-
-/// How far a leg is to go.
-#[derive(Debug, Drop)]
-pub enum Until {
-    /// To the end of the input.
-    ToEnd,
-    /// To a cut: so many entries of each source and partition.
-    ToCut(Items<Items<u64>>),
-}
 
 /// A leg that takes no savepoint while it goes on.
 #[derive(Debug, Drop)]
 pub struct Leg {
     /// The number of the savepoint that it starts from; 0 where it starts from nothing.
     pub number: u64,
-    pub until: Until,
+    pub stop: Stop,
 }
 
-/// How a leg ends that is to go so far.
-pub(crate) fn ending_of(until: &Until) -> Ending
-    ensures { result ≡ model.ending_of (until_of until.now) }
+/// How a leg ends that is to stop there.
+pub(crate) fn ending_of(stop: &Stop) -> Ending
+    ensures { result ≡ model.ending_of (until_of stop.now) }
 {
-    match until {
-        Until::ToEnd => Ending::AtEnd,
-        Until::ToCut(_) => Ending::AtCut,
+    match stop {
+        Stop::Never => Ending::AtEnd,
+        Stop::At(_) => Ending::AtCut,
     }
 }
 
@@ -50,27 +43,13 @@ fn size_of(input: &Input, source: u32, partition: u32) -> u64
     }
 }
 
-/// How many entries of a partition a cut has.
-fn count_at(cut: &[Items<u64>], source: u32, partition: u32) -> u64
-    ensures { result ≡ model.count_at cut.now source partition }
-{
-    match cut.get(source as usize) {
-        Some(counts) => counts
-            .as_slice()
-            .get(partition as usize)
-            .copied()
-            .unwrap_or(0),
-        None => 0,
-    }
-}
-
 /// How far a partition is read in the end.
 fn limit_of(leg: &Leg, input: &Input, source: u32, partition: u32) -> u64
     ensures { result ≡ (leg_over leg.now input.now).limit 0 source partition }
 {
-    match &leg.until {
-        Until::ToEnd => size_of(input, source, partition),
-        Until::ToCut(cut) => count_at(cut.as_slice(), source, partition),
+    match &leg.stop {
+        Stop::Never => size_of(input, source, partition),
+        Stop::At(cut) => cut.count(source, partition),
     }
 }
 

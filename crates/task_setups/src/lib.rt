@@ -9,7 +9,7 @@ pub mod laws;
 mod leg;
 mod setups;
 
-pub use leg::{Leg, Until};
+pub use leg::Leg;
 pub use setups::setup_of;
 
 #[cfg(test)]

@@ -122,6 +122,6 @@ pub fn setup_of(
         ends: limits_of(alloc, leg, input, source, partitions)?,
         first: leg.number + 1,
         saves: 0,
-        ending: ending_of(&leg.until),
+        ending: ending_of(&leg.stop),
     })
 }

@@ -1,8 +1,9 @@
 ghost use Rattle.std.specs.Prelude.{◌<◌};
 
-use crate::{Leg, Until, setup_of};
+use crate::{Leg, setup_of};
 use dataflow_model::{Ending, Role};
 use lane_kernels::Cmp;
+use leg_lists::{Cut, Stop};
 use logical_plan::Plan;
 use plain_data::Items;
 use plan_compiler::compile;
@@ -80,7 +81,7 @@ fn check(rt: &impl Abort, setup: &Setup, want: Want) {
 fn each_task_of_a_leg_to_the_end(rt: HostRuntime) -> Result<(), Fail> {
     let leg = Leg {
         number: 0,
-        until: Until::ToEnd,
+        stop: Stop::Never,
     };
     let want: [Want; 6] = [
         (Role::Source, 1, 3, Some(3), &[0], &[3]),
@@ -118,7 +119,7 @@ fn check_filters(rt: &impl Abort, setup: &Setup, want: &[(&str, u32, Cmp, i64)])
 fn a_task_has_the_filters_of_its_stage(rt: HostRuntime) -> Result<(), Fail> {
     let leg = Leg {
         number: 0,
-        until: Until::ToEnd,
+        stop: Stop::Never,
     };
     let f = ("f", 2, Cmp::Gt, 0);
     let g = ("g", 1, Cmp::Lt, 100);
@@ -143,7 +144,9 @@ fn the_second_source_to_a_cut(rt: HostRuntime) -> Result<(), Fail> {
     let s = Items::from_vec(vec![in rt.alloc(); 0, 2]?);
     let leg = Leg {
         number: 4,
-        until: Until::ToCut(Items::from_vec(vec![in rt.alloc(); r, s]?)),
+        stop: Stop::At(Cut {
+            counts: Items::from_vec(vec![in rt.alloc(); r, s]?),
+        }),
     };
     let want: [(Want, u32); 4] = [
         ((Role::Source, 1, 1, Some(1), &[0], &[1]), 0),
@@ -172,7 +175,9 @@ fn the_second_source_to_a_cut(rt: HostRuntime) -> Result<(), Fail> {
 fn a_cut_that_lacks_a_partition_ends_at_nothing(rt: HostRuntime) -> Result<(), Fail> {
     let leg = Leg {
         number: u64::MAX - 1,
-        until: Until::ToCut(Items::from_vec(Vec::new(rt.alloc()))),
+        stop: Stop::At(Cut {
+            counts: Items::from_vec(Vec::new(rt.alloc())),
+        }),
     };
     let setup = told(&rt, NO_FILTER, TWO_THREE, THREE_AND_TWO, &leg, 1)?;
     check(&rt, &setup, (Role::Source, 1, 3, Some(3), &[1], &[0]));

@@ -4,7 +4,8 @@ use Rattle.std.proofs.lemmas.List.FromFn.{map-range_with_len_more}
 use Rattle.layout_rules.specs.Rules.{IsCompiled}
 use Rattle.layout_rules.specs.Stages.{task_count}
 use Rattle.layout_rules.proofs.Facts.{compiled_ever}
-use Rattle.task_setups.specs.Legs.{until_of, leg_over}
+use Rattle.leg_lists.specs.Stops.{until_of}
+use Rattle.task_setups.specs.Legs.{leg_over}
 use Rattle.leg_tasks.specs.Beginning.{first_task, layout_over, BeginLeg}
 use Rattle.leg_tasks.proofs.Starting.{first_tasks_begin}
 use Rattle.leg_tasks.proofs.beginning.tasks.Goals as goal
@@ -29,4 +30,4 @@ returns-clause-begin c =
     let compiled : IsCompiled p made.scale l.stages = subst (IsCompiled p made.scale) (sym (ap (λ m. m.stages) made.is)) (compiled_ever p made.scale) in
     let all : c.loop-task.task ≡ task_count l.stages = omega (arith, c.loop-task-test.false, c.loop-task.auto.task-end, c.task_count-task-end.ensures.says) in
     let are = c.loop-task.invariant ∙ ap (λ n. map (first_task p i (leg_over leg i) l.stages) (range_with_len 0 n)) all in
-    subst (BeginLeg p i (layout_over p i leg l)) (sym are) (first_tasks_begin p made.scale i leg.number (until_of leg.until) l.stages c.columns-columns.ensures.sound made.fits compiled c.requires.belongs c.requires.within)
+    subst (BeginLeg p i (layout_over p i leg l)) (sym are) (first_tasks_begin p made.scale i leg.number (until_of leg.stop) l.stages c.columns-columns.ensures.sound made.fits compiled c.requires.belongs c.requires.within)
