@@ -40,3 +40,4 @@ mod Examples
 mod Admitted
 mod Delivered
 mod Compiled
+pub mod Facts

@@ -1,3 +1,4 @@
 mod Partitions
 mod Suiting
 mod Starting
+mod Delivering

@@ -36,7 +36,7 @@ use Rattle.leg_tasks.specs.Beginning.{first_offsets, first_marks, empty_window, 
 use Rattle.leg_tasks.proofs.Suiting.{when_true, when_false, first_operator}
 
 -- the first offsets are 0
-zeros : (n q : ℕ) → slice_index (replicate n 0) q ≡ 0
+pub zeros : (n q : ℕ) → slice_index (replicate n 0) q ≡ 0
 zeros n q =
     elim (cases_lt q n) [
       | inl l ↦ get_or-replicate n q 0 0 l

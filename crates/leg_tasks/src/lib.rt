@@ -6,6 +6,7 @@
 #![tactic(auto)]
 
 mod beginning;
+pub mod laws;
 mod opening;
 
 pub use beginning::{begin, tasks};
