@@ -1,1 +1,2 @@
+pub mod Facts
 mod Zipped

@@ -1,0 +1,4 @@
+mod Unread
+mod Reached
+mod Dealt
+mod Opened

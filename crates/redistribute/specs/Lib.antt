@@ -1,0 +1,5 @@
+pub mod StartData
+pub mod Snapshots
+pub mod Stopping
+pub mod Parts
+pub mod Laws

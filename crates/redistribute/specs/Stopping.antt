@@ -1,0 +1,11 @@
+-- Where a leg can stop.
+use Rattle.std.specs.Prelude.{ℕ, List}
+use Rattle.stream_model.specs.declared.entry.Entry.{Entry}
+use Rattle.stream_model.specs.Watermarks.{IsCut, IsBefore}
+use Rattle.leg_lists.specs.declared.stop.Stop.{Stop}
+use Rattle.leg_lists.specs.declared.stop.Stop.TheVariants.{Never, At}
+
+-- a leg over these sources that begins at a cut can stop so: never, or at a cut of the sources that is no earlier
+abbrev pub CanStop : List (List (List Entry)) → List (List ℕ) → Stop → Type 0
+CanStop sources begin Never = Unit {0}
+CanStop sources begin (At cut) = IsCut sources cut.counts × IsBefore begin cut.counts

@@ -1,0 +1,20 @@
+//! Laws of the definitions, each the contract of a function that does nothing.
+
+ghost use Rattle.redistribute.specs.Laws.{EachPartitionOnce, NothingElse, TasksOpen};
+
+/// Each partition of each source stands in what just one task of the layout begins with, at one place, with the offset
+/// and the watermark that the start has for it.
+pub fn each_partition_once()
+    ensures { EachPartitionOnce }
+{}
+
+/// And nothing else stands in what a task begins with.
+pub fn nothing_else()
+    ensures { NothingElse }
+{}
+
+/// Tasks that begin with what a cut of the input leaves, in a leg that can stop as it is to, are the tasks of one leg, each
+/// in an opening state: with the offsets and the watermarks of its partitions, and all windows empty.
+pub fn tasks_open()
+    ensures { TasksOpen }
+{}

@@ -1,0 +1,204 @@
+use crate::{PartitionStart, Start, TaskStart, spread};
+use leg_lists::{Cut, LegFault, Stop};
+use logical_plan::Plan;
+use plain_data::Items;
+use plan_compiler::compile;
+use plan_scale::Scale;
+use savepoint_codec::SavedPartition;
+use std::alloc::{AllocError, Global};
+use std::process::Abort;
+use std::test::Fail;
+use stream_input::Input;
+
+const TWO_SOURCES: &str =
+    r#"{"columns":3,"maxParallelism":128,"time":1,"key":2,"sources":[{"uid":"r","partitions":1},{"uid":"s","partitions":3}],"filters":[{"uid":"f","column":0,"op":"gt","value":0}],"window":{"uid":"w","size":10,"aggregates":[{"fn":"count"}]}}"#;
+
+const ONE_TWO_ONE: &str =
+    r#"{"ring":4,"operators":{"r":{"parallelism":1},"s":{"parallelism":2},"f":{"parallelism":1},"w":{"parallelism":2}}}"#;
+
+const ONE_FOUR_ONE: &str =
+    r#"{"ring":4,"operators":{"r":{"parallelism":1},"s":{"parallelism":4},"f":{"parallelism":1},"w":{"parallelism":1}}}"#;
+
+const ONE_NONE_AND_TWO: &str =
+    r#"{"r":[[{"watermark":9}]],"s":[[{"watermark":4}],[],[{"watermark":5},{"watermark":7}]]}"#;
+
+/// What a task begins with, in words that are easy to write.
+#[derive(Drop)]
+enum Want<'a> {
+    Source(&'a [(u32, u64, i64)]),
+    Chain,
+    Window,
+    Sink,
+}
+
+fn check_source(rt: &impl Abort, starts: &[PartitionStart], want: &[(u32, u64, i64)]) {
+    assert_eq!(rt; starts.len(), want.len());
+    for (start, want) in starts.iter().zip(want) {
+        assert_eq!(rt; (start.partition, start.offset, start.watermark), *want);
+    }
+}
+
+fn check(rt: &impl Abort, start: &TaskStart, want: &Want) {
+    match (start, want) {
+        (TaskStart::Source(starts), Want::Source(want)) => {
+            check_source(rt, starts.as_slice(), want);
+        }
+        (TaskStart::Chain, Want::Chain)
+        | (TaskStart::Window, Want::Window)
+        | (TaskStart::Sink, Want::Sink) => {}
+        _ => assert!(rt; false),
+    }
+}
+
+/// Partitions that were read so far, each with its watermark.
+fn saved(
+    alloc: Global,
+    sources: &[&[(u64, i64)]],
+) -> Result<Items<Items<SavedPartition>>, AllocError> {
+    let mut saved = Vec::new(alloc);
+    for partitions in sources {
+        let mut source = Vec::new(alloc);
+        for (offset, watermark) in *partitions {
+            source.push(SavedPartition {
+                offset: *offset,
+                watermark: *watermark,
+            })?;
+        }
+        saved.push(Items::from_vec(source))?;
+    }
+    Ok(Items::from_vec(saved))
+}
+
+fn stop_at(alloc: Global, counts: &[&[u64]]) -> Result<Stop, AllocError> {
+    let mut sources = Vec::new(alloc);
+    for counts in counts {
+        sources.push(Items::from_vec(Vec::from_slice(alloc, counts)?))?;
+    }
+    Ok(Stop::At(Cut {
+        counts: Items::from_vec(sources),
+    }))
+}
+
+/// What each task at a scale begins with, of a start.
+fn spread_at(rt: &impl AllocGlobal, scale: &str, start: &Start) -> Result<Vec<TaskStart>, Fail> {
+    let plan = Plan::read(rt.alloc(), TWO_SOURCES.as_bytes())?;
+    let scale = Scale::read(rt.alloc(), &plan, scale.as_bytes())?;
+    let layout = compile(rt.alloc(), &plan, &scale)?;
+    Ok(spread(rt.alloc(), &plan, start, &layout)?)
+}
+
+fn empty(rt: &impl AllocGlobal) -> Result<Start, Fail> {
+    let plan = Plan::read(rt.alloc(), TWO_SOURCES.as_bytes())?;
+    let input = Input::read(rt.alloc(), &plan, ONE_NONE_AND_TWO.as_bytes())?;
+    Ok(Start::empty(rt.alloc(), &plan, &input)?)
+}
+
+fn stop(rt: &impl AllocGlobal, start: &Start, stop: &Stop) -> Result<Result<(), LegFault>, Fail> {
+    let plan = Plan::read(rt.alloc(), TWO_SOURCES.as_bytes())?;
+    let input = Input::read(rt.alloc(), &plan, ONE_NONE_AND_TWO.as_bytes())?;
+    Ok(start.check_stop(&input, stop))
+}
+
+fn check_all(rt: &impl Abort, starts: &[TaskStart], want: &[Want]) {
+    assert_eq!(rt; starts.len(), want.len());
+    for (start, want) in starts.iter().zip(want) {
+        check(rt, start, want);
+    }
+}
+
+#[test]
+fn nothing_was_read_at_first(rt: HostRuntime) -> Result<(), Fail> {
+    let start = empty(&rt)?;
+    assert_eq!(rt; start.number(), 0);
+    let low = i64::MIN;
+    let want = [
+        Want::Source(&[(0, 0, low)]),
+        Want::Source(&[(0, 0, low), (2, 0, low)]),
+        Want::Source(&[(1, 0, i64::MAX)]),
+        Want::Chain,
+        Want::Window,
+        Want::Window,
+        Want::Sink,
+    ];
+    let starts = spread_at(&rt, ONE_TWO_ONE, &start)?;
+    check_all(&rt, &starts, &want);
+    Ok(())
+}
+
+#[test]
+fn a_start_is_dealt_out_unchanged(rt: HostRuntime) -> Result<(), Fail> {
+    let saved = saved(
+        rt.alloc(),
+        &[&[(1, i64::MAX)], &[(0, i64::MIN), (0, i64::MAX), (1, 5)]],
+    )?;
+    let start = Start::from_saved(u64::MAX, saved);
+    let want = [
+        Want::Source(&[(0, 1, i64::MAX)]),
+        Want::Source(&[(0, 0, i64::MIN)]),
+        Want::Source(&[(1, 0, i64::MAX)]),
+        Want::Source(&[(2, 1, 5)]),
+        Want::Source(&[]),
+        Want::Chain,
+        Want::Window,
+        Want::Sink,
+    ];
+    let starts = spread_at(&rt, ONE_FOUR_ONE, &start)?;
+    check_all(&rt, &starts, &want);
+    Ok(())
+}
+
+#[test]
+fn a_start_tells_its_number_and_offsets(rt: HostRuntime) -> Result<(), Fail> {
+    let saved = saved(rt.alloc(), &[&[(3, 4)], &[(u64::MAX, 5), (6, 7)]])?;
+    let start = Start::from_saved(7, saved);
+    assert_eq!(rt; start.number(), 7);
+    let sources = start.sources();
+    assert_eq!(rt; sources.len(), 2);
+    assert_eq!(rt; (sources[0].len(), sources[1].len()), (1, 2));
+    assert_eq!(rt; (start.offset(0, 0), start.offset(1, 0)), (3, u64::MAX));
+    assert_eq!(rt; start.offset(1, 1), 6);
+    Ok(())
+}
+
+#[test]
+fn a_leg_stops_between_its_start_and_the_end(rt: HostRuntime) -> Result<(), Fail> {
+    let saved = saved(
+        rt.alloc(),
+        &[&[(0, i64::MIN)], &[(1, i64::MAX), (0, i64::MAX), (1, 5)]],
+    )?;
+    let start = Start::from_saved(1, saved);
+    assert_eq!(rt; stop(&rt, &start, &Stop::Never)?, Ok(()));
+    let cuts: [&[&[u64]]; 3] = [
+        &[&[0], &[1, 0, 1]],
+        &[&[1], &[1, 0, 2]],
+        &[&[0], &[1, 0, 2]],
+    ];
+    for cut in cuts {
+        let at = stop_at(rt.alloc(), cut)?;
+        assert_eq!(rt; stop(&rt, &start, &at)?, Ok(()));
+    }
+    Ok(())
+}
+
+#[test]
+fn a_leg_stops_nowhere_else(rt: HostRuntime) -> Result<(), Fail> {
+    let saved = saved(
+        rt.alloc(),
+        &[&[(0, i64::MIN)], &[(1, i64::MAX), (0, i64::MAX), (1, 5)]],
+    )?;
+    let start = Start::from_saved(1, saved);
+    let others: [&[&[u64]]; 7] = [
+        &[&[0], &[1, 0, 0]],
+        &[&[0], &[0, 0, 2]],
+        &[&[2], &[1, 0, 2]],
+        &[&[1], &[1, 1, 2]],
+        &[&[1], &[1, 0]],
+        &[&[1]],
+        &[&[1], &[1, 0, 2], &[]],
+    ];
+    for cut in others {
+        let at = stop_at(rt.alloc(), cut)?;
+        assert_eq!(rt; stop(&rt, &start, &at)?, Err(LegFault::StopRange));
+    }
+    Ok(())
+}
