@@ -2,3 +2,4 @@
 pub use Rattle.input_flow.proofs.Places.{same_sources, same_partitions, there}
 pub use Rattle.input_flow.proofs.Orderly.{at_or, partition_has, input_is_orderly}
 pub use Rattle.input_flow.proofs.Cuts.{records_dealt, watermark_at_cut, snapshot_at_cut, due_at_cut, full_is_cut, full_counts, empty_is_cut, empty_counts}
+pub use Rattle.input_flow.proofs.Cuts.{records_dealt, watermark_at_cut, snapshot_at_cut, due_at_cut, full_is_cut, full_counts}

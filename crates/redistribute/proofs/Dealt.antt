@@ -10,10 +10,10 @@ use Rattle.plain_data.specs.Times.{lowest}
 use Rattle.plan_model.specs.PlanData.{PlanData, IsPlan}
 use Rattle.dataflow_model.specs.declared.message.Message.TheVariants.{End}
 use Rattle.dataflow_model.specs.declared.role.Role.{Role}
-use Rattle.dataflow_model.specs.declared.role.Role.TheVariants as role
 use Rattle.dataflow_model.specs.Role.{is_source}
 use Rattle.dataflow_model.specs.AbstractLayout.{AbstractLayout, AbstractInput, IsLayout, Deals, reader_of, place_in_reader, partition_read}
 use Rattle.dataflow_model.specs.Leg.{Leg, ToEnd, leg_of}
+use Rattle.dataflow_model.specs.declared.role.Role.TheVariants as role
 use Rattle.layout_rules.specs.Below.{sum_below, row_of}
 use Rattle.layout_rules.specs.declared.stage.Stage.{Stage}
 use Rattle.layout_rules.specs.Rules.{IsCompiled, window_of, stages_of}

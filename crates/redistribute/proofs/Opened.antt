@@ -1,30 +1,35 @@
 -- Tasks that begin with what a cut leaves are in opening states.
 use Rattle.std.proofs.Common.{◌≡◌, ℕ, zero, suc, ◌<◌, ◌≤◌, ℤ, List, [], ◌∷◌, length, map, get_or, slice_index, refl, sym, ap, subst, ◌∙◌, arith}
-use Rattle.std.specs.Prelude.{slice_index_or}
+use Rattle.std.specs.Prelude.{slice_index_or, Option, None, ◌==◌, Bool, true, false, if◌then◌else◌}
 use Rattle.std.specs.List.{AllZip}
-use Rattle.std.specs.FinMap.{empty, get-empty}
+use Rattle.std.specs.FinMap.{get, empty, get-empty}
 use Rattle.std.proofs.lemmas.List.{length-map}
 use Rattle.plan_model.specs.Rows.{pane_cmp}
 use Rattle.plan_model.specs.PlanData.{PlanData, IsPlan}
+use Rattle.plan_model.specs.declared.spec.Pane.{Pane}
 use Rattle.stream_model.specs.declared.entry.Entry.{Entry}
 use Rattle.stream_model.specs.InputData.{InputData, BelongsTo, partition_at}
-use Rattle.stream_model.specs.Watermarks.{partition_watermark, IsCut, IsBefore}
+use Rattle.stream_model.specs.Watermarks.{partition_watermark, IsCut, IsBefore, empty_cut, merged_watermark}
+use Rattle.stream_model.proofs.Facts.{nothing_at_first}
 use Rattle.dataflow_model.specs.declared.role.Role.{Role}
-use Rattle.dataflow_model.specs.declared.role.Role.TheVariants as role
 use Rattle.dataflow_model.specs.AbstractTask.{AbstractTask}
 use Rattle.dataflow_model.specs.AbstractLayout.{AbstractLayout, partition_read}
 use Rattle.dataflow_model.specs.Leg.{Leg, until_at, count_at, leg_of}
 use Rattle.dataflow_model.specs.Opening.{IsOpening}
 use Rattle.dataflow_model.specs.Start.{IsLegStart}
+use Rattle.dataflow_model.specs.InputCuts.{snapshot_at}
+use Rattle.dataflow_model.specs.State.{State}
+use Rattle.dataflow_model.specs.declared.role.Role.TheVariants as role
 use Rattle.layout_rules.specs.Laws.{IsRoute}
 use Rattle.layout_rules.specs.Layouts.{partition_counts, abstract_layout}
 use Rattle.layout_rules.specs.Rules.{IsCompiled, window_of, stages_of}
 use Rattle.layout_rules.specs.Scale.{ScaleData, IsScale}
 use Rattle.layout_rules.specs.Stages.{source_of, task_stage, task_role, partitions_of}
-use Rattle.plan_compiler.specs.LayoutData.{LayoutData}
-use Rattle.input_flow.specs.InputEntries.{entries_of, input_of}
 use Rattle.layout_rules.proofs.Facts.{compiled_ever, tasks_are_one_leg}
-use Rattle.input_flow.proofs.Facts.{there}
+use Rattle.plan_compiler.specs.LayoutData.{LayoutData}
+use Rattle.input_flow.specs.InputEntries.{entries_of, input_of, counts_at}
+use Rattle.input_flow.proofs.Facts.{there, snapshot_at_cut}
+use Rattle.dataflow_laws.specs.Legs.{AreAt, HaveMarks, HaveSnapshot, LeaveSnapshot}
 use Rattle.leg_lists.specs.declared.stop.Stop.{Stop}
 use Rattle.leg_lists.specs.declared.stop.Stop.TheVariants.{Never, At}
 use Rattle.leg_lists.specs.Stops.{until_of}
@@ -32,8 +37,8 @@ use Rattle.redistribute.specs.declared.task_start.PartitionStart.{PartitionStart
 use Rattle.redistribute.specs.StartData.{StartData}
 use Rattle.redistribute.specs.Snapshots.{saved_partition, saved_source, start_at}
 use Rattle.redistribute.specs.Stopping.{CanStop}
-use Rattle.redistribute.specs.Parts.{at_first, saved_at, partition_start, start_of_role, task_start}
-use Rattle.redistribute.specs.Laws.{opening_of, TasksOpen}
+use Rattle.redistribute.specs.Parts.{at_first, saved_at, partition_start, start_of_role}
+use Rattle.redistribute.specs.Laws.{opening_of, opening_states, TasksOpen, EmptyHasSnapshot}
 use Rattle.redistribute.proofs.Dealt.{known, early, places}
 
 -- ---- what a cut leaves of a partition
@@ -93,6 +98,10 @@ route i cut stop is_cut can = record { rising = goes_up i cut stop is_cut can; w
 
 -- ---- opening states
 
+none_either : {X : Type 0} (b : Bool) (x : Option X) → x ≡ None → None ≡ (if b then x else None)
+none_either true x e = sym e
+none_either false x e = refl
+
 -- what a function has of the partitions that a function has
 mapped_at : {Y : Type 0} (g : PartitionStart → Y) (f : ℕ → PartitionStart) (xs : List ℕ) (q : ℕ) (d : Y) → q < length xs → slice_index_or (map g (map f xs)) q d ≡ g (f (slice_index xs q))
 mapped_at g f [] q d l = absurd (omega (arith, l))
@@ -117,15 +126,15 @@ opens_as p role.Chain k starts h = refl
 opens_as p role.Window k starts h = (empty, refl, λ q d. get-empty pane_cmp q)
 opens_as p role.Sink k starts h = refl
 
-module _ (p : PlanData) (c : ScaleData) (i : InputData) (cut : List (List ℕ)) (n : ℕ) (stop : Stop) (ip : IsPlan p) (sc : IsScale p c) (ok : IsCompiled p c (stages_of p c)) (belongs : BelongsTo p i) (is_cut : IsCut i.sources cut) (can : CanStop i.sources cut stop) where
-  abbrev leg : Leg
-  leg = leg_of n [] (until_of stop) (entries_of i).size
-
+module _ (p : PlanData) (c : ScaleData) (i : InputData) (cut : List (List ℕ)) (n : ℕ) (leg : Leg) (ip : IsPlan p) (sc : IsScale p c) (ok : IsCompiled p c (stages_of p c)) (belongs : BelongsTo p i) (is_cut : IsCut i.sources cut) where
   abbrev L : AbstractLayout
   L = abstract_layout p (entries_of i) leg (stages_of p c) (window_of (stages_of p c))
 
   abbrev s : StartData
   s = start_at i.sources cut n
+
+  abbrev states : ℕ → State
+  states = opening_states p s L (stages_of p c)
 
   abbrev mine : ℕ → List ℕ
   mine t = partitions_of (partition_counts p) (stages_of p c) t
@@ -157,10 +166,10 @@ module _ (p : PlanData) (c : ScaleData) (i : InputData) (cut : List (List ℕ)) 
         ∙ sym (ap (partition_watermark (partition_at i.sources x k)) (mapped_at (λ b. b.offset) (partition_start s x) (mine t) q 0 fits ∙ ap (λ z. z.offset) a));
   }
 
-  opens : (t : ℕ) → IsOpening p (L.task t).role (L.task t) (opening_of (L.task t).inputs (task_start (partition_counts p) s (stages_of p c) t))
+  opens : (t : ℕ) → IsOpening p (L.task t).role (L.task t) (states t)
   opens t = opens_as p (task_role (stages_of p c) t) (L.task t) (starts_at t) (marked_at t)
 
-  begins : (t q : ℕ) → t < L.before → (L.task t).role ≡ role.Source → q < (L.task t).inputs → slice_index (opening_of (L.task t).inputs (task_start (partition_counts p) s (stages_of p c) t)).offsets q ≡ count_at cut (L.task t).source ((L.task t).partition q)
+  begins : (t q : ℕ) → t < L.before → (L.task t).role ≡ role.Source → q < (L.task t).inputs → slice_index (states t).offsets q ≡ count_at cut (L.task t).source ((L.task t).partition q)
   begins t q l h m =
       let x = source_of (task_stage (stages_of p c) t).operators in
       let fits : q < length (mine t) = (let z = places p c (entries_of i) leg ip sc ok t h in omega (arith, m, z)) in
@@ -168,13 +177,67 @@ module _ (p : PlanData) (c : ScaleData) (i : InputData) (cut : List (List ℕ)) 
       ∙ mapped_at (λ b. b.offset) (partition_start s x) (mine t) q 0 fits
       ∙ ap (λ z. z.offset) (saved_is t q h fits)
 
-  leg_start : IsLegStart p L (λ t. opening_of (L.task t).inputs (task_start (partition_counts p) s (stages_of p c) t))
-  leg_start = record {
-    opens = λ t l. opens t;
-    leg = tasks_are_one_leg p (entries_of i) (stages_of p c) (window_of (stages_of p c)) n cut [] (until_of stop) (λ t. opening_of (L.task t).inputs (task_start (partition_counts p) s (stages_of p c) t)) (route i cut stop is_cut can) begins;
-  }
+  -- the cut that they have come to
+  are_at : AreAt (input_of p i) L states (counts_at p cut)
+  are_at t k l h m =
+      let y = (known p c (entries_of i) leg ip sc ok).1.there t k l h m in
+      begins t k l h m ∙ sym (λ j. count_at cut (y.source j) (y.number j))
+
+  -- and the watermarks there
+  have_marks : HaveMarks (input_of p i) L states (counts_at p cut)
+  have_marks t k d l h m =
+      let y = (known p c (entries_of i) leg ip sc ok).1.there t k l h m in
+      ap (λ r. slice_index_or (opening_of (L.task t).inputs (start_of_role r (starts_at t))).inputs.marks k d) h
+      ∙ (marked_at t h).marked k d m
+      ∙ ap (partition_watermark (partition_at i.sources (L.task t).source ((L.task t).partition k))) (ap (λ r. slice_index (opening_of (L.task t).inputs (start_of_role r (starts_at t))).offsets k) (sym h) ∙ begins t k l h m)
+      ∙ sym (λ j. partition_watermark (partition_at i.sources (y.source j) (y.number j)) (count_at cut (y.source j) (y.number j)))
+
+  -- nothing stands in their windows
+  have_nothing : (w : ℤ) → ((q : Pane) → snapshot_at p (input_of p i) (counts_at p cut) w q ≡ None) → HaveSnapshot p (input_of p i) L states (counts_at p cut) w
+  have_nothing w none u l m q =
+      let role_is = (known p c (entries_of i) leg ip sc ok).0.roles_window u l m in
+      ap (λ r. get (opening_of (L.task u).inputs (start_of_role r (starts_at u))).windows q) role_is
+      ∙ get-empty pane_cmp q
+      ∙ none_either (L.owner q.key == u) (snapshot_at p (input_of p i) (counts_at p cut) w q) (none q)
+
+leg_start : (p : PlanData) (c : ScaleData) (i : InputData) (cut : List (List ℕ)) (n : ℕ) (stop : Stop) → IsPlan p → IsScale p c → BelongsTo p i → IsCut i.sources cut → CanStop i.sources cut stop
+    → let a = abstract_layout p (entries_of i) (leg_of n [] (until_of stop) (entries_of i).size) (stages_of p c) (window_of (stages_of p c)) in IsLegStart p a (opening_states p (start_at i.sources cut n) a (stages_of p c))
+leg_start p c i cut n stop ip sc belongs is_cut can =
+    let leg : Leg = leg_of n [] (until_of stop) (entries_of i).size in
+    let ok = compiled_ever p c in
+    record {
+      opens = λ t l. opens p c i cut n leg ip sc ok belongs is_cut t;
+      leg = tasks_are_one_leg p (entries_of i) (stages_of p c) (window_of (stages_of p c)) n cut [] (until_of stop) (states p c i cut n leg ip sc ok belongs is_cut) (route i cut stop is_cut can) (begins p c i cut n leg ip sc ok belongs is_cut);
+    }
 
 pub tasks_open : TasksOpen
 tasks_open p l i cut n stop ip lo belongs is_cut can =
-    let R : LayoutData → Type 0 = λ m. let a = abstract_layout p (entries_of i) (leg_of n [] (until_of stop) (entries_of i).size) m.stages (window_of m.stages) in IsLegStart p a (λ t. opening_of (a.task t).inputs (task_start (partition_counts p) (start_at i.sources cut n) m.stages t)) in
-    subst R (sym lo.is) (leg_start p lo.scale i cut n stop ip lo.fits (compiled_ever p lo.scale) belongs is_cut can)
+    let R : LayoutData → Type 0 = λ m. let a = abstract_layout p (entries_of i) (leg_of n [] (until_of stop) (entries_of i).size) m.stages (window_of m.stages) in IsLegStart p a (opening_states p (start_at i.sources cut n) a m.stages) in
+    subst R (sym lo.is) (leg_start p lo.scale i cut n stop ip lo.fits belongs is_cut can)
+
+-- ---- the empty cut
+
+none_read : (ps : List (List Entry)) → AllZip (λ p n. n ≤ length p) ps (map (λ p. 0) ps)
+none_read [] = tt
+none_read (p ∷ ps) = (omega arith, none_read ps)
+
+empty_is_cut : (ss : List (List (List Entry))) → IsCut ss (empty_cut ss)
+empty_is_cut [] = tt
+empty_is_cut (s ∷ ss) = (none_read s, empty_is_cut ss)
+
+pub empty_has_snapshot : EmptyHasSnapshot
+empty_has_snapshot p l i n leg ip lo belongs =
+    let cut = empty_cut i.sources in
+    let is_cut = empty_is_cut i.sources in
+    let w = merged_watermark i.sources cut in
+    let none : (q : Pane) → snapshot_at p (input_of p i) (counts_at p cut) w q ≡ None = λ q. snapshot_at_cut p i cut q belongs is_cut ∙ nothing_at_first p i.sources q in
+    let c = lo.scale in
+    let ok = compiled_ever p c in
+    let R : LayoutData → Type 0 = λ m. let a = abstract_layout p (entries_of i) leg m.stages (window_of m.stages) in LeaveSnapshot p (input_of p i) a (opening_states p (start_at i.sources cut n) a m.stages) (counts_at p cut) w in (
+      is_cut,
+      subst R (sym lo.is) (record {
+        offsets = are_at p c i cut n leg ip lo.fits ok belongs is_cut;
+        marks = have_marks p c i cut n leg ip lo.fits ok belongs is_cut;
+        windows = have_nothing p c i cut n leg ip lo.fits ok belongs is_cut w none;
+      }),
+    )

@@ -4,8 +4,9 @@ use Rattle.std.specs.FinMap.{empty}
 use Rattle.plain_data.specs.Times.{lowest}
 use Rattle.plan_model.specs.PlanData.{PlanData, IsPlan}
 use Rattle.stream_model.specs.InputData.{InputData, BelongsTo}
-use Rattle.stream_model.specs.Watermarks.{IsCut}
-use Rattle.dataflow_model.specs.Leg.{leg_of}
+use Rattle.stream_model.specs.Watermarks.{IsCut, empty_cut, merged_watermark}
+use Rattle.dataflow_model.specs.AbstractLayout.{AbstractLayout}
+use Rattle.dataflow_model.specs.Leg.{Leg, leg_of}
 use Rattle.dataflow_model.specs.Opening.{opening}
 use Rattle.dataflow_model.specs.Start.{IsLegStart}
 use Rattle.dataflow_model.specs.State.{State}
@@ -14,7 +15,8 @@ use Rattle.layout_rules.specs.Rules.{window_of}
 use Rattle.layout_rules.specs.declared.stage.Stage.{Stage}
 use Rattle.layout_rules.specs.Stages.{source_of, task_stage, task_count}
 use Rattle.plan_compiler.specs.LayoutData.{LayoutData, IsLayoutOf}
-use Rattle.input_flow.specs.InputEntries.{entries_of}
+use Rattle.input_flow.specs.InputEntries.{entries_of, input_of, counts_at}
+use Rattle.dataflow_laws.specs.Legs.{LeaveSnapshot}
 use Rattle.leg_lists.specs.declared.stop.Stop.{Stop}
 use Rattle.leg_lists.specs.Stops.{until_of}
 use Rattle.redistribute.specs.declared.task_start.PartitionStart.{PartitionStart}
@@ -54,8 +56,19 @@ opening_of n Chain = opening n [] (replicate n lowest) empty
 opening_of n Window = opening n [] (replicate n lowest) empty
 opening_of n Sink = opening n [] (replicate n lowest) empty
 
+-- the states that the tasks of a layout of these stages begin in, of a start
+abbrev pub opening_states : PlanData → StartData → AbstractLayout → List Stage → ℕ → State
+opening_states p s a stages t = opening_of (a.task t).inputs (task_start (partition_counts p) s stages t)
+
 -- tasks that begin with what a cut leaves, in a leg that can stop as it is to, are tasks of one leg in opening states
 abbrev pub TasksOpen : Type 0
 TasksOpen = (p : PlanData) (l : LayoutData) (i : InputData) (cut : List (List ℕ)) (n : ℕ) (stop : Stop) → IsPlan p → IsLayoutOf p l → BelongsTo p i → IsCut i.sources cut → CanStop i.sources cut stop
     → let a = abstract_layout p (entries_of i) (leg_of n [] (until_of stop) (entries_of i).size) l.stages (window_of l.stages) in
-    IsLegStart p a (λ t. opening_of (a.task t).inputs (task_start (partition_counts p) (start_at i.sources cut n) l.stages t))
+    IsLegStart p a (opening_states p (start_at i.sources cut n) a l.stages)
+
+-- tasks that begin with the start from nothing have the snapshot of the empty cut: its offsets, its watermarks, and nothing in the windows
+abbrev pub EmptyHasSnapshot : Type 0
+EmptyHasSnapshot = (p : PlanData) (l : LayoutData) (i : InputData) (n : ℕ) (leg : Leg) → IsPlan p → IsLayoutOf p l → BelongsTo p i
+    → let cut = empty_cut i.sources in
+    let a = abstract_layout p (entries_of i) leg l.stages (window_of l.stages) in
+    IsCut i.sources cut × LeaveSnapshot p (input_of p i) a (opening_states p (start_at i.sources cut n) a l.stages) (counts_at p cut) (merged_watermark i.sources cut)

@@ -1,11 +1,11 @@
 -- The part of a start that each task of a layout begins with.
 use Rattle.std.specs.Prelude.{ℕ, List, [], map, slice_index_or}
 use Rattle.plain_data.specs.Times.{lowest}
-use Rattle.savepoint_codec.specs.declared.savepoint.SavedPartition.{SavedPartition}
 use Rattle.dataflow_model.specs.declared.role.Role.{Role}
 use Rattle.dataflow_model.specs.declared.role.Role.TheVariants as role
 use Rattle.layout_rules.specs.declared.stage.Stage.{Stage}
 use Rattle.layout_rules.specs.Stages.{source_of, task_stage, task_role, partitions_of}
+use Rattle.savepoint_codec.specs.declared.savepoint.SavedPartition.{SavedPartition}
 use Rattle.redistribute.specs.declared.task_start.PartitionStart.{PartitionStart}
 use Rattle.redistribute.specs.declared.task_start.TaskStart.{TaskStart}
 use Rattle.redistribute.specs.declared.task_start.TaskStart.TheVariants.{Source, Chain, Window, Sink}

@@ -1,6 +1,6 @@
 //! Laws of the definitions, each the contract of a function that does nothing.
 
-ghost use Rattle.redistribute.specs.Laws.{EachPartitionOnce, NothingElse, TasksOpen};
+ghost use Rattle.redistribute.specs.Laws.{EachPartitionOnce, NothingElse, TasksOpen, EmptyHasSnapshot};
 
 /// Each partition of each source stands in what just one task of the layout begins with, at one place, with the offset
 /// and the watermark that the start has for it.
@@ -17,4 +17,9 @@ pub fn nothing_else()
 /// in an opening state: with the offsets and the watermarks of its partitions, and all windows empty.
 pub fn tasks_open()
     ensures { TasksOpen }
+{}
+
+/// Tasks that begin with the start from nothing have the snapshot of the empty cut.
+pub fn empty_has_snapshot()
+    ensures { EmptyHasSnapshot }
 {}

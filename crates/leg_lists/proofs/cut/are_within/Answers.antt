@@ -1,10 +1,10 @@
 use Rattle.std.proofs.Common.{◌≤◌, ℕ, ◌<◌, length, get_or, sym, arith, rules}
+use Rattle.std.specs.Prelude.{List}
 use Rattle.std.proofs.lemmas.Grind.{common_steps}
 use Rattle.std.proofs.lemmas.Slice.Zip.{AllZip-long}
 use Rattle.stream_model.specs.declared.entry.Entry.{Entry}
 use Rattle.leg_lists.proofs.Zipped.{all_zip, at_each}
 use Rattle.leg_lists.proofs.cut.are_within.Goals as goal
-use Rattle.std.specs.Prelude.{List}
 
 pub returns-then-partitions-counts : goal.returns-then-partitions-counts
 returns-then-partitions-counts c = (
