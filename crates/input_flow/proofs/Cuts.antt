@@ -1,5 +1,5 @@
 -- A cut of an input is the same cut to layouts and legs.
-use Rattle.std.proofs.Common.{◌≡◌, ℕ, ◌≤◌, ℤ, ◌≤ℤ◌, Bool, List, [], ◌∷◌, length, map, get_or, slice_index, sym, ap, subst, ◌∙◌, None, if◌then◌else◌, arith}
+use Rattle.std.proofs.Common.{◌≡◌, ℕ, zero, suc, ◌≤◌, ℤ, ◌≤ℤ◌, Bool, List, [], ◌∷◌, length, map, get_or, slice_index, sym, ap, subst, ◌∙◌, None, if◌then◌else◌, arith}
 use Rattle.std.specs.List.{AllZip, filter}
 use Rattle.std.specs.Option.{option_and_then}
 use Rattle.std.proofs.Math.ListN.{get_or-map}
@@ -55,6 +55,22 @@ watermark_at_cut p i cut belongs is_cut = record {
 pub snapshot_at_cut : SnapshotAtCut
 snapshot_at_cut p i cut q belongs is_cut =
     ap (λ rs. if is_due p.window (merged_watermark i.sources cut) q.start then None else aggregate_at p.window rs q) (records_at_cut p i cut belongs is_cut)
+
+-- ---- no count of a cut is past the partition's end
+
+count_in : (ps : List (List Entry)) (ns : List ℕ) (k : ℕ) → AllZip (λ p n. n ≤ length p) ps ns → slice_index ns k ≤ length (get_or ps k [])
+count_in [] [] k cut = omega arith
+count_in [] (n ∷ ns) k cut = absurd cut
+count_in (p ∷ ps) [] k cut = absurd cut
+count_in (p ∷ ps) (n ∷ ns) zero cut = cut.0
+count_in (p ∷ ps) (n ∷ ns) (suc k) cut = count_in ps ns k cut.1
+
+pub cut_in : (ss : List (List (List Entry))) (cs : List (List ℕ)) (x k : ℕ) → IsCut ss cs → count_at cs x k ≤ length (get_or (get_or ss x []) k [])
+cut_in [] [] x k cut = omega arith
+cut_in [] (c ∷ cs) x k cut = absurd cut
+cut_in (s ∷ ss) [] x k cut = absurd cut
+cut_in (s ∷ ss) (c ∷ cs) zero k cut = count_in s c k cut.0
+cut_in (s ∷ ss) (c ∷ cs) (suc x) k cut = cut_in ss cs x k cut.1
 
 -- ---- the full cut
 

@@ -27,11 +27,12 @@ use Rattle.layout_rules.specs.Below.{filter_below}
 use Rattle.layout_rules.specs.Stages.{source_of, task_stage, task_role, task_count, inputs_of, belongs, partitions_at, partitions_of}
 use Rattle.layout_rules.proofs.Facts.{compiled_is_layout, tasks_are_one_leg, sink_is_last}
 use Rattle.input_flow.specs.InputEntries.{entries_of}
+use Rattle.input_flow.proofs.Facts.{cut_in}
 use Rattle.task_steps.specs.Reading.{HasPartitions, ReadsFrom}
 use Rattle.task_steps.specs.TaskData.{TaskData, Stands, windows_in}
 use Rattle.task_setups.specs.Laws.{IsWithin}
 use Rattle.task_setups.specs.Setups.{setup_of}
-use Rattle.task_setups.proofs.Facts.{cut_in, every_task_stands, every_task_reads}
+use Rattle.task_setups.proofs.Facts.{every_task_stands, every_task_reads}
 use Rattle.leg_tasks.specs.Beginning.{first_offsets, first_marks, empty_window, first_window, first_task, first_tasks, BeginLeg}
 use Rattle.leg_tasks.proofs.Suiting.{when_true, when_false, first_operator}
 

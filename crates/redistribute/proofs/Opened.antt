@@ -28,7 +28,7 @@ use Rattle.layout_rules.specs.Stages.{source_of, task_stage, task_role, partitio
 use Rattle.layout_rules.proofs.Facts.{compiled_ever, tasks_are_one_leg}
 use Rattle.plan_compiler.specs.LayoutData.{LayoutData}
 use Rattle.input_flow.specs.InputEntries.{entries_of, input_of, counts_at}
-use Rattle.input_flow.proofs.Facts.{there, snapshot_at_cut}
+use Rattle.input_flow.proofs.Facts.{there, cut_in, snapshot_at_cut}
 use Rattle.dataflow_laws.specs.Legs.{AreAt, HaveMarks, HaveSnapshot, LeaveSnapshot}
 use Rattle.leg_lists.specs.declared.stop.Stop.{Stop}
 use Rattle.leg_lists.specs.declared.stop.Stop.TheVariants.{Never, At}
@@ -56,20 +56,6 @@ saved_there (s ∷ ss) (c ∷ cs) n zero k cut l m = saved_in s c k cut.0 m
 saved_there (s ∷ ss) (c ∷ cs) n (suc x) k cut l m = saved_there ss cs n x k cut.1 (omega (arith, l)) m
 
 -- ---- how far a leg goes from a cut
-
-count_in : (ps : List (List Entry)) (ns : List ℕ) (k : ℕ) → AllZip (λ p n. n ≤ length p) ps ns → slice_index ns k ≤ length (get_or ps k [])
-count_in [] [] k cut = omega arith
-count_in [] (n ∷ ns) k cut = absurd cut
-count_in (p ∷ ps) [] k cut = absurd cut
-count_in (p ∷ ps) (n ∷ ns) zero cut = cut.0
-count_in (p ∷ ps) (n ∷ ns) (suc k) cut = count_in ps ns k cut.1
-
-cut_in : (ss : List (List (List Entry))) (cs : List (List ℕ)) (x k : ℕ) → IsCut ss cs → count_at cs x k ≤ length (partition_at ss x k)
-cut_in [] [] x k cut = omega arith
-cut_in [] (c ∷ cs) x k cut = absurd cut
-cut_in (s ∷ ss) [] x k cut = absurd cut
-cut_in (s ∷ ss) (c ∷ cs) zero k cut = count_in s c k cut.0
-cut_in (s ∷ ss) (c ∷ cs) (suc x) k cut = cut_in ss cs x k cut.1
 
 count_up : (ms ns : List ℕ) (k : ℕ) → AllZip (λ m n. m ≤ n) ms ns → slice_index ms k ≤ slice_index ns k
 count_up [] [] k h = omega arith

@@ -2,18 +2,17 @@
 use Rattle.std.proofs.Common.{◌≡◌, ℕ, zero, suc, ◌+◌, ◌<◌, ◌≤◌, ◌==◌, Bool, true, false, List, [], ◌∷◌, length, map, get_or, refl, sym, ap, ◌∙◌, inl, inr, arith}
 use Rattle.std.specs.Prelude.{slice_index, if◌then◌else◌}
 use Rattle.std.specs.Option.{option_map_or}
-use Rattle.std.specs.List.{AllByRecursion, AllZip, range_with_len}
+use Rattle.std.specs.List.{AllByRecursion, range_with_len}
 use Rattle.std.proofs.lemmas.Bool.{cases_lt, cases_eq}
 use Rattle.std.proofs.lemmas.List.{get_or_default}
 use Rattle.plain_data.specs.Times.{lowest}
-use Rattle.stream_model.specs.declared.entry.Entry.{Entry}
 use Rattle.stream_model.specs.declared.entry.Entry.TheVariants as entry
 use Rattle.stream_model.specs.InputData.{InputData, partition_at}
 use Rattle.stream_model.specs.Watermarks.{IsCut}
 use Rattle.dataflow_model.specs.declared.role.Role.TheVariants.{Source, Window, Sink}
 use Rattle.dataflow_model.specs.Role.{is_source}
 use Rattle.dataflow_model.specs.AbstractLayout.{AbstractLayout, IsLayout, Deals, partition_read}
-use Rattle.dataflow_model.specs.Leg.{Leg, Until, leg_of, limit_of, count_at}
+use Rattle.dataflow_model.specs.Leg.{Leg, Until, leg_of, limit_of}
 use Rattle.dataflow_model.specs.Leg.Until.{ToEnd, ToCut, TillAsked}
 use Rattle.layout_rules.specs.Rules as rules
 use Rattle.layout_rules.specs.Stages.{role_of, source_of, task_stage, partitions_of}
@@ -21,26 +20,12 @@ use Rattle.layout_rules.specs.Layouts.{partition_counts, abstract_layout}
 use Rattle.layout_rules.proofs.Facts.{compiled_is_layout}
 use Rattle.task_steps.specs.Limits.{limit_in}
 use Rattle.input_flow.specs.InputEntries.{message_of, brings, entries_of, input_of}
-use Rattle.input_flow.proofs.Facts.{same_sources, there}
+use Rattle.input_flow.proofs.Facts.{same_sources, there, cut_in}
 use Rattle.task_setups.specs.Laws.{EveryTaskReads, IsWithin}
 use Rattle.task_setups.specs.Setups.{setup_of, limits_at}
 use Rattle.task_setups.proofs.Standing.{limited, within, past}
 
 -- ---- how far partitions are read
-
-count_in : (ps : List (List Entry)) (ns : List ℕ) (k : ℕ) → AllZip (λ p n. n ≤ length p) ps ns → slice_index ns k ≤ length (get_or ps k [])
-count_in [] [] k cut = omega arith
-count_in [] (n ∷ ns) k cut = absurd cut
-count_in (p ∷ ps) [] k cut = absurd cut
-count_in (p ∷ ps) (n ∷ ns) zero cut = cut.0
-count_in (p ∷ ps) (n ∷ ns) (suc k) cut = count_in ps ns k cut.1
-
-pub cut_in : (ss : List (List (List Entry))) (cs : List (List ℕ)) (x k : ℕ) → IsCut ss cs → count_at cs x k ≤ length (partition_at ss x k)
-cut_in [] [] x k cut = omega arith
-cut_in [] (c ∷ cs) x k cut = absurd cut
-cut_in (s ∷ ss) [] x k cut = absurd cut
-cut_in (s ∷ ss) (c ∷ cs) zero k cut = count_in s c k cut.0
-cut_in (s ∷ ss) (c ∷ cs) (suc x) k cut = cut_in ss cs x k cut.1
 
 limit_in_input : (i : InputData) (until : Until) (saves : List (List (List ℕ))) (m x k : ℕ) → AllByRecursion (IsCut i.sources) saves → IsWithin i until → limit_of (entries_of i).size until saves m x k ≤ length (partition_at i.sources x k)
 limit_in_input i ToEnd [] m x k cuts there = omega arith
