@@ -1,6 +1,7 @@
 pub mod Needs
 pub mod World
 pub mod StepTask
+pub mod StepMoves
 pub mod Count
 pub mod Admission
 pub mod Progress
