@@ -1,0 +1,13 @@
+pub mod States
+pub mod Worlds
+pub mod Inner
+pub mod Local
+pub mod Places
+pub mod Changes
+pub mod Putting
+pub mod Taking
+pub mod Refusing
+pub mod NewRings
+pub mod Beginning
+pub mod Enabled
+pub mod Ready

@@ -1,0 +1,331 @@
+//! All tasks of a leg and the rings between them.
+
+ghost use Rattle.std.specs.Prelude.{◌≡◌, ◌↔◌, true, false, IsTrue, MatchOption, IfOk};
+ghost use Rattle.core_steps.specs.Answers.{is_memory};
+
+use crate::given::Given;
+use crate::rings::Rings;
+use dataflow_laws::Step;
+use std::alloc::{AllocError, Global};
+use std::marker::Model;
+use task_steps::{StepFault, Task};
+
+/// Whether a step found no memory.
+fn found_no_memory(answer: &Result<(), StepFault>) -> bool
+    ensures { result ≡ is_memory answer.now }
+{
+    matches!(answer, Err(StepFault::Memory))
+}
+
+/// All tasks of a leg and the rings between them, in one thread.
+#[derive(Drop)]
+pub struct World<'a> {
+    given: Given<'a>,
+    tasks: Vec<Task>,
+    rings: Rings,
+    has_failed: bool,
+}
+
+impl<'a> Model for World<'a> {
+    ghost use Rattle.core_steps.specs.World.{WorldData, world_view, IsWorld};
+
+    ghost Value = { WorldData };
+
+    ghost use Rattle.std.specs.Coded.{codes};
+    ghost use Rattle.window_state.specs.Codes.{windows_code};
+
+    ghost coded = { Prim.hlevel (codes, windows_code) };
+
+    ghost view = { world_view };
+
+    ghost invariant = { λ w. IsWorld (world_view w) };
+}
+
+impl<'a> World<'a> {
+    ghost use Rattle.dataflow_laws.specs.declared.step.Step.TheVariants as asked;
+    ghost use Rattle.dataflow_laws.specs.declared.step.Step.{Step};
+    ghost use Rattle.dataflow_laws.specs.Progress.{IsFinished};
+    ghost use Rattle.dataflow_laws.specs.World as flow;
+    ghost use Rattle.core_steps.specs.Given.{given_data, layout_in};
+    ghost use Rattle.core_steps.specs.World.{world_in, IsSound};
+    ghost use Rattle.core_steps.specs.Beginning.{AreNewTasks, IsNewWorld};
+    ghost use Rattle.core_steps.specs.Answers.{LeadsTo, CanMake, StepAnswers};
+    ghost use Rattle.core_steps.specs.RingSteps.{IsPuttable, IsTakeable};
+
+    /// The world of tasks that have done nothing, with empty rings.
+    ///
+    /// # Errors
+    ///
+    /// Only where memory runs out.
+    pub fn new(alloc: Global, given: Given<'a>, tasks: Vec<Task>) -> Result<World<'a>, AllocError>
+        requires sound { IsSound (given_data given) }
+        requires tasks { AreNewTasks (given_data given) tasks.items }
+        ensures { IfOk result (λ world. IsNewWorld (given_data given.entry) tasks.items world) }
+    {
+        let rings = Rings::new(alloc, given.layout)?;
+        let world = World {
+            given,
+            tasks,
+            rings,
+            has_failed: false,
+        };
+        Ok(world)
+    }
+
+    /// Makes a step.
+    ///
+    /// # Errors
+    ///
+    /// `NotEnabled` where there is no such step now, and nothing has changed; `Memory` where there is one, but no memory
+    /// for it; `Failed` in a world that has failed so.
+    pub fn apply(&mut self, step: Step) -> Result<(), StepFault>
+        ensures { StepAnswers step self.old self.new result }
+    {
+        match step {
+            Step::Open(task) => self.open(task),
+            Step::Read(task, partition) => self.read(task, partition),
+            Step::Stop(task) => self.stop(task),
+            Step::Close(task) => self.close(task),
+            Step::Take(task, input) => self.take(task, input),
+            Step::Put(task) => self.put(task),
+        }
+    }
+
+    /// Opens a source: what its partitions' watermarks come to at the start is made pending.
+    ///
+    /// # Errors
+    ///
+    /// `NotEnabled` where there is no such step now, and nothing has changed; `Failed` in a world that has failed.
+    fn open(&mut self, task: u32) -> Result<(), StepFault>
+        ensures { StepAnswers (asked.Open task) self.old self.new result }
+    {
+        if self.has_failed {
+            return Err(StepFault::Failed);
+        }
+        let Some(source) = self.tasks.get_mut(task as usize) else {
+            return Err(StepFault::NotEnabled);
+        };
+        source.open()
+    }
+
+    /// Stops a source: the barrier of the leg's savepoint is made pending.
+    ///
+    /// # Errors
+    ///
+    /// `NotEnabled` where there is no such step now, and nothing has changed; `Failed` in a world that has failed.
+    fn stop(&mut self, task: u32) -> Result<(), StepFault>
+        ensures { StepAnswers (asked.Stop task) self.old self.new result }
+    {
+        if self.has_failed {
+            return Err(StepFault::Failed);
+        }
+        let Some(source) = self.tasks.get_mut(task as usize) else {
+            return Err(StepFault::NotEnabled);
+        };
+        source.stop()
+    }
+
+    /// Closes a source that has read all of its partitions: the end of its stream is made pending.
+    ///
+    /// # Errors
+    ///
+    /// `NotEnabled` where there is no such step now, and nothing has changed; `Failed` in a world that has failed.
+    fn close(&mut self, task: u32) -> Result<(), StepFault>
+        ensures { StepAnswers (asked.Close task) self.old self.new result }
+    {
+        if self.has_failed {
+            return Err(StepFault::Failed);
+        }
+        let Some(source) = self.tasks.get_mut(task as usize) else {
+            return Err(StepFault::NotEnabled);
+        };
+        source.close()
+    }
+
+    /// Lets a source read the next entry of its partition with this number.
+    ///
+    /// # Errors
+    ///
+    /// `NotEnabled` where there is no such step now, and nothing has changed; `Memory` where there is one, but no memory
+    /// for it; `Failed` in a world that has failed so.
+    fn read(&mut self, task: u32, partition: u32) -> Result<(), StepFault>
+        ensures { StepAnswers (asked.Read task partition) self.old self.new result }
+    {
+        if self.has_failed {
+            return Err(StepFault::Failed);
+        }
+        let input = self.given.input;
+        let Some(source) = self.tasks.get_mut(task as usize) else {
+            return Err(StepFault::NotEnabled);
+        };
+        let answer = source.read(input, partition);
+        self.has_failed = found_no_memory(&answer);
+        answer
+    }
+
+    /// The task that the first pending message of a task is for, where there is room on the ring.
+    fn receiver(&self, task: u32) -> Option<u32>
+        ensures { MatchOption result ((next : flow.World) → LeadsTo self.now (asked.Put task) next → ⊥) (λ receiver. IsPuttable self.now task receiver) }
+    {
+        let layout = self.given.layout;
+        let Some(sender) = self.tasks.get(task as usize) else {
+            return None;
+        };
+        let Some(output) = sender.pending() else {
+            return None;
+        };
+        let receivers = layout.outputs_of(task);
+        let Some(receiver) = receivers.get(output as usize) else {
+            return None;
+        };
+        let receiver = *receiver;
+        if self.rings.len(task, receiver) < layout.ring() as usize {
+            Some(receiver)
+        } else {
+            None
+        }
+    }
+
+    /// Puts the first pending message of a task on its ring.
+    ///
+    /// # Errors
+    ///
+    /// `NotEnabled` where there is no such step now, and nothing has changed; `Failed` in a world that has failed.
+    fn put(&mut self, task: u32) -> Result<(), StepFault>
+        ensures { StepAnswers (asked.Put task) self.old self.new result }
+    {
+        if self.has_failed {
+            return Err(StepFault::Failed);
+        }
+        let Some(receiver) = self.receiver(task) else {
+            return Err(StepFault::NotEnabled);
+        };
+        let Some(sender) = self.tasks.get_mut(task as usize) else {
+            return Err(StepFault::NotEnabled);
+        };
+        let Some((_, message)) = sender.pop_pending() else {
+            return Err(StepFault::NotEnabled);
+        };
+        self.rings.put(task, receiver, message);
+        Ok(())
+    }
+
+    /// The task that the ring of an input comes from, where a task can take from it and there is a message.
+    fn sender(&self, task: u32, input: u32) -> Option<u32>
+        ensures { MatchOption result ((next : flow.World) → LeadsTo self.now (asked.Take task input) next → ⊥) (λ sender. IsTakeable self.now task input sender) }
+    {
+        let layout = self.given.layout;
+        let Some(receiver) = self.tasks.get(task as usize) else {
+            return None;
+        };
+        if !receiver.can_take(input) {
+            return None;
+        }
+        let senders = layout.inputs_of(task);
+        let Some(sender) = senders.get(input as usize) else {
+            return None;
+        };
+        let sender = *sender;
+        if self.rings.len(sender, task) > 0 {
+            Some(sender)
+        } else {
+            None
+        }
+    }
+
+    /// Lets a task take the oldest message of an input's ring.
+    ///
+    /// # Errors
+    ///
+    /// `NotEnabled` where there is no such step now, and nothing has changed; `Memory` where there is one, but no memory
+    /// for it; `Failed` in a world that has failed so.
+    fn take(&mut self, task: u32, input: u32) -> Result<(), StepFault>
+        ensures { StepAnswers (asked.Take task input) self.old self.new result }
+    {
+        if self.has_failed {
+            return Err(StepFault::Failed);
+        }
+        let Some(sender) = self.sender(task, input) else {
+            return Err(StepFault::NotEnabled);
+        };
+        let Some(message) = self.rings.pop(sender, task) else {
+            return Err(StepFault::NotEnabled);
+        };
+        let Some(receiver) = self.tasks.get_mut(task as usize) else {
+            return Err(StepFault::NotEnabled);
+        };
+        let answer = receiver.take(input, message);
+        self.has_failed = found_no_memory(&answer);
+        answer
+    }
+
+    /// Whether a source could open.
+    fn can_open(&self, task: u32) -> bool
+        ensures { IsTrue result ↔ CanMake self.now (asked.Open task) }
+    {
+        let Some(source) = self.tasks.get(task as usize) else {
+            return false;
+        };
+        source.can_open()
+    }
+
+    /// Whether a source could read its partition with this number.
+    fn can_read(&self, task: u32, partition: u32) -> bool
+        ensures { IsTrue result ↔ CanMake self.now (asked.Read task partition) }
+    {
+        let Some(source) = self.tasks.get(task as usize) else {
+            return false;
+        };
+        source.can_read(partition)
+    }
+
+    /// Whether a source could stop.
+    fn can_stop(&self, task: u32) -> bool
+        ensures { IsTrue result ↔ CanMake self.now (asked.Stop task) }
+    {
+        let Some(source) = self.tasks.get(task as usize) else {
+            return false;
+        };
+        source.can_stop()
+    }
+
+    /// Whether a source could close.
+    fn can_close(&self, task: u32) -> bool
+        ensures { IsTrue result ↔ CanMake self.now (asked.Close task) }
+    {
+        let Some(source) = self.tasks.get(task as usize) else {
+            return false;
+        };
+        source.can_close()
+    }
+
+    /// Whether a step could be made now: never in a world that has failed.
+    pub fn enabled(&self, step: Step) -> bool
+        ensures { IsTrue result ↔ (self.now.has_failed ≡ false) × CanMake self.now step }
+    {
+        if self.has_failed {
+            return false;
+        }
+        match step {
+            Step::Open(task) => self.can_open(task),
+            Step::Read(task, partition) => self.can_read(task, partition),
+            Step::Stop(task) => self.can_stop(task),
+            Step::Close(task) => self.can_close(task),
+            Step::Take(task, input) => self.sender(task, input).is_some(),
+            Step::Put(task) => self.receiver(task).is_some(),
+        }
+    }
+
+    /// Whether every task is done. Where not, and the world has not failed, there is a step.
+    pub fn is_finished(&self) -> bool
+        ensures done { IsTrue result ↔ IsFinished (layout_in self.now.given) (world_in self.now) }
+        ensures goes_on { result ≡ false → self.now.has_failed ≡ false → (next : Step) × CanMake self.now next }
+    {
+        for task in &self.tasks {
+            if !task.is_done() {
+                return false;
+            }
+        }
+        true
+    }
+}
