@@ -11,3 +11,4 @@ pub mod NewRings
 pub mod Beginning
 pub mod Enabled
 pub mod Ready
+pub mod Sound

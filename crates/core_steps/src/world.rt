@@ -46,22 +46,32 @@ impl<'a> World<'a> {
     ghost use Rattle.dataflow_laws.specs.declared.step.Step.{Step};
     ghost use Rattle.dataflow_laws.specs.Progress.{IsFinished};
     ghost use Rattle.dataflow_laws.specs.World as flow;
-    ghost use Rattle.core_steps.specs.Given.{given_data, layout_in};
-    ghost use Rattle.core_steps.specs.World.{world_in, IsSound};
+    ghost use Rattle.stream_model.specs.InputData.{BelongsTo};
+    ghost use Rattle.dataflow_model.specs.Start.{IsLegStart};
+    ghost use Rattle.task_setups.specs.Legs.{IsLayoutOf};
+    ghost use Rattle.core_steps.specs.Given.{given_data, layout_in, start_in};
+    ghost use Rattle.core_steps.specs.World.{world_in};
     ghost use Rattle.core_steps.specs.Beginning.{AreNewTasks, IsNewWorld};
     ghost use Rattle.core_steps.specs.Answers.{LeadsTo, CanMake, StepAnswers};
     ghost use Rattle.core_steps.specs.RingSteps.{IsPuttable, IsTakeable};
 
-    /// The world of tasks that have done nothing, with empty rings.
+    /// The world of tasks that have done nothing, with empty rings. The layout is one of the plan, the input was read by
+    /// it, and the tasks are of one leg that begins at the offsets, with what stood in the windows then.
     ///
     /// # Errors
     ///
     /// Only where memory runs out.
     pub fn new(alloc: Global, given: Given<'a>, tasks: Vec<Task>) -> Result<World<'a>, AllocError>
-        requires sound { IsSound (given_data given) }
+        requires laid_out { IsLayoutOf given.plan.now given.layout.now }
+        requires belongs { BelongsTo given.plan.now given.input.now }
+        requires start { IsLegStart given.plan.now (layout_in (given_data given)) (start_in (given_data given)) }
         requires tasks { AreNewTasks (given_data given) tasks.items }
         ensures { IfOk result (λ world. IsNewWorld (given_data given.entry) tasks.items world) }
     {
+        let plan = given.plan;
+        let input = given.input;
+        let _columns = plan.columns();
+        let _sources = input.sources();
         let rings = Rings::new(alloc, given.layout)?;
         let world = World {
             given,

@@ -4,3 +4,4 @@ pub use Rattle.dataflow_laws.proofs.Needs.{step_needs, needs_step}
 pub use Rattle.dataflow_laws.proofs.Worlds.{worlds_are_histories, rings_are_bounded}
 pub use Rattle.dataflow_laws.proofs.Admission.{rings_are_admitted}
 pub use Rattle.dataflow_laws.proofs.Going.{progress}
+pub use Rattle.dataflow_laws.proofs.Admitted.{input_is_admitted}
