@@ -2,3 +2,4 @@ mod Partitions
 mod Suiting
 mod Starting
 mod Delivering
+pub mod Facts

@@ -1,5 +1,5 @@
 -- The tasks of a leg that starts from nothing.
-use Rattle.std.specs.Prelude.{◌≡◌, ℕ, suc, ◌≤◌, ℤ, List, length, map, replicate, slice_index_or, Option, Some, None, false, if◌then◌else◌}
+use Rattle.std.specs.Prelude.{◌≡◌, ℕ, suc, ◌≤◌, ℤ, true, List, length, map, replicate, slice_index_or, Option, Some, None, false, if◌then◌else◌}
 use Rattle.std.specs.FinMap.{empty}
 use Rattle.std.specs.List.{range_with_len}
 use Rattle.plain_data.specs.Times.{lowest}
@@ -18,6 +18,7 @@ use Rattle.layout_rules.specs.Rules.{window_of}
 use Rattle.layout_rules.specs.Layouts.{partition_counts, abstract_layout}
 use Rattle.plan_compiler.specs.LayoutData.{LayoutData}
 use Rattle.input_flow.specs.InputEntries.{entries_of}
+use Rattle.task_steps.specs.declared.setup.Setup.{Setup}
 use Rattle.task_steps.specs.Beginning.{begun}
 use Rattle.task_steps.specs.Reading.{HasPartitions, ReadsFrom}
 use Rattle.task_steps.specs.TaskData.{TaskData, Stands}
@@ -63,3 +64,9 @@ pub record BeginLeg (p : PlanData) (i : InputData) (l : AbstractLayout) (tasks :
   pub reads : (t : ℕ) (d : TaskData) → t ≤ l.sink → (l.task t).role ≡ Source → HasPartitions (slice_index_or tasks t d).setup i × ReadsFrom (l.task t) (slice_index_or tasks t d).setup i
   pub going : (t : ℕ) (d : TaskData) → t ≤ l.sink → (slice_index_or tasks t d).has_failed ≡ false
   pub starts : (d : TaskData) → IsLegStart p l (λ t. (slice_index_or tasks t d).state)
+
+-- a task that was told so can read the input: it has the input's columns and time, and a source finds its partitions there
+pub record CanBeRead (s : Setup) (i : InputData) : Type 0 where
+  pub columns : i.columns ≡ s.columns
+  pub time : i.time ≡ s.time
+  pub partitions : is_source s.role ≡ true → HasPartitions s i

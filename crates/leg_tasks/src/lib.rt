@@ -11,3 +11,6 @@ mod opening;
 
 pub use beginning::{begin, tasks};
 pub use opening::Opening;
+
+#[cfg(test)]
+mod tests;

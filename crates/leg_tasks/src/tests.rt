@@ -1,0 +1,329 @@
+ghost use Rattle.std.specs.Prelude.{◌≡◌};
+ghost use Rattle.leg_tasks.specs.Beginning.{CanBeRead};
+
+use crate::tasks;
+use columns::Batch;
+use dataflow_model::Message;
+use logical_plan::Plan;
+use plan_compiler::compile;
+use plan_scale::Scale;
+use std::alloc::Global;
+use std::process::Abort;
+use std::random::RandomSource;
+use std::test::Fail;
+use stream_input::Input;
+use task_setups::{Leg, Until};
+use task_steps::{StepFault, Task};
+use window_state::HashKeys;
+
+const NO_FILTER: &str =
+    r#"{"columns":3,"maxParallelism":128,"time":0,"key":1,"sources":[{"uid":"s","partitions":2}],"window":{"uid":"w","size":10,"aggregates":[{"fn":"count"}],"having":[{"aggregate":0,"op":"ge","value":1}]}}"#;
+
+const TWO_THREE: &str = r#"{"ring":4,"operators":{"s":{"parallelism":2},"w":{"parallelism":3}}}"#;
+
+const TWO_ONE: &str = r#"{"ring":4,"operators":{"s":{"parallelism":2},"w":{"parallelism":1}}}"#;
+
+const TWO_FILTERS: &str =
+    r#"{"columns":3,"maxParallelism":128,"time":0,"key":1,"sources":[{"uid":"s","partitions":2}],"filters":[{"uid":"f","column":2,"op":"gt","value":0},{"uid":"g","column":1,"op":"lt","value":100}],"window":{"uid":"w","size":10,"aggregates":[{"fn":"count"}]}}"#;
+
+const ONE_CHAINED: &str =
+    r#"{"ring":4,"operators":{"s":{"parallelism":2},"f":{"parallelism":2},"g":{"parallelism":2,"chain":false},"w":{"parallelism":2}}}"#;
+
+const THREE_AND_TWO: &str =
+    r#"{"s":[[{"rows":[[1,1,5],[12,1,7]]},{"watermark":9},{"rows":[[15,0,-3]]}],[{"rows":[[3,0,4]]},{"watermark":11}]]}"#;
+
+const NONE_AND_ONE: &str = r#"{"s":[[],[{"watermark":5}]]}"#;
+
+/// A message that a task is given: a batch of one record, or a signal.
+#[derive(Clone, Copy)]
+enum Given {
+    Record([i64; 3]),
+    Watermark(i64),
+    Barrier(u64),
+    End,
+}
+
+#[derive(Clone, Copy)]
+enum Step {
+    Open,
+    Read(u32),
+    Stop,
+    Close,
+    Take(u32, Given),
+    Put,
+}
+
+/// A message that a task has put: of records how many and the key of the first, of fired rows the start, the key and
+/// the first number of the first.
+#[derive(Clone, Copy, Debug, PartialEq)]
+enum Shown {
+    Rows(usize, Option<i64>),
+    Fired(usize, Option<(i64, i64)>),
+    Watermark(i64),
+    Barrier(u64),
+    End,
+}
+
+/// What came of a step.
+#[derive(Clone, Copy, Debug, PartialEq)]
+enum Seen {
+    Done,
+    Refused(StepFault),
+    Put(u32, Shown),
+    NothingToPut,
+}
+
+use Seen::{Done, NothingToPut, Put, Refused};
+use StepFault::NotEnabled;
+
+fn answer(outcome: Result<(), StepFault>) -> Seen {
+    match outcome {
+        Ok(()) => Seen::Done,
+        Err(fault) => Seen::Refused(fault),
+    }
+}
+
+fn message(alloc: Global, given: Given) -> Result<Message, Fail> {
+    match given {
+        Given::Record(record) => {
+            let rows = vec![in alloc; Vec::from_slice(alloc, &record)?]?;
+            Ok(Message::Rows(Batch::from_rows(alloc, &rows, 3)?))
+        }
+        Given::Watermark(t) => Ok(Message::Watermark(t)),
+        Given::Barrier(n) => Ok(Message::Barrier(n)),
+        Given::End => Ok(Message::End),
+    }
+}
+
+fn first_key(batch: &Batch) -> Option<i64> {
+    if batch.width() < 2 {
+        return None;
+    }
+    batch.column(1).first().copied()
+}
+
+fn view(message: Message) -> Shown {
+    match message {
+        Message::Rows(batch) => Shown::Rows(batch.len(), first_key(&batch)),
+        Message::Fired(rows) => {
+            let first = rows.as_slice().first().map(|row| (row.start, row.key));
+            Shown::Fired(rows.len(), first)
+        }
+        Message::Watermark(t) => Shown::Watermark(t),
+        Message::Barrier(n) => Shown::Barrier(n),
+        Message::End => Shown::End,
+    }
+}
+
+fn put(task: &mut Task) -> Seen
+    ensures { task.new.setup ≡ task.old.setup }
+{
+    match task.pop_pending() {
+        Some((output, message)) => Seen::Put(output, view(message)),
+        None => Seen::NothingToPut,
+    }
+}
+
+/// What comes of one step.
+fn play(alloc: Global, task: &mut Task, input: &Input, step: Step) -> Result<Seen, Fail>
+    requires { CanBeRead task.old.setup input.now }
+    ensures { task.new.setup ≡ task.old.setup }
+{
+    match step {
+        Step::Open => Ok(answer(task.open())),
+        Step::Read(number) => Ok(answer(task.read(input, number))),
+        Step::Stop => Ok(answer(task.stop())),
+        Step::Close => Ok(answer(task.close())),
+        Step::Take(i, given) => {
+            let message = message(alloc, given)?;
+            Ok(answer(task.take(i, message)))
+        }
+        Step::Put => Ok(put(task)),
+    }
+}
+
+/// What comes of steps, one after another, and whether the task is done then.
+fn played(
+    alloc: Global,
+    mut task: Task,
+    input: &Input,
+    steps: &[Step],
+) -> Result<(Vec<Seen>, bool), Fail>
+    requires { CanBeRead task.setup input.now }
+{
+    let mut seen = Vec::new(alloc);
+    for step in steps {
+        seen.push(play(alloc, &mut task, input, *step)?)?;
+    }
+    Ok((seen, task.is_done()))
+}
+
+/// What comes of steps of one task of a leg to the end, by a plan at a scale.
+fn outcomes<R: AllocGlobal + Abort + RandomSource>(
+    rt: &R,
+    texts: (&str, &str, &str),
+    number: usize,
+    steps: &[Step],
+) -> Result<(Vec<Seen>, bool), Fail> {
+    let plan = Plan::read(rt.alloc(), texts.0.as_bytes())?;
+    let scale = Scale::read(rt.alloc(), &plan, texts.1.as_bytes())?;
+    let input = Input::read(rt.alloc(), &plan, texts.2.as_bytes())?;
+    let layout = compile(rt.alloc(), &plan, &scale)?;
+    let leg = Leg {
+        number: 0,
+        until: Until::ToEnd,
+    };
+    let keys = HashKeys::random(rt)?;
+    let mut tasks = tasks(rt.alloc(), keys, &plan, &input, &layout, &leg)?;
+    assert!(rt; number < tasks.len());
+    played(rt.alloc(), tasks.swap_remove(number), &input, steps)
+}
+
+/// Steps of a task, each with what comes of it, and whether the task is done after the last.
+fn check<R: AllocGlobal + Abort + RandomSource>(
+    rt: &R,
+    texts: (&str, &str, &str),
+    number: usize,
+    steps: &[(Step, Seen)],
+    done: bool,
+) -> Result<(), Fail> {
+    let mut makes = Vec::new(rt.alloc());
+    let mut want = Vec::new(rt.alloc());
+    for (step, seen) in steps {
+        makes.push(*step)?;
+        want.push(*seen)?;
+    }
+    let (come, is_done) = outcomes(rt, texts, number, &makes)?;
+    assert_eq!(rt; come.as_slice(), want.as_slice());
+    assert_eq!(rt; is_done, done);
+    Ok(())
+}
+
+#[test]
+fn a_source_reads_its_own_partition(rt: HostRuntime) -> Result<(), Fail> {
+    let steps = [
+        (Step::Put, NothingToPut),
+        (Step::Read(1), Refused(NotEnabled)),
+        (Step::Open, Done),
+        (Step::Open, Refused(NotEnabled)),
+        (Step::Put, NothingToPut),
+        (Step::Take(0, Given::End), Refused(NotEnabled)),
+        (Step::Read(0), Refused(NotEnabled)),
+        (Step::Read(2), Refused(NotEnabled)),
+        (Step::Close, Refused(NotEnabled)),
+        (Step::Read(1), Done),
+        (Step::Read(1), Refused(NotEnabled)),
+        (Step::Put, Put(2, Shown::Rows(1, Some(0)))),
+        (Step::Put, NothingToPut),
+        (Step::Read(1), Done),
+        (Step::Close, Refused(NotEnabled)),
+        (Step::Put, Put(0, Shown::Watermark(i64::MAX))),
+        (Step::Put, Put(1, Shown::Watermark(i64::MAX))),
+        (Step::Put, Put(2, Shown::Watermark(i64::MAX))),
+        (Step::Read(1), Refused(NotEnabled)),
+        (Step::Stop, Refused(NotEnabled)),
+        (Step::Close, Done),
+        (Step::Close, Refused(NotEnabled)),
+        (Step::Put, Put(0, Shown::End)),
+        (Step::Put, Put(1, Shown::End)),
+        (Step::Put, Put(2, Shown::End)),
+    ];
+    check(&rt, (NO_FILTER, TWO_THREE, THREE_AND_TWO), 1, &steps, true)
+}
+
+#[test]
+fn its_other_subtask_reads_the_other(rt: HostRuntime) -> Result<(), Fail> {
+    let steps = [
+        (Step::Open, Done),
+        (Step::Read(1), Refused(NotEnabled)),
+        (Step::Read(0), Done),
+        (Step::Put, Put(2, Shown::Rows(2, Some(1)))),
+        (Step::Read(0), Done),
+        (Step::Put, Put(0, Shown::Watermark(9))),
+        (Step::Put, Put(1, Shown::Watermark(9))),
+        (Step::Put, Put(2, Shown::Watermark(9))),
+        (Step::Read(0), Done),
+        (Step::Put, Put(2, Shown::Rows(1, Some(0)))),
+        (Step::Put, Put(0, Shown::Watermark(i64::MAX))),
+    ];
+    check(&rt, (NO_FILTER, TWO_THREE, THREE_AND_TWO), 0, &steps, false)
+}
+
+#[test]
+fn an_empty_partition_is_at_its_end(rt: HostRuntime) -> Result<(), Fail> {
+    let steps = [
+        (Step::Open, Done),
+        (Step::Close, Refused(NotEnabled)),
+        (Step::Put, Put(0, Shown::Watermark(i64::MAX))),
+        (Step::Read(0), Refused(NotEnabled)),
+        (Step::Close, Done),
+        (Step::Put, Put(0, Shown::End)),
+    ];
+    check(&rt, (NO_FILTER, TWO_ONE, NONE_AND_ONE), 0, &steps, true)
+}
+
+#[test]
+fn a_window_fires_by_the_least_watermark(rt: HostRuntime) -> Result<(), Fail> {
+    let steps = [
+        (Step::Open, Refused(NotEnabled)),
+        (Step::Read(0), Refused(NotEnabled)),
+        (Step::Take(2, Given::End), Refused(NotEnabled)),
+        (Step::Take(0, Given::Record([3, 0, 4])), Done),
+        (Step::Take(1, Given::Record([4, 0, 4])), Done),
+        (Step::Take(0, Given::Record([12, 0, 4])), Done),
+        (Step::Take(0, Given::Watermark(9)), Done),
+        (Step::Put, NothingToPut),
+        (Step::Take(1, Given::Watermark(20)), Done),
+        (Step::Take(1, Given::End), Refused(NotEnabled)),
+        (Step::Put, Put(0, Shown::Fired(1, Some((0, 0))))),
+        (Step::Put, Put(0, Shown::Watermark(9))),
+        (Step::Put, NothingToPut),
+        (Step::Take(0, Given::Barrier(1)), Refused(NotEnabled)),
+        (Step::Take(0, Given::Watermark(i64::MAX)), Done),
+        (Step::Put, Put(0, Shown::Fired(1, Some((10, 0))))),
+        (Step::Put, Put(0, Shown::Watermark(20))),
+        (Step::Take(0, Given::End), Done),
+        (Step::Take(0, Given::Watermark(30)), Refused(NotEnabled)),
+        (Step::Take(1, Given::End), Done),
+        (Step::Put, Put(0, Shown::End)),
+    ];
+    check(&rt, (NO_FILTER, TWO_ONE, THREE_AND_TWO), 2, &steps, true)
+}
+
+#[test]
+fn a_chain_filters_and_deals_by_key(rt: HostRuntime) -> Result<(), Fail> {
+    let steps = [
+        (Step::Take(0, Given::Record([3, 5, 1])), Done),
+        (Step::Put, Put(1, Shown::Rows(1, Some(5)))),
+        (Step::Take(0, Given::Record([3, 200, 1])), Done),
+        (Step::Put, NothingToPut),
+        (Step::Take(1, Given::Record([3, 5, 1])), Refused(NotEnabled)),
+        (Step::Take(0, Given::Watermark(7)), Done),
+        (Step::Put, Put(0, Shown::Watermark(7))),
+        (Step::Put, Put(1, Shown::Watermark(7))),
+        (Step::Take(0, Given::Watermark(6)), Done),
+        (Step::Put, NothingToPut),
+    ];
+    check(
+        &rt,
+        (TWO_FILTERS, ONE_CHAINED, THREE_AND_TWO),
+        2,
+        &steps,
+        false,
+    )
+}
+
+#[test]
+fn the_sink_ends_with_its_inputs(rt: HostRuntime) -> Result<(), Fail> {
+    let steps = [
+        (Step::Take(0, Given::Record([3, 5, 1])), Refused(NotEnabled)),
+        (Step::Take(0, Given::Watermark(7)), Done),
+        (Step::Take(0, Given::End), Done),
+        (Step::Take(1, Given::End), Done),
+        (Step::Take(2, Given::Watermark(8)), Done),
+        (Step::Put, NothingToPut),
+        (Step::Take(2, Given::End), Done),
+        (Step::Put, NothingToPut),
+    ];
+    check(&rt, (NO_FILTER, TWO_THREE, THREE_AND_TWO), 5, &steps, true)
+}
