@@ -6,6 +6,7 @@ ghost use Rattle.core_steps.specs.Answers.{is_memory};
 use crate::given::Given;
 use crate::rings::Rings;
 use dataflow_laws::Step;
+use plan_model::Row;
 use std::alloc::{AllocError, Global};
 use std::marker::Model;
 use task_steps::{StepFault, Task};
@@ -50,7 +51,7 @@ impl<'a> World<'a> {
     ghost use Rattle.dataflow_model.specs.Start.{IsLegStart};
     ghost use Rattle.task_setups.specs.Legs.{IsLayoutOf};
     ghost use Rattle.core_steps.specs.Given.{given_data, layout_in, start_in};
-    ghost use Rattle.core_steps.specs.World.{world_in};
+    ghost use Rattle.core_steps.specs.World.{world_in, IsWorld};
     ghost use Rattle.core_steps.specs.Beginning.{AreNewTasks, IsNewWorld};
     ghost use Rattle.core_steps.specs.Answers.{LeadsTo, CanMake, StepAnswers};
     ghost use Rattle.core_steps.specs.RingSteps.{IsPuttable, IsTakeable};
@@ -324,6 +325,22 @@ impl<'a> World<'a> {
             Step::Take(task, input) => self.sender(task, input).is_some(),
             Step::Put(task) => self.receiver(task).is_some(),
         }
+    }
+
+    /// Whether a step found no memory, so that no more can be made.
+    pub fn has_failed(&self) -> bool
+        ensures says { result ≡ self.now.has_failed }
+        ensures sound { IsWorld self.now }
+    {
+        self.has_failed
+    }
+
+    /// The rows that the sink has collected, in the order in which they came.
+    pub fn into_rows(self) -> Vec<Row>
+        ensures { result.items ≡ ((world_in self.entry).tasks (layout_in self.entry.given).sink).rows }
+    {
+        let mut tasks = self.tasks;
+        tasks.pop().unwrap().into_rows()
     }
 
     /// Whether every task is done. Where not, and the world has not failed, there is a step.

@@ -6,7 +6,7 @@ use Rattle.layout_rules.specs.declared.stage.Stage.{Stage}
 use Rattle.layout_rules.specs.Below.{sum_below}
 use Rattle.layout_rules.specs.Stages.{stage_at, parallelism_at, leading_sources, source_stages, stage_of, subtask_of, task_count}
 use Rattle.layout_rules.specs.Scale.{ScaleData, IsScale, IsParallelism}
-use Rattle.layout_rules.specs.Rules.{in_order, stage_operators, bare_stage, stages_of, window_of, IsCompiled}
+use Rattle.layout_rules.specs.Rules.{in_order, stage_operators, bare_stage, stages_of}
 use Rattle.layout_rules.specs.Laws.{StagesAreBounded}
 use Rattle.layout_rules.proofs.Shapes.{shaped, parallelism_within}
 pub use Rattle.layout_rules.proofs.Rows.{row_is, row_at}
@@ -16,9 +16,6 @@ pub use Rattle.layout_rules.proofs.Shapes.{compiled_is_layout}
 pub use Rattle.layout_rules.proofs.Legs.{tasks_are_one_leg}
 pub use Rattle.layout_rules.proofs.Outputs.{rings_by_group, tasks_have_outputs, sink_is_last}
 pub use Rattle.layout_rules.proofs.Once.{compiled_once, compiled_ever}
-pub use Rattle.layout_rules.proofs.Once.{compiled_ever}
-pub use Rattle.layout_rules.proofs.Legs.{tasks_are_one_leg}
-pub use Rattle.layout_rules.proofs.Once.{compiled_ever}
 use Rattle.layout_rules.proofs.Once.{made_length, made_operators}
 
 -- rows that have numbers have at least as many as there are rows
@@ -55,11 +52,3 @@ bare_stages_are_bounded p c ip sc =
     let known = stages_are_bounded p c ip sc in
     let size = made_length bare in
     (sym known.leading ∙ ap leading_sources (made_operators bare), omega (arith, known.more, size), omega (arith, known.few, size))
-
--- the sink's one task is the last
-pub sink_is_last : (p : PlanData) (c : ScaleData) (stages : List Stage) → IsPlan p → IsScale p c → IsCompiled p c stages → task_count stages ≡ suc (sum_below (parallelism_at stages) (suc (window_of stages)))
-sink_is_last p c stages ip sc h =
-    let s = shaped p c stages ip sc h in
-    let one = s.one in
-    let all : task_count stages ≡ sum_below (parallelism_at stages) (suc (suc (window_of stages))) = ap (sum_below (parallelism_at stages)) s.size in
-    omega (arith, all, one)

@@ -133,6 +133,13 @@ impl Task {
         self.pending.pop_front()
     }
 
+    /// The fired rows that the task has collected, in the order in which they came.
+    pub fn into_rows(self) -> Vec<Row>
+        ensures { result.items ≡ self.state.rows }
+    {
+        self.rows
+    }
+
     /// Whether the task is over and nothing is pending.
     pub fn is_done(&self) -> bool
         ensures { IsTrue result ↔ IsDone self.now.state }
