@@ -199,131 +199,161 @@ fn check<R: AllocGlobal + Abort + RandomSource>(
     Ok(())
 }
 
+const READS_ONE: &[(Step, Seen)] = &[
+    (Step::Put, NothingToPut),
+    (Step::Read(1), Refused(NotEnabled)),
+    (Step::Open, Done),
+    (Step::Open, Refused(NotEnabled)),
+    (Step::Put, NothingToPut),
+    (Step::Take(0, Given::End), Refused(NotEnabled)),
+    (Step::Read(0), Refused(NotEnabled)),
+    (Step::Read(2), Refused(NotEnabled)),
+    (Step::Close, Refused(NotEnabled)),
+    (Step::Read(1), Done),
+    (Step::Read(1), Refused(NotEnabled)),
+    (Step::Put, Put(2, Shown::Rows(1, Some(0)))),
+    (Step::Put, NothingToPut),
+    (Step::Read(1), Done),
+    (Step::Close, Refused(NotEnabled)),
+    (Step::Put, Put(0, Shown::Watermark(i64::MAX))),
+    (Step::Put, Put(1, Shown::Watermark(i64::MAX))),
+    (Step::Put, Put(2, Shown::Watermark(i64::MAX))),
+    (Step::Read(1), Refused(NotEnabled)),
+    (Step::Stop, Refused(NotEnabled)),
+    (Step::Close, Done),
+    (Step::Close, Refused(NotEnabled)),
+    (Step::Put, Put(0, Shown::End)),
+    (Step::Put, Put(1, Shown::End)),
+    (Step::Put, Put(2, Shown::End)),
+];
+
 #[test]
 fn a_source_reads_its_own_partition(rt: HostRuntime) -> Result<(), Fail> {
-    let steps = [
-        (Step::Put, NothingToPut),
-        (Step::Read(1), Refused(NotEnabled)),
-        (Step::Open, Done),
-        (Step::Open, Refused(NotEnabled)),
-        (Step::Put, NothingToPut),
-        (Step::Take(0, Given::End), Refused(NotEnabled)),
-        (Step::Read(0), Refused(NotEnabled)),
-        (Step::Read(2), Refused(NotEnabled)),
-        (Step::Close, Refused(NotEnabled)),
-        (Step::Read(1), Done),
-        (Step::Read(1), Refused(NotEnabled)),
-        (Step::Put, Put(2, Shown::Rows(1, Some(0)))),
-        (Step::Put, NothingToPut),
-        (Step::Read(1), Done),
-        (Step::Close, Refused(NotEnabled)),
-        (Step::Put, Put(0, Shown::Watermark(i64::MAX))),
-        (Step::Put, Put(1, Shown::Watermark(i64::MAX))),
-        (Step::Put, Put(2, Shown::Watermark(i64::MAX))),
-        (Step::Read(1), Refused(NotEnabled)),
-        (Step::Stop, Refused(NotEnabled)),
-        (Step::Close, Done),
-        (Step::Close, Refused(NotEnabled)),
-        (Step::Put, Put(0, Shown::End)),
-        (Step::Put, Put(1, Shown::End)),
-        (Step::Put, Put(2, Shown::End)),
-    ];
-    check(&rt, (NO_FILTER, TWO_THREE, THREE_AND_TWO), 1, &steps, true)
+    check(
+        &rt,
+        (NO_FILTER, TWO_THREE, THREE_AND_TWO),
+        1,
+        READS_ONE,
+        true,
+    )
 }
+
+const READS_ZERO: &[(Step, Seen)] = &[
+    (Step::Open, Done),
+    (Step::Read(1), Refused(NotEnabled)),
+    (Step::Read(0), Done),
+    (Step::Put, Put(2, Shown::Rows(2, Some(1)))),
+    (Step::Read(0), Done),
+    (Step::Put, Put(0, Shown::Watermark(9))),
+    (Step::Put, Put(1, Shown::Watermark(9))),
+    (Step::Put, Put(2, Shown::Watermark(9))),
+    (Step::Read(0), Done),
+    (Step::Put, Put(2, Shown::Rows(1, Some(0)))),
+    (Step::Put, Put(0, Shown::Watermark(i64::MAX))),
+];
 
 #[test]
 fn its_other_subtask_reads_the_other(rt: HostRuntime) -> Result<(), Fail> {
-    let steps = [
-        (Step::Open, Done),
-        (Step::Read(1), Refused(NotEnabled)),
-        (Step::Read(0), Done),
-        (Step::Put, Put(2, Shown::Rows(2, Some(1)))),
-        (Step::Read(0), Done),
-        (Step::Put, Put(0, Shown::Watermark(9))),
-        (Step::Put, Put(1, Shown::Watermark(9))),
-        (Step::Put, Put(2, Shown::Watermark(9))),
-        (Step::Read(0), Done),
-        (Step::Put, Put(2, Shown::Rows(1, Some(0)))),
-        (Step::Put, Put(0, Shown::Watermark(i64::MAX))),
-    ];
-    check(&rt, (NO_FILTER, TWO_THREE, THREE_AND_TWO), 0, &steps, false)
-}
-
-#[test]
-fn an_empty_partition_is_at_its_end(rt: HostRuntime) -> Result<(), Fail> {
-    let steps = [
-        (Step::Open, Done),
-        (Step::Close, Refused(NotEnabled)),
-        (Step::Put, Put(0, Shown::Watermark(i64::MAX))),
-        (Step::Read(0), Refused(NotEnabled)),
-        (Step::Close, Done),
-        (Step::Put, Put(0, Shown::End)),
-    ];
-    check(&rt, (NO_FILTER, TWO_ONE, NONE_AND_ONE), 0, &steps, true)
-}
-
-#[test]
-fn a_window_fires_by_the_least_watermark(rt: HostRuntime) -> Result<(), Fail> {
-    let steps = [
-        (Step::Open, Refused(NotEnabled)),
-        (Step::Read(0), Refused(NotEnabled)),
-        (Step::Take(2, Given::End), Refused(NotEnabled)),
-        (Step::Take(0, Given::Record([3, 0, 4])), Done),
-        (Step::Take(1, Given::Record([4, 0, 4])), Done),
-        (Step::Take(0, Given::Record([12, 0, 4])), Done),
-        (Step::Take(0, Given::Watermark(9)), Done),
-        (Step::Put, NothingToPut),
-        (Step::Take(1, Given::Watermark(20)), Done),
-        (Step::Take(1, Given::End), Refused(NotEnabled)),
-        (Step::Put, Put(0, Shown::Fired(1, Some((0, 0))))),
-        (Step::Put, Put(0, Shown::Watermark(9))),
-        (Step::Put, NothingToPut),
-        (Step::Take(0, Given::Barrier(1)), Refused(NotEnabled)),
-        (Step::Take(0, Given::Watermark(i64::MAX)), Done),
-        (Step::Put, Put(0, Shown::Fired(1, Some((10, 0))))),
-        (Step::Put, Put(0, Shown::Watermark(20))),
-        (Step::Take(0, Given::End), Done),
-        (Step::Take(0, Given::Watermark(30)), Refused(NotEnabled)),
-        (Step::Take(1, Given::End), Done),
-        (Step::Put, Put(0, Shown::End)),
-    ];
-    check(&rt, (NO_FILTER, TWO_ONE, THREE_AND_TWO), 2, &steps, true)
-}
-
-#[test]
-fn a_chain_filters_and_deals_by_key(rt: HostRuntime) -> Result<(), Fail> {
-    let steps = [
-        (Step::Take(0, Given::Record([3, 5, 1])), Done),
-        (Step::Put, Put(1, Shown::Rows(1, Some(5)))),
-        (Step::Take(0, Given::Record([3, 200, 1])), Done),
-        (Step::Put, NothingToPut),
-        (Step::Take(1, Given::Record([3, 5, 1])), Refused(NotEnabled)),
-        (Step::Take(0, Given::Watermark(7)), Done),
-        (Step::Put, Put(0, Shown::Watermark(7))),
-        (Step::Put, Put(1, Shown::Watermark(7))),
-        (Step::Take(0, Given::Watermark(6)), Done),
-        (Step::Put, NothingToPut),
-    ];
     check(
         &rt,
-        (TWO_FILTERS, ONE_CHAINED, THREE_AND_TWO),
-        2,
-        &steps,
+        (NO_FILTER, TWO_THREE, THREE_AND_TWO),
+        0,
+        READS_ZERO,
         false,
     )
 }
 
+const READS_NOTHING: &[(Step, Seen)] = &[
+    (Step::Open, Done),
+    (Step::Close, Refused(NotEnabled)),
+    (Step::Put, Put(0, Shown::Watermark(i64::MAX))),
+    (Step::Read(0), Refused(NotEnabled)),
+    (Step::Close, Done),
+    (Step::Put, Put(0, Shown::End)),
+];
+
+#[test]
+fn an_empty_partition_is_at_its_end(rt: HostRuntime) -> Result<(), Fail> {
+    check(
+        &rt,
+        (NO_FILTER, TWO_ONE, NONE_AND_ONE),
+        0,
+        READS_NOTHING,
+        true,
+    )
+}
+
+const FIRES: &[(Step, Seen)] = &[
+    (Step::Open, Refused(NotEnabled)),
+    (Step::Read(0), Refused(NotEnabled)),
+    (Step::Take(2, Given::End), Refused(NotEnabled)),
+    (Step::Take(0, Given::Record([3, 0, 4])), Done),
+    (Step::Take(1, Given::Record([4, 0, 4])), Done),
+    (Step::Take(0, Given::Record([12, 0, 4])), Done),
+    (Step::Take(0, Given::Watermark(9)), Done),
+    (Step::Put, NothingToPut),
+    (Step::Take(1, Given::Watermark(20)), Done),
+    (Step::Take(1, Given::End), Refused(NotEnabled)),
+    (Step::Put, Put(0, Shown::Fired(1, Some((0, 0))))),
+    (Step::Put, Put(0, Shown::Watermark(9))),
+    (Step::Put, NothingToPut),
+    (Step::Take(0, Given::Barrier(1)), Refused(NotEnabled)),
+    (Step::Take(0, Given::Watermark(i64::MAX)), Done),
+    (Step::Put, Put(0, Shown::Fired(1, Some((10, 0))))),
+    (Step::Put, Put(0, Shown::Watermark(20))),
+    (Step::Take(0, Given::End), Done),
+    (Step::Take(0, Given::Watermark(30)), Refused(NotEnabled)),
+    (Step::Take(1, Given::End), Done),
+    (Step::Put, Put(0, Shown::End)),
+];
+
+#[test]
+fn a_window_fires_by_the_least_watermark(rt: HostRuntime) -> Result<(), Fail> {
+    check(&rt, (NO_FILTER, TWO_ONE, THREE_AND_TWO), 2, FIRES, true)
+}
+
+const FILTERS: &[(Step, Seen)] = &[
+    (Step::Take(0, Given::Record([3, 5, 1])), Done),
+    (Step::Put, Put(1, Shown::Rows(1, Some(5)))),
+    (Step::Take(0, Given::Record([3, 200, 1])), Done),
+    (Step::Put, NothingToPut),
+    (Step::Take(1, Given::Record([3, 5, 1])), Refused(NotEnabled)),
+    (Step::Take(0, Given::Watermark(7)), Done),
+    (Step::Put, Put(0, Shown::Watermark(7))),
+    (Step::Put, Put(1, Shown::Watermark(7))),
+    (Step::Take(0, Given::Watermark(6)), Done),
+    (Step::Put, NothingToPut),
+];
+
+#[test]
+fn a_chain_filters_and_deals_by_key(rt: HostRuntime) -> Result<(), Fail> {
+    check(
+        &rt,
+        (TWO_FILTERS, ONE_CHAINED, THREE_AND_TWO),
+        2,
+        FILTERS,
+        false,
+    )
+}
+
+const COLLECTS: &[(Step, Seen)] = &[
+    (Step::Take(0, Given::Record([3, 5, 1])), Refused(NotEnabled)),
+    (Step::Take(0, Given::Watermark(7)), Done),
+    (Step::Take(0, Given::End), Done),
+    (Step::Take(1, Given::End), Done),
+    (Step::Take(2, Given::Watermark(8)), Done),
+    (Step::Put, NothingToPut),
+    (Step::Take(2, Given::End), Done),
+    (Step::Put, NothingToPut),
+];
+
 #[test]
 fn the_sink_ends_with_its_inputs(rt: HostRuntime) -> Result<(), Fail> {
-    let steps = [
-        (Step::Take(0, Given::Record([3, 5, 1])), Refused(NotEnabled)),
-        (Step::Take(0, Given::Watermark(7)), Done),
-        (Step::Take(0, Given::End), Done),
-        (Step::Take(1, Given::End), Done),
-        (Step::Take(2, Given::Watermark(8)), Done),
-        (Step::Put, NothingToPut),
-        (Step::Take(2, Given::End), Done),
-        (Step::Put, NothingToPut),
-    ];
-    check(&rt, (NO_FILTER, TWO_THREE, THREE_AND_TWO), 5, &steps, true)
+    check(
+        &rt,
+        (NO_FILTER, TWO_THREE, THREE_AND_TWO),
+        5,
+        COLLECTS,
+        true,
+    )
 }
