@@ -12,3 +12,4 @@ pub mod Beginning
 pub mod Enabled
 pub mod Ready
 pub mod Sound
+pub mod Legs

@@ -5,6 +5,7 @@
 #![tactic(auto)]
 
 mod given;
+pub mod laws;
 mod rings;
 mod world;
 
