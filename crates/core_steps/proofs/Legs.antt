@@ -22,7 +22,7 @@ use Rattle.layout_rules.proofs.Facts.{compiled_ever, sink_is_last, tasks_are_one
 use Rattle.plan_compiler.specs.LayoutData.{LayoutData}
 use Rattle.input_flow.specs.InputEntries.{entries_of}
 use Rattle.task_steps.specs.TaskData.{TaskData}
-use Rattle.task_setups.specs.Legs.{until_of}
+use Rattle.leg_lists.specs.Stops.{until_of}
 use Rattle.task_setups.proofs.Facts.{every_task_stands, every_task_reads}
 use Rattle.core_steps.specs.Given.{GivenData, layout_in, opening_by, start_in}
 use Rattle.core_steps.specs.World.{IsPlaced}
@@ -56,9 +56,9 @@ placed g h t l =
     let compiled : IsCompiled g.plan c g.layout.stages = subst (IsCompiled g.plan c) (sym (ap (λ (x : LayoutData). x.stages) h.laid_out.is)) (compiled_ever g.plan c) in
     let last = sink_is_last g.plan c g.layout.stages h.plan h.laid_out.fits compiled in
     let early : t ≤ (layout_in g).sink = omega (arith, l, last) in
-    let reads = λ (source : is_source ((layout_in g).task t).role ≡ true). every_task_reads g.plan c g.input g.leg.number [] (until_of g.leg.until) g.layout.stages t h.plan h.laid_out.fits compiled h.belongs tt h.within early (source_yes ((layout_in g).task t).role source) in
+    let reads = λ (source : is_source ((layout_in g).task t).role ≡ true). every_task_reads g.plan c g.input g.leg.number [] (until_of g.leg.stop) g.layout.stages t h.plan h.laid_out.fits compiled h.belongs tt h.within early (source_yes ((layout_in g).task t).role source) in
     record {
-      stands = every_task_stands g.plan (entries_of g.input) g.leg.number [] (until_of g.leg.until) g.layout.stages t (start_in g t) false;
+      stands = every_task_stands g.plan (entries_of g.input) g.leg.number [] (until_of g.leg.stop) g.layout.stages t (start_in g t) false;
       reads = λ source. (reads source).1;
       has = λ source. (reads source).0;
       columns = h.belongs.columns;
@@ -69,7 +69,7 @@ pub every_leg_begins : EveryLegBegins
 every_leg_begins g h = (
   record {
     opens = λ t l. opens_by g.plan ((layout_in g).task t).role ((layout_in g).task t) g.offsets _ (h.windows _);
-    leg = tasks_are_one_leg g.plan (entries_of g.input) g.layout.stages (window_of g.layout.stages) g.leg.number g.offsets [] (until_of g.leg.until) (start_in g) h.route
+    leg = tasks_are_one_leg g.plan (entries_of g.input) g.layout.stages (window_of g.layout.stages) g.leg.number g.offsets [] (until_of g.leg.stop) (start_in g) h.route
         (λ t q l role k. offset_at ((layout_in g).task t).role ((layout_in g).task t) g.offsets _ q role k);
   },
   record {

@@ -13,3 +13,4 @@ pub mod Enabled
 pub mod Ready
 pub mod Sound
 pub mod Legs
+pub mod Facts

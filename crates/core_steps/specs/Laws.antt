@@ -11,7 +11,8 @@ use Rattle.layout_rules.specs.Laws.{IsRoute}
 use Rattle.plan_compiler.specs.Tables.{each_task}
 use Rattle.task_steps.specs.TaskData.{TaskData}
 use Rattle.task_setups.specs.Laws.{IsWithin}
-use Rattle.task_setups.specs.Legs.{IsLayoutOf, until_of, sizes_of, leg_over}
+use Rattle.leg_lists.specs.Stops.{until_of}
+use Rattle.task_setups.specs.Legs.{IsLayoutOf, sizes_of, leg_over}
 use Rattle.task_setups.specs.Setups.{setup_of, window_of}
 use Rattle.core_steps.specs.Given.{GivenData, layout_in, windows_at, start_in}
 use Rattle.core_steps.specs.Beginning.{AreNewTasks}
@@ -25,8 +26,8 @@ pub record IsLegGiven (g : GivenData) : Type 0 where
   pub plan : IsPlan g.plan
   pub laid_out : IsLayoutOf g.plan g.layout
   pub belongs : BelongsTo g.plan g.input
-  pub route : IsRoute g.offsets [] (until_of g.leg.until) (sizes_of g.input)
-  pub within : IsWithin g.input (until_of g.leg.until)
+  pub route : IsRoute g.offsets [] (until_of g.leg.stop) (sizes_of g.input)
+  pub within : IsWithin g.input (until_of g.leg.stop)
   pub windows : (i : ℕ) (q : Pane) → is_due g.plan.window lowest q.start ≡ true → get (windows_at g.windows i) q ≡ None
 
 -- the tasks of each such leg begin as a world asks

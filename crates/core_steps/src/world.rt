@@ -332,7 +332,8 @@ impl<'a> World<'a> {
         ensures says { result ≡ self.now.has_failed }
         ensures sound { IsWorld self.now }
     {
-        self.has_failed
+        let World { has_failed, .. } = self;
+        *has_failed
     }
 
     /// The rows that the sink has collected, in the order in which they came.

@@ -67,7 +67,7 @@ compiled_leg_delivers_all p c i stages start ip sc is input orderly belongs open
     let full = full_cut i.sources in
     let one = g p c i 0 ToEnd stages ip sc is (λ e. cc) start opens h done in
     let came : (q : ℕ) → q < x.partitions → cut_left one q ≡ counts_at p full q = λ q l. let d = one.deals.dealt q l in
-        comes p c i 0 ToEnd stages ip sc is (λ e. cc) start opens h done (reader_of x one.layout q) (place_in_reader x one.layout q) d.reads.early d.reads.role d.place ∙ ap (counts_at p full) d.back in
+    comes p c i 0 ToEnd stages ip sc is (λ e. cc) start opens h done (reader_of x one.layout q) (place_in_reader x one.layout q) d.reads.early d.reads.role d.place ∙ ap (counts_at p full) d.back in
     let at_start = same_watermark x (λ q. 0) (counts_at p (empty_cut i.sources)) (merged_watermark i.sources (empty_cut i.sources)) (λ q l. ap (λ f. f q) (sym (empty_counts p i))) (watermark_at_cut p i (empty_cut i.sources) belongs (empty_is_cut i.sources)) in
     let at_end = same_watermark x (cut_left one) (counts_at p full) (merged_watermark i.sources full) came (watermark_at_cut p i full belongs (full_is_cut i.sources)) in
     legs_deliver_all p i one (merged_watermark i.sources full) (h.end one.layout.sink).rows ip input orderly belongs came (first one (record { opens = opens.opens; nothing = nothing }) at_start at_end)

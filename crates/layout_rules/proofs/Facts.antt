@@ -16,7 +16,6 @@ pub use Rattle.layout_rules.proofs.Shapes.{compiled_is_layout}
 pub use Rattle.layout_rules.proofs.Legs.{tasks_are_one_leg}
 pub use Rattle.layout_rules.proofs.Outputs.{rings_by_group, tasks_have_outputs, sink_is_last}
 pub use Rattle.layout_rules.proofs.Once.{compiled_once, compiled_ever}
-pub use Rattle.layout_rules.proofs.Once.{compiled_ever}
 use Rattle.layout_rules.proofs.Once.{made_length, made_operators}
 
 -- rows that have numbers have at least as many as there are rows

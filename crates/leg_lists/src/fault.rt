@@ -1,5 +1,9 @@
 //! Why a leg is refused.
 
+ghost use Rattle.std.specs.Prelude.{◌≡◌};
+ghost use Rattle.leg_lists.specs.declared.fault.LegFault.TheVariants.{Memory};
+
+use std::alloc::AllocError;
 use thiserror::Error;
 
 /// Why a leg has no answer.
@@ -12,4 +16,12 @@ pub enum LegFault {
     /// No memory was to be had.
     #[error("L2 Memory")]
     Memory,
+}
+
+impl From<AllocError> for LegFault {
+    ghost from_gives = { λ _ e. e ≡ Memory };
+
+    fn from(_e: AllocError) -> LegFault {
+        LegFault::Memory
+    }
 }

@@ -24,7 +24,7 @@ use Rattle.leg_tasks.specs.Beginning.{first_window, first_task}
 use Rattle.leg_tasks.specs.Delivering.{first_states, FirstTasksDeliver}
 use Rattle.leg_tasks.proofs.Starting.{zeros, first_tasks_begin}
 
-no_windows : (p : PlanData) (stages : List Stage) (t : ℕ) → windows_in (first_window p stages t) ≡ empty
+pub no_windows : (p : PlanData) (stages : List Stage) (t : ℕ) → windows_in (first_window p stages t) ≡ empty
 no_windows p stages t = elim (cases_Bool (is_window (task_role stages t))) [
   | inl e ↦ rw e refl
   | inr e ↦ rw e refl

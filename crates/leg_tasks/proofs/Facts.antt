@@ -7,6 +7,9 @@ use Rattle.dataflow_model.specs.Role.{is_source}
 use Rattle.dataflow_model.proofs.Facts.{source_yes}
 use Rattle.task_steps.specs.TaskData.{TaskData}
 use Rattle.leg_tasks.specs.Beginning.{CanBeRead, BeginLeg}
+pub use Rattle.leg_tasks.proofs.Suiting.{when_true, first_operator}
+pub use Rattle.leg_tasks.proofs.Starting.{zeros, other_opens}
+pub use Rattle.leg_tasks.proofs.Delivering.{no_windows}
 
 -- tasks that begin a leg can read its input
 pub can_be_read : (p : PlanData) (i : InputData) (l : AbstractLayout) (tasks : List TaskData) (t : ℕ) (d : TaskData) → BelongsTo p i → BeginLeg p i l tasks → t < length tasks → CanBeRead (get_or tasks t d).setup i

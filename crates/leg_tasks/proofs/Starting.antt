@@ -85,7 +85,7 @@ module _ (p : PlanData) (i : InputData) (leg : Leg) (stages : List Stage) (t : �
       }
 
   -- any other task has no partitions, and the least watermark of each input
-  other_opens : is_source k.role ≡ false → begins ≡ opening k.inputs [] (replicate k.inputs lowest) (windows_in (first_window p stages t))
+  pub other_opens : is_source k.role ≡ false → begins ≡ opening k.inputs [] (replicate k.inputs lowest) (windows_in (first_window p stages t))
   other_opens other =
       let b = is_source (task_role stages t) in
       let mark : ℕ → ℤ = λ j. partition_watermark (partition_at i.sources (source_of (task_stage stages t).operators) j) 0 in

@@ -1,18 +1,22 @@
-ghost use Rattle.std.specs.Prelude.{◌≡◌};
+ghost use Rattle.std.specs.Prelude.{◌≡◌, ◌↔◌, IsTrue};
+ghost use Rattle.leg_lists.specs.Stops.{until_of};
+ghost use Rattle.task_setups.specs.Laws.{IsWithin};
 ghost use Rattle.leg_tasks.specs.Beginning.{CanBeRead};
 
 use crate::tasks;
 use columns::Batch;
 use dataflow_model::Message;
+use leg_lists::{Cut, Stop};
 use logical_plan::Plan;
+use plain_data::Items;
 use plan_compiler::compile;
 use plan_scale::Scale;
-use std::alloc::Global;
+use std::alloc::{AllocError, Global};
 use std::process::Abort;
 use std::random::RandomSource;
 use std::test::Fail;
 use stream_input::Input;
-use task_setups::{Leg, Until};
+use task_setups::Leg;
 use task_steps::{StepFault, Task};
 use window_state::HashKeys;
 
@@ -158,10 +162,21 @@ fn played(
     Ok((seen, task.is_done()))
 }
 
-/// What comes of steps of one task of a leg to the end, by a plan at a scale.
+/// Whether a leg that stops so goes to its end, or to a cut of the input.
+fn goes_within(stop: &Stop, input: &Input) -> bool
+    ensures { IsTrue result ↔ IsWithin input.now (until_of stop.now) }
+{
+    match stop {
+        Stop::Never => true,
+        Stop::At(cut) => cut.is_within(input.sources()),
+    }
+}
+
+/// What comes of steps of one task of a leg from nothing, by a plan at a scale.
 fn outcomes<R: AllocGlobal + Abort + RandomSource>(
     rt: &R,
     texts: (&str, &str, &str),
+    stop: Stop,
     number: usize,
     steps: &[Step],
 ) -> Result<(Vec<Seen>, bool), Fail> {
@@ -169,10 +184,9 @@ fn outcomes<R: AllocGlobal + Abort + RandomSource>(
     let scale = Scale::read(rt.alloc(), &plan, texts.1.as_bytes())?;
     let input = Input::read(rt.alloc(), &plan, texts.2.as_bytes())?;
     let layout = compile(rt.alloc(), &plan, &scale)?;
-    let leg = Leg {
-        number: 0,
-        until: Until::ToEnd,
-    };
+    let leg = Leg { number: 0, stop };
+    let goes = goes_within(&leg.stop, &input);
+    assert!(rt; goes);
     let keys = HashKeys::random(rt)?;
     let mut tasks = tasks(rt.alloc(), keys, &plan, &input, &layout, &leg)?;
     assert!(rt; number < tasks.len());
@@ -183,6 +197,7 @@ fn outcomes<R: AllocGlobal + Abort + RandomSource>(
 fn check<R: AllocGlobal + Abort + RandomSource>(
     rt: &R,
     texts: (&str, &str, &str),
+    stop: Stop,
     number: usize,
     steps: &[(Step, Seen)],
     done: bool,
@@ -193,7 +208,7 @@ fn check<R: AllocGlobal + Abort + RandomSource>(
         makes.push(*step)?;
         want.push(*seen)?;
     }
-    let (come, is_done) = outcomes(rt, texts, number, &makes)?;
+    let (come, is_done) = outcomes(rt, texts, stop, number, &makes)?;
     assert_eq!(rt; come.as_slice(), want.as_slice());
     assert_eq!(rt; is_done, done);
     Ok(())
@@ -232,6 +247,7 @@ fn a_source_reads_its_own_partition(rt: HostRuntime) -> Result<(), Fail> {
     check(
         &rt,
         (NO_FILTER, TWO_THREE, THREE_AND_TWO),
+        Stop::Never,
         1,
         READS_ONE,
         true,
@@ -257,6 +273,7 @@ fn its_other_subtask_reads_the_other(rt: HostRuntime) -> Result<(), Fail> {
     check(
         &rt,
         (NO_FILTER, TWO_THREE, THREE_AND_TWO),
+        Stop::Never,
         0,
         READS_ZERO,
         false,
@@ -277,6 +294,7 @@ fn an_empty_partition_is_at_its_end(rt: HostRuntime) -> Result<(), Fail> {
     check(
         &rt,
         (NO_FILTER, TWO_ONE, NONE_AND_ONE),
+        Stop::Never,
         0,
         READS_NOTHING,
         true,
@@ -309,7 +327,14 @@ const FIRES: &[(Step, Seen)] = &[
 
 #[test]
 fn a_window_fires_by_the_least_watermark(rt: HostRuntime) -> Result<(), Fail> {
-    check(&rt, (NO_FILTER, TWO_ONE, THREE_AND_TWO), 2, FIRES, true)
+    check(
+        &rt,
+        (NO_FILTER, TWO_ONE, THREE_AND_TWO),
+        Stop::Never,
+        2,
+        FIRES,
+        true,
+    )
 }
 
 const FILTERS: &[(Step, Seen)] = &[
@@ -330,6 +355,7 @@ fn a_chain_filters_and_deals_by_key(rt: HostRuntime) -> Result<(), Fail> {
     check(
         &rt,
         (TWO_FILTERS, ONE_CHAINED, THREE_AND_TWO),
+        Stop::Never,
         2,
         FILTERS,
         false,
@@ -352,8 +378,60 @@ fn the_sink_ends_with_its_inputs(rt: HostRuntime) -> Result<(), Fail> {
     check(
         &rt,
         (NO_FILTER, TWO_THREE, THREE_AND_TWO),
+        Stop::Never,
         5,
         COLLECTS,
         true,
     )
+}
+
+/// A stop where one entry of the first partition was read, and both of the second.
+fn after_one_and_two(alloc: Global) -> Result<Stop, AllocError> {
+    let source = Items::from_vec(vec![in alloc; 1, 2]?);
+    let counts = Items::from_vec(vec![in alloc; source]?);
+    Ok(Stop::At(Cut { counts }))
+}
+
+const STOPS: &[(Step, Seen)] = &[
+    (Step::Stop, Refused(NotEnabled)),
+    (Step::Open, Done),
+    (Step::Stop, Refused(NotEnabled)),
+    (Step::Read(0), Done),
+    (Step::Stop, Refused(NotEnabled)),
+    (Step::Put, Put(2, Shown::Rows(2, Some(1)))),
+    (Step::Read(0), Refused(NotEnabled)),
+    (Step::Close, Refused(NotEnabled)),
+    (Step::Stop, Done),
+    (Step::Stop, Refused(NotEnabled)),
+    (Step::Put, Put(0, Shown::Barrier(1))),
+    (Step::Put, Put(1, Shown::Barrier(1))),
+    (Step::Put, Put(2, Shown::Barrier(1))),
+];
+
+#[test]
+fn a_source_stops_at_its_cut(rt: HostRuntime) -> Result<(), Fail> {
+    let stop = after_one_and_two(rt.alloc())?;
+    let texts = (NO_FILTER, TWO_THREE, THREE_AND_TWO);
+    check(&rt, texts, stop, 0, STOPS, true)
+}
+
+const ALIGNS: &[(Step, Seen)] = &[
+    (Step::Take(0, Given::Barrier(2)), Refused(NotEnabled)),
+    (Step::Take(0, Given::Record([3, 0, 4])), Done),
+    (Step::Take(0, Given::Barrier(1)), Done),
+    (Step::Put, NothingToPut),
+    (Step::Take(0, Given::Record([4, 0, 4])), Refused(NotEnabled)),
+    (Step::Take(1, Given::Record([4, 0, 4])), Done),
+    (Step::Take(1, Given::Barrier(1)), Done),
+    (Step::Take(1, Given::End), Refused(NotEnabled)),
+    (Step::Put, Put(0, Shown::Barrier(1))),
+    (Step::Take(1, Given::Watermark(9)), Refused(NotEnabled)),
+    (Step::Put, NothingToPut),
+];
+
+#[test]
+fn a_window_waits_for_each_barrier(rt: HostRuntime) -> Result<(), Fail> {
+    let stop = after_one_and_two(rt.alloc())?;
+    let texts = (NO_FILTER, TWO_ONE, THREE_AND_TWO);
+    check(&rt, texts, stop, 2, ALIGNS, true)
 }

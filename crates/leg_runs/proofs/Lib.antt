@@ -1,0 +1,4 @@
+mod Orders
+mod Falling
+mod Opening
+mod Delivered
