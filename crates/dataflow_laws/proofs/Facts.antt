@@ -1,6 +1,6 @@
 -- PUBLIC: the laws that proofs in crates above cite. Nothing else of proofs/ is theirs to import.
 pub use Rattle.dataflow_laws.proofs.Needs.{step_needs, needs_step}
-pub use Rattle.dataflow_laws.proofs.Worlds.{worlds_are_histories, rings_are_bounded}
+pub use Rattle.dataflow_laws.proofs.Worlds.{worlds_are_histories}
 pub use Rattle.dataflow_laws.proofs.Admission.{rings_are_admitted}
 pub use Rattle.dataflow_laws.proofs.Going.{progress}
 pub use Rattle.dataflow_laws.proofs.Falling.{falls}

@@ -1,8 +1,6 @@
 //! The first step that a world could make.
 
 ghost use Rattle.std.specs.Prelude.{◌≡◌, ◌<◌, ◌≤◌, MatchOption, false, ℕ};
-ghost use Rattle.dataflow_laws.specs.declared.step.Step.TheVariants as asked;
-ghost use Rattle.dataflow_laws.specs.StepTask.{task_of};
 ghost use Rattle.layout_rules.specs.Stages.{task_count};
 ghost use Rattle.task_setups.specs.Legs.{IsLayoutOf};
 ghost use Rattle.core_steps.specs.Answers.{CanMake};

@@ -1,10 +1,8 @@
 //! A leg run to its end.
 
-ghost use Rattle.std.specs.Prelude.{◌≡◌, ◌<◌, ◌≤◌, MatchOption, MatchResult, IfOk, false, ℕ};
-ghost use Rattle.stream_model.specs.InputData.{BelongsTo};
+ghost use Rattle.std.specs.Prelude.{◌≡◌, ◌<◌, MatchOption, IfOk, false};
 ghost use Rattle.dataflow_laws.specs.StepTask.{task_of};
 ghost use Rattle.dataflow_laws.specs.declared.step.Step.{Step};
-ghost use Rattle.layout_rules.specs.Scale.{IsScale};
 ghost use Rattle.layout_rules.specs.Stages.{task_count};
 ghost use Rattle.task_setups.specs.Legs.{IsLayoutOf};
 ghost use Rattle.core_steps.specs.Answers.{CanMake};
