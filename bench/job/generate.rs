@@ -5,11 +5,11 @@
 use std::fs::File;
 use std::io::{self, BufWriter, Write};
 
-const ROWS_PER_ENTRY: u64 = 1000;
-
 struct Shape {
     records: u64,
     partitions: u64,
+    /// How many rows an entry has; a watermark follows each.
+    rows: u64,
     keys: u64,
     /// How far, in milliseconds, a record's time may be behind the latest time before it.
     disorder: u64,
@@ -23,6 +23,7 @@ impl Shape {
         let mut shape = Shape {
             records: 1_000_000,
             partitions: 4,
+            rows: 1000,
             keys: 1000,
             disorder: 500,
             size: 10_000,
@@ -34,6 +35,7 @@ impl Shape {
             let place = match name {
                 "records" => &mut shape.records,
                 "partitions" => &mut shape.partitions,
+                "rows" => &mut shape.rows,
                 "keys" => &mut shape.keys,
                 "disorder" => &mut shape.disorder,
                 "size" => &mut shape.size,
@@ -74,8 +76,8 @@ impl Shape {
     /// The clock goes up by a millisecond with each record, whose time is at most `disorder`
     /// behind it. So all later times are above the clock less `disorder`, which is the watermark.
     fn write_partition(&self, records: u64, random: &mut Random, out: &mut impl Write) -> io::Result<()> {
-        for first in (0..records).step_by(ROWS_PER_ENTRY as usize) {
-            let end = records.min(first + ROWS_PER_ENTRY);
+        for first in (0..records).step_by(self.rows as usize) {
+            let end = records.min(first + self.rows);
             write!(out, "{}", if first == 0 { r#"{"rows":["# } else { ",\n{\"rows\":[" })?;
             for row in first..end {
                 let time = row + self.disorder - random.below(self.disorder + 1);

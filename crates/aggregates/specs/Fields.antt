@@ -6,15 +6,16 @@ use Rattle.aggregates.specs.declared.kind.Kind.TheVariants.{Count}
 use Rattle.aggregates.specs.declared.acc.Acc.TheInside.{Inside}
 use Rattle.aggregates.specs.Kinds.{padded}
 use Rattle.aggregates.specs.Inside.{acc_view, acc_fields, IsInside}
+use Rattle.plan_model.specs.declared.limits.TheConstants.{MOST_AGGREGATES}
 
-pub length-padded : {X : Type 0} (d : X) (xs : List X) → length xs ≤ 8 → length (padded d xs) ≡ 8
-length-padded {X} d xs h = omega (arith, length-append xs (replicate (8 - length xs) d), length-replicate (8 - length xs) d)
+pub length-padded : {X : Type 0} (d : X) (xs : List X) → length xs ≤ MOST_AGGREGATES → length (padded d xs) ≡ MOST_AGGREGATES
+length-padded {X} d xs h = omega (arith, length-append xs (replicate (MOST_AGGREGATES - length xs) d), length-replicate (MOST_AGGREGATES - length xs) d)
 
 -- eight places, of which so many are taken
-pub length-front : {X : Type 0} (d : X) (xs : List X) (n : ℕ) → n ≤ 8 → xs ≡ padded d (take n xs) → length (take n xs) ≡ n
+pub length-front : {X : Type 0} (d : X) (xs : List X) (n : ℕ) → n ≤ MOST_AGGREGATES → xs ≡ padded d (take n xs) → length (take n xs) ≡ n
 length-front {X} d xs n h is =
-    let few : length (take n xs) ≤ 8 = omega (arith, length-take n xs) in
-    let all : length xs ≡ 8 = ap (length {A = X}) is ∙ length-padded d (take n xs) few in
+    let few : length (take n xs) ≤ MOST_AGGREGATES = omega (arith, length-take n xs) in
+    let all : length xs ≡ MOST_AGGREGATES = ap (length {A = X}) is ∙ length-padded d (take n xs) few in
     omega (arith, length-take n xs)
 
 pub fields_back : (a : Inside) → IsInside a → acc_fields (acc_view a) ≡ a

@@ -6,6 +6,7 @@ use Rattle.byte_fields.specs.Fields.{is_i64}
 use Rattle.plan_model.specs.declared.spec.Aggregate.{Aggregate}
 use Rattle.plan_model.specs.declared.spec.Aggregate.TheVariants as aggregate
 use Rattle.plan_model.specs.Aggregates.{Aggregated}
+use Rattle.plan_model.specs.declared.limits.TheConstants.{MOST_AGGREGATES, MOST_RECORDS}
 use Rattle.aggregates.specs.declared.kind.Kind.{Kind}
 use Rattle.aggregates.specs.declared.kind.Kind.TheVariants.{Count, Sum, Least, Greatest}
 
@@ -47,7 +48,7 @@ pub record AccData : Type 0 where
 -- 1 to 8 kinds, a number for each, and 1 to 2^41 records
 pub record IsAcc (a : AccData) : Type 0 where
   pub some : 1 ≤ length a.kinds
-  pub few : length a.kinds ≤ 8
+  pub few : length a.kinds ≤ MOST_AGGREGATES
   pub counted : 1 ≤ a.total.count
   pub bounded : a.total.count ≤ 2 ^ 41
   pub numbers : are_numbers a.total.count a.kinds a.total.numbers ≡ true
@@ -55,8 +56,8 @@ pub record IsAcc (a : AccData) : Type 0 where
 -- an entry of a savepoint: 1 to 8 kinds with a number for each that so many records can come to, of 1 to 2^40 records
 abbrev pub is_entry : List Kind → ℕ → List ℤ → Bool
 is_entry kinds count numbers =
-    (nat_le 1 (length kinds) && nat_le (length kinds) 8) && ((nat_le 1 count && nat_le count (2 ^ 40)) && are_numbers count kinds numbers)
+    (nat_le 1 (length kinds) && nat_le (length kinds) MOST_AGGREGATES) && ((nat_le 1 count && nat_le count MOST_RECORDS) && are_numbers count kinds numbers)
 
 -- eight places, of which the last are the filler
 abbrev pub padded : {X : Type 0} → X → List X → List X
-padded filler xs = xs ++ replicate (8 - length xs) filler
+padded filler xs = xs ++ replicate (MOST_AGGREGATES - length xs) filler

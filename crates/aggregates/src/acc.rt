@@ -4,15 +4,13 @@ ghost use Rattle.plan_model.specs.declared.spec.Aggregate.{Aggregate};
 ghost use Rattle.plan_model.specs.PlanData.{has_column};
 ghost use Rattle.plan_model.specs.Aggregates.{aggregate_of, merge};
 ghost use Rattle.aggregates.specs.Kinds.{IsAcc, kind_of, is_entry};
+ghost use Rattle.plan_model.specs.declared.limits.TheConstants.{MOST_AGGREGATES};
 
 use crate::kind::Kind;
 use crate::numbers::{are_numbers, merge_into, write_kinds, write_numbers};
 use columns::Batch;
-use plan_model::WindowSpec;
+use plan_model::{MOST_AGGREGATES, MOST_RECORDS, WindowSpec};
 use std::marker::Model;
-
-/// The greatest number of aggregates.
-const MOST: usize = 8;
 
 /// How many records, and a number for each of 1 to 8 aggregates: what the records of a window and a key
 /// come to. It takes no memory beside its own.
@@ -20,8 +18,8 @@ const MOST: usize = 8;
 pub struct Acc {
     count: u64,
     width: usize,
-    kinds: [Kind; 8],
-    numbers: [i128; 8],
+    kinds: [Kind; MOST_AGGREGATES],
+    numbers: [i128; MOST_AGGREGATES],
 }
 
 impl Model for Acc {
@@ -47,14 +45,14 @@ impl Acc {
         requires row_in { row < length batch.now.rows }
         requires columns_in { All (has_column batch.now.width) w.now.aggregates }
         requires some { 1 ≤ length w.now.aggregates }
-        requires few { length w.now.aggregates ≤ 8 }
+        requires few { length w.now.aggregates ≤ MOST_AGGREGATES }
         ensures kinds { result.kinds ≡ map kind_of w.now.aggregates }
         ensures total { Some result.total ≡ aggregate_of w.now.aggregates (slice_index_or batch.now.rows row [] ∷ []) }
         ensures sound { IsAcc result }
     {
         let aggregates = w.aggregates.as_slice();
-        let mut kinds = [Kind::Count; MOST];
-        let mut numbers = [0; MOST];
+        let mut kinds = [Kind::Count; MOST_AGGREGATES];
+        let mut numbers = [0; MOST_AGGREGATES];
         write_kinds(&mut kinds, aggregates);
         write_numbers(&mut numbers, aggregates, batch, row);
         Acc {
@@ -127,14 +125,14 @@ impl Acc {
         ensures made { IfSome result (λ a. a ≡ record { kinds = kinds.now; total = record { count = count; numbers = numbers.now } }) }
     {
         let width = kinds.len();
-        if width < 1 || width > MOST || count < 1 || count > 1 << 40 {
+        if width < 1 || width > MOST_AGGREGATES || count < 1 || count > MOST_RECORDS {
             return None;
         }
         if !are_numbers(count, kinds, numbers) {
             return None;
         }
-        let mut all_kinds = [Kind::Count; MOST];
-        let mut all_numbers = [0; MOST];
+        let mut all_kinds = [Kind::Count; MOST_AGGREGATES];
+        let mut all_numbers = [0; MOST_AGGREGATES];
         all_kinds[..width].copy_from_slice(kinds);
         all_numbers[..width].copy_from_slice(numbers);
         Some(Acc {

@@ -1,6 +1,7 @@
 ghost use Rattle.std.specs.Prelude.{◌≡◌, ◌≤◌, ◌^◌};
 ghost use Rattle.byte_fields.specs.Fields as fields;
 ghost use Rattle.aggregates.specs.Kinds.{kind_of, is_number};
+ghost use Rattle.plan_model.specs.declared.limits.TheConstants.{MOST_RECORDS};
 
 use plan_model::Aggregate;
 
@@ -29,7 +30,7 @@ impl Kind {
     /// Whether so many records, at most 2^40, can come to the number: the count itself, a sum of at most
     /// 2^63 for each, or a number of 64 bits.
     pub fn admits(self, count: u64, number: i128) -> bool
-        requires { count ≤ 2 ^ 40 }
+        requires { count ≤ MOST_RECORDS }
         ensures { result ≡ is_number count self number }
     {
         match self {

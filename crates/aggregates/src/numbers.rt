@@ -6,6 +6,7 @@ ghost use Rattle.plan_model.specs.PlanData.{has_column};
 ghost use Rattle.plan_model.specs.Aggregates.{number_of};
 ghost use Rattle.byte_fields.specs.Fields as fields;
 ghost use Rattle.aggregates.specs.Kinds.{merge_by, merge_all, kind_of, are_numbers as numbers_are};
+ghost use Rattle.plan_model.specs.declared.limits.TheConstants.{MOST_RECORDS};
 
 use crate::kind::Kind;
 use columns::Batch;
@@ -84,7 +85,7 @@ pub(crate) fn merge_into(numbers: &mut [i128], kinds: &[Kind], others: &[i128])
 
 /// Whether there is a number for each kind that so many records can come to.
 pub(crate) fn are_numbers(count: u64, kinds: &[Kind], numbers: &[i128]) -> bool
-    requires { count ≤ 2 ^ 40 }
+    requires { count ≤ MOST_RECORDS }
     ensures { result ≡ numbers_are count kinds.now numbers.now }
 {
     if kinds.len() != numbers.len() {

@@ -2,6 +2,7 @@
 use Rattle.std.specs.Prelude.{◌≡◌, ◌≤◌, ℕ, ℤ, pos, List, length, map, slice_index_or, Vec}
 use Rattle.std.specs.declared.alloc.Global.{Global}
 use Rattle.std.specs.List.{All, range_with_len}
+use Rattle.plain_data.specs.declared.limits.TheConstants.{MOST_COLUMNS}
 use Rattle.plain_data.specs.Record.{Record}
 use Rattle.columns.specs.declared.TheConstants.{MOST_ROWS}
 
@@ -25,7 +26,7 @@ rows_in rows = map (λ row. row.items) rows
 -- how many columns a batch may have: 1 to 16
 pub record IsWidth (n : ℕ) : Type 0 where
   pub some : 1 ≤ n
-  pub narrow : n ≤ 16
+  pub narrow : n ≤ MOST_COLUMNS
 
 -- so many columns, of one length, which is the number of rows, at most 4,096
 pub record AreColumns (columns : List (Vec ℤ Global)) (count : ℕ) : Type 0 where

@@ -2,6 +2,7 @@
 
 ghost use Rattle.std.specs.Prelude.{IfErr, IfNone, IfOk, OnOk, None, Some, ◌<◌, ◌==◌, ◌≡◌, ◌≢◌, ◌≤◌, length, map, not};
 ghost use Rattle.std.specs.List.{All, position, range_with_len};
+ghost use Rattle.plain_data.specs.declared.limits.TheConstants.{MOST_COLUMNS};
 ghost use Rattle.plain_data.specs.Record.{column_of};
 ghost use Rattle.columns.specs.Fault.{first_fault};
 ghost use Rattle.columns.specs.Table.{IsWidth, rows_in};
@@ -18,7 +19,7 @@ impl Batch {
     /// The first row of another length by its place from 0, then more than [`MOST_ROWS`] rows; `Memory`.
     pub fn from_rows(alloc: Global, rows: &[Vec<i64>], width: usize) -> Result<Batch, BatchFault>
         requires wide { 1 ≤ width }
-        requires narrow { width ≤ 16 }
+        requires narrow { width ≤ MOST_COLUMNS }
         ensures batch { IfOk result (λ batch. batch ≡ record { width = width; rows = rows_in rows.now }) }
         ensures accepted { OnOk result (first_fault (rows_in rows.now) width ≡ None) }
         ensures refused { IfErr result (λ e. e ≢ BatchFault.Memory → first_fault (rows_in rows.now) width ≡ Some e) }

@@ -33,5 +33,5 @@ is_world g tasks rings sound new empty = record {
   reached = subst (Reached g.plan (layout_in g) g.layout.capacity (start_in g)) (sym (opened g tasks rings new empty)) begins;
 }
 
-pub is_new : (g : GivenData) (tasks : List TaskData) (rings : RingsData) → AreNewTasks g tasks → AreNewRings g.layout.stages g.layout.capacity rings → IsNewWorld g tasks (new_world g tasks rings)
-is_new g tasks rings new empty = record { given = refl; tasks = refl; going = refl; opening = opened g tasks rings new empty }
+pub is_new : (g : GivenData) (tasks : List TaskData) (rings : RingsData) → AreNewTasks g tasks → AreNewRings g.layout.stages g.layout.capacity rings → IsNewWorld g (new_world g tasks rings)
+is_new g tasks rings new empty = record { given = refl; going = refl; opening = opened g tasks rings new empty }

@@ -13,4 +13,3 @@ pub mod Enabled
 pub mod Ready
 pub mod Sound
 pub mod Legs
-pub mod Facts

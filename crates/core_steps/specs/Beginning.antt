@@ -12,9 +12,8 @@ pub record AreNewTasks (g : GivenData) (tasks : List TaskData) : Type 0 where
   pub going : (t : ℕ) (d : TaskData) → t < task_count g.layout.stages → (slice_index_or tasks t d).has_failed ≡ false
   pub opening : (t : ℕ) (d : TaskData) → t < task_count g.layout.stages → (slice_index_or tasks t d).state ≡ start_in g t
 
--- a world of these tasks in their opening states, with empty rings
-pub record IsNewWorld (g : GivenData) (ts : List TaskData) (w : WorldData) : Type 0 where
+-- a world of tasks in their opening states, with empty rings
+pub record IsNewWorld (g : GivenData) (w : WorldData) : Type 0 where
   pub given : w.given ≡ g
-  pub tasks : w.tasks ≡ ts
   pub going : w.has_failed ≡ false
   pub opening : world_in w ≡ record { tasks = start_in g; rings = λ s t. [] }

@@ -5,4 +5,4 @@ pub mod World
 pub mod Beginning
 pub mod Answers
 pub mod RingSteps
-pub mod Laws
+pub mod Finishing

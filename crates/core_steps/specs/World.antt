@@ -26,7 +26,7 @@ pub record WorldData : Type 0 where
   pub has_failed : Bool
 
 abbrev pub world_view : Inside → WorldData
-world_view w = record { given = given_data w.given; tasks = w.tasks.items; rings = w.rings; has_failed = w.has_failed }
+world_view w = record { given = given_data w.given w.leg.stop; tasks = w.tasks.items; rings = w.rings; has_failed = w.has_failed }
 
 -- the states of tasks, and what the rings hold, the newest message first
 abbrev pub state_at : GivenData → List TaskData → ℕ → State

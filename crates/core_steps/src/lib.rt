@@ -4,10 +4,11 @@
 //! `dataflow_laws/specs/World` lead to it from the opening states, in the layout of its own plan, input and leg.
 #![tactic(auto)]
 
+mod finish;
 mod given;
-pub mod laws;
 mod rings;
 mod world;
 
+pub use finish::Finish;
 pub use given::Given;
 pub use world::World;

@@ -1,15 +1,21 @@
 //! All tasks of a leg and the rings between them.
 
-ghost use Rattle.std.specs.Prelude.{◌≡◌, ◌↔◌, true, false, IsTrue, MatchOption, IfOk};
+ghost use Rattle.std.specs.Prelude.{◌≡◌, ◌↔◌, true, false, IsTrue, MatchOption, IfErr, IfOk, OnOk};
 ghost use Rattle.core_steps.specs.Answers.{is_memory};
 
+use crate::finish::{Finish, finished};
 use crate::given::Given;
 use crate::rings::Rings;
 use dataflow_laws::Step;
+use leg_lists::{LegFault, Stop};
+use leg_tasks::tasks;
+use plain_data::Items;
 use plan_model::Row;
-use std::alloc::{AllocError, Global};
+use std::alloc::Global;
 use std::marker::Model;
+use task_setups::Leg;
 use task_steps::{StepFault, Task};
+use window_state::HashKeys;
 
 /// Whether a step found no memory.
 fn found_no_memory(answer: &Result<(), StepFault>) -> bool
@@ -22,6 +28,7 @@ fn found_no_memory(answer: &Result<(), StepFault>) -> bool
 #[derive(Drop)]
 pub struct World<'a> {
     given: Given<'a>,
+    leg: Leg,
     tasks: Vec<Task>,
     rings: Rings,
     has_failed: bool,
@@ -48,34 +55,50 @@ impl<'a> World<'a> {
     ghost use Rattle.dataflow_laws.specs.Progress.{IsFinished};
     ghost use Rattle.dataflow_laws.specs.World as flow;
     ghost use Rattle.stream_model.specs.InputData.{BelongsTo};
-    ghost use Rattle.dataflow_model.specs.Start.{IsLegStart};
+    ghost use Rattle.redistribute.specs.StartData.{offsets_of};
+    ghost use Rattle.redistribute.specs.Begins.{IsStartIn};
+    ghost use Rattle.redistribute.specs.Stopping.{CanStop, IsRefusal};
     ghost use Rattle.task_setups.specs.Legs.{IsLayoutOf};
-    ghost use Rattle.core_steps.specs.Given.{given_data, layout_in, start_in};
+    ghost use Rattle.core_steps.specs.Given.{given_data, layout_in};
     ghost use Rattle.core_steps.specs.World.{world_in, IsWorld};
-    ghost use Rattle.core_steps.specs.Beginning.{AreNewTasks, IsNewWorld};
+    ghost use Rattle.core_steps.specs.Beginning.{IsNewWorld};
+    ghost use Rattle.core_steps.specs.Finishing.{finish_of, rows_in, HasFinished};
     ghost use Rattle.core_steps.specs.Answers.{LeadsTo, CanMake, StepAnswers};
     ghost use Rattle.core_steps.specs.RingSteps.{IsPuttable, IsTakeable};
 
-    /// The world of tasks that have done nothing, with empty rings. The layout is one of the plan, the input was read by
-    /// it, and the tasks are of one leg that begins at the offsets, with what stood in the windows then.
+    /// The world of a leg as it opens: each task has done nothing but begin with its part of the start, and all rings are
+    /// empty. The layout is one of the plan, the input was read by it, and the start is one of the input. The panes of the
+    /// windows are hashed by the keys.
     ///
     /// # Errors
     ///
-    /// Only where memory runs out.
-    pub fn new(alloc: Global, given: Given<'a>, tasks: Vec<Task>) -> Result<World<'a>, AllocError>
+    /// `StopRange` where a leg from the start cannot stop so, else `Memory` where memory runs out.
+    pub fn new(
+        alloc: Global,
+        keys: HashKeys,
+        given: Given<'a>,
+        stop: Stop,
+    ) -> Result<World<'a>, LegFault>
         requires laid_out { IsLayoutOf given.plan.now given.layout.now }
         requires belongs { BelongsTo given.plan.now given.input.now }
-        requires start { IsLegStart given.plan.now (layout_in (given_data given)) (start_in (given_data given)) }
-        requires tasks { AreNewTasks (given_data given) tasks.items }
-        ensures { IfOk result (λ world. IsNewWorld (given_data given.entry) tasks.items world) }
+        requires starts { IsStartIn given.input.now given.start.now }
+        ensures stops { OnOk result (CanStop given.entry.input.now.sources (offsets_of given.entry.start.now) stop) }
+        ensures opens { IfOk result (λ world. IsNewWorld (given_data given.entry stop) world) }
+        ensures refused { IfErr result (λ fault. IsRefusal given.entry.input.now.sources (offsets_of given.entry.start.now) stop fault) }
     {
         let plan = given.plan;
         let input = given.input;
         let _columns = plan.columns();
         let _sources = input.sources();
+        let leg = Leg {
+            number: given.start.number(),
+            stop,
+        };
+        let tasks = tasks(alloc, keys, plan, input, given.start, given.layout, &leg)?;
         let rings = Rings::new(alloc, given.layout)?;
         let world = World {
             given,
+            leg,
             tasks,
             rings,
             has_failed: false,
@@ -175,7 +198,7 @@ impl<'a> World<'a> {
     }
 
     /// The task that the first pending message of a task is for, where there is room on the ring.
-    fn receiver(&self, task: u32) -> Option<u32>
+    pub fn receiver(&self, task: u32) -> Option<u32>
         ensures { MatchOption result ((next : flow.World) → LeadsTo self.now (asked.Put task) next → ⊥) (λ receiver. IsPuttable self.now task receiver) }
     {
         let layout = self.given.layout;
@@ -336,12 +359,25 @@ impl<'a> World<'a> {
         *has_failed
     }
 
-    /// The rows that the sink has collected, in the order in which they came.
-    pub fn into_rows(self) -> Vec<Row>
-        ensures { result.items ≡ ((world_in self.entry).tasks (layout_in self.entry.given).sink).rows }
+    /// Where the leg was to stop, and the rows that the sink has collected, in the order in which they came.
+    fn into_parts(self) -> (Stop, Vec<Row>)
+        ensures stop { result.0 ≡ self.entry.given.stop }
+        ensures rows { result.1.items ≡ rows_in self.entry }
     {
+        let stop = self.leg.stop;
         let mut tasks = self.tasks;
-        tasks.pop().unwrap().into_rows()
+        (stop, tasks.pop().unwrap().into_rows())
+    }
+
+    /// How the leg ended, with the rows that it has delivered; `None` where not every task is done, or the world has failed.
+    pub fn finish(self) -> Option<Finish>
+        ensures { MatchOption result (HasFinished self.entry → ⊥) (λ finish. HasFinished self.entry × (finish ≡ finish_of self.entry.given.stop (rows_in self.entry))) }
+    {
+        if self.has_failed() || !self.is_finished() {
+            return None;
+        }
+        let (stop, rows) = self.into_parts();
+        Some(finished(&stop, Items::from_vec(rows)))
     }
 
     /// Whether every task is done. Where not, and the world has not failed, there is a step.

@@ -4,6 +4,7 @@ use Rattle.std.specs.List.{All}
 use Rattle.plain_data.specs.Record.{at}
 use Rattle.plan_model.specs.PlanData.{PlanData}
 use Rattle.plan_model.specs.Windows.{IsTime}
+use Rattle.plan_model.specs.declared.limits.TheConstants.{MOST_RECORDS}
 use Rattle.dataflow_model.specs.declared.message.Message.{Message}
 use Rattle.dataflow_model.specs.declared.message.Message.TheVariants.{Rows, Fired, Watermark, Barrier, End}
 use Rattle.dataflow_model.specs.declared.role.Role.TheVariants.{Source}
@@ -25,7 +26,7 @@ FitsPlan p End = Unit {0}
 -- all entries of the sources are such, and have at most 2^40 records together
 pub record IsAdmittedInput (p : PlanData) (l : AbstractLayout) : Type 0 where
   pub entries : (t q n : ℕ) → t < l.before → (l.task t).role ≡ Source → q < (l.task t).inputs → n < (l.task t).size q → FitsPlan p ((l.task t).entry q n)
-  pub few : record_count l ≤ 2 ^ 40
+  pub few : record_count l ≤ MOST_RECORDS
 
 -- at every moment, where a task can take from a ring, it admits the oldest message there
 abbrev pub RingsAreAdmitted : Type 0

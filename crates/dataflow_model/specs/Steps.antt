@@ -9,6 +9,7 @@ use Rattle.plan_model.specs.PlanData.{PlanData}
 use Rattle.plan_model.specs.Windows.{IsTime}
 use Rattle.plan_model.specs.Aggregates.{merge}
 use Rattle.plan_model.specs.Rows.{aggregate_at, kept_row, is_due, AreRowsOf}
+use Rattle.plan_model.specs.declared.limits.TheConstants.{MOST_RECORDS}
 use Rattle.columns.specs.Table.{Table}
 use Rattle.input_state.specs.declared.inputs.Shut.TheVariants.{Held, Ended}
 use Rattle.input_state.specs.declared.inputs.Shut.{Shut}
@@ -44,7 +45,7 @@ is_last k n = may_stop k.ending && (n == k.saves)
 
 -- which messages the task's place and the leg admit: rows of the plan's width with times in range, at most 2^40 of them in a leg, no row at the sink, fired rows there alone, and the next barrier
 abbrev pub Admits : PlanData → AbstractTask → State → Message → Type 0
-Admits p k s (Rows t) = (takes_rows k.role ≡ true) × (t.width ≡ p.columns) × All (λ r. IsTime (at p.window.time r)) t.rows × (s.taken + length t.rows ≤ 2 ^ 40)
+Admits p k s (Rows t) = (takes_rows k.role ≡ true) × (t.width ≡ p.columns) × All (λ r. IsTime (at p.window.time r)) t.rows × (s.taken + length t.rows ≤ MOST_RECORDS)
 Admits p k s (Fired rows) = takes_fired k.role ≡ true
 Admits p k s (Watermark t) = Unit {0}
 Admits p k s (Barrier n) = (n ≡ k.first + s.next) × (s.next < barriers k)

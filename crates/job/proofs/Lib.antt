@@ -1,8 +1,8 @@
-mod Folds
+mod Sorts
 mod Unique
-mod PlanText
 mod Refusals
 mod Numerals
 mod Lines
 mod LayoutAnswers
 mod ShowAnswers
+mod Parts

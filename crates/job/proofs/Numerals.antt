@@ -48,6 +48,18 @@ unparsed_value k n text r err h is e =
     let given = parse_digits own k text r h digits.1 in
     search rules
 
+pub parsed_count : {E : Type 0} (text : List ℕ) (r : Result ℕ E) → ParsesUnsigned 64 10 text r → are_digits 20 text ≡ true → result_ok r ≡ number_said 20 0 (2 ^ 64 - 1) text
+parsed_count {E = E} text (Ok n) h e =
+    let digits = all_digits 20 text e in
+    let given = parse_digits own {E = E} 64 text (Ok n) h digits.1 in
+    let said : number_said 20 0 (2 ^ 64 - 1) text ≡ Some (digits_value 10 text) = said_within 20 0 (2 ^ 64 - 1) text e (search rules) (search rules) in
+    rw said (search rules)
+parsed_count text (Err err) h e =
+    let digits = all_digits 20 text e in
+    let given = parse_digits own 64 text (Err err) h digits.1 in
+    let large : 2 ^ 64 - 1 < digits_value 10 text = search rules in
+    rw (said_above 20 0 (2 ^ 64 - 1) text large) refl
+
 pub minus_first : (text : List ℕ) → starts_with_minus text ≡ true → get_or text 0 0 ≡ 45
 minus_first text e = search rules
 

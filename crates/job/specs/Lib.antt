@@ -1,8 +1,8 @@
 pub mod Fault
 pub mod FaultText
-pub mod Folding
 pub mod Text
 pub mod Group
+pub mod Cut
 pub mod Layout
 pub mod LayoutText
 pub mod Run

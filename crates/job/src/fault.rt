@@ -1,4 +1,4 @@
-ghost use Rattle.std.specs.Prelude.{◌≡◌, Ok, IfErr, MatchResult};
+ghost use Rattle.std.specs.Prelude.{◌≡◌};
 ghost use Rattle.job.specs.declared.fault.JobFault.TheVariants.{Memory};
 ghost use Rattle.job.specs.Fault.{plan_fault, input_fault, scale_fault, save_fault};
 
@@ -7,7 +7,6 @@ use plan_compiler::ScaleFault;
 use savepoint_codec::SaveFault;
 use std::alloc::{AllocError, AllocFailed};
 use stream_input::InputFault;
-use window_state::StateFault;
 
 /// Why a call of the job has no answer. [`FaultLine`](crate::FaultLine) is its text.
 #[derive(Clone, Copy, Debug, PartialEq, Eq)]
@@ -73,17 +72,6 @@ impl From<SaveFault> for JobFault {
             SaveFault::Memory => JobFault::Memory,
             other => JobFault::Save(other),
         }
-    }
-}
-
-/// The answer of a call of a state that has not failed before, which fails for want of memory alone.
-pub(crate) fn of_state<T>(answer: Result<T, StateFault>) -> Result<T, JobFault>
-    requires { IfErr answer (λ fault. fault ≡ StateFault.Memory) }
-    ensures { MatchResult result (λ x. answer ≡ Ok x) (λ fault. fault ≡ JobFault.Memory) }
-{
-    match answer {
-        Ok(x) => Ok(x),
-        Err(_) => Err(JobFault::Memory),
     }
 }
 

@@ -19,7 +19,7 @@ fn is_all_digits(text: &[u8]) -> bool
 }
 
 #[tactic(auto, unfolding(crate::specs::Group::are_digits))]
-fn are_digits(text: &[u8], most: usize) -> bool
+pub(crate) fn are_digits(text: &[u8], most: usize) -> bool
     ensures { result ≡ are_digits most text.now }
 {
     !text.is_empty() && text.len() <= most && is_all_digits(text)

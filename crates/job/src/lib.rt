@@ -1,8 +1,8 @@
 //! Jobs from bytes to bytes: a plan's text and an input's text to the text of the rows.
 #![tactic(auto)]
 
+mod cut;
 mod fault;
-mod folding;
 mod group;
 pub mod laws;
 mod layout;
@@ -14,10 +14,12 @@ mod number;
 mod run;
 mod show;
 mod show_text;
+mod sorting;
 #[cfg(test)]
 mod tests;
 mod text;
 
+pub use cut::read_cut;
 pub use fault::JobFault;
 pub use group::job_group;
 pub use layout::job_layout;

@@ -3,28 +3,43 @@
 ghost use Rattle.std.specs.Prelude.{◌≡◌, MatchResult, string_bytes};
 ghost use Rattle.stream_model.specs.InputData.{BelongsTo};
 ghost use Rattle.stream_model.specs.PlanRows.{plan_rows};
+ghost use Rattle.plan_model.specs.Rows.{AreRowsOf};
 ghost use Rattle.job.specs.Text.{IsTextOf};
 ghost use Rattle.std.specs.Io.KnownBytes.{Appends};
 ghost use Rattle.job.specs.Run.{Answers, run_said};
 ghost use Rattle.job.specs.Tells.{KeepsWriter};
 
-use crate::fault::{JobFault, of_state};
-use crate::folding::state_of;
+use crate::fault::JobFault;
+use crate::sorting::sort_rows;
 use crate::text::text_of;
+use leg_runs::run_leg;
 use logical_plan::Plan;
+use plan_compiler::Scale;
+use plan_model::Row;
 use std::alloc::Global;
 use std::io::Write;
 use stream_input::Input;
-use window_state::{HashKeys, keep_rows};
+use window_state::HashKeys;
+
+/// The plan's rows on an input: those of a leg with one subtask for each operator.
+fn rows_of(alloc: Global, keys: HashKeys, plan: &Plan, input: &Input) -> Result<Vec<Row>, JobFault>
+    requires { BelongsTo plan.now input.now }
+    ensures { MatchResult result (λ rows. AreRowsOf (plan_rows plan.now input.now.sources) rows.items) (λ fault. fault ≡ JobFault.Memory) }
+{
+    let scale = Scale::single(alloc, plan)?;
+    match run_leg(alloc, keys, plan, input, &scale) {
+        Ok(rows) => Ok(rows.into_vec()),
+        Err(_) => Err(JobFault::Memory),
+    }
+}
 
 /// The text of the plan's rows on an input.
 fn rows_text(alloc: Global, keys: HashKeys, plan: &Plan, input: &Input) -> Result<String, JobFault>
     requires { BelongsTo plan.now input.now }
     ensures { MatchResult result (λ text. IsTextOf (plan_rows plan.now input.now.sources) (string_bytes text)) (λ fault. fault ≡ JobFault.Memory) }
 {
-    let mut state = state_of(alloc, keys, plan, input)?;
-    let mut rows = of_state(state.fire(i64::MAX))?;
-    keep_rows(plan.window().having.as_slice(), &mut rows);
+    let mut rows = rows_of(alloc, keys, plan, input)?;
+    sort_rows(&mut rows)?;
     Ok(text_of(alloc, &rows)?)
 }
 

@@ -1,6 +1,7 @@
 -- PUBLIC: the lemmas that readers cite. Nothing else of proofs/ is theirs to import.
 use Rattle.std.proofs.Common.{◌≡◌, Bool, true, false, cond, Option, Some, None, Result, Ok, Err, refl}
 use Rattle.std.specs.Option.{option_or, option_map_or}
+pub use Rattle.json_parts.proofs.Each.{with_front}
 
 -- where no requirement is unmet, the first is met, and none of the others is unmet
 pub met_first : {F : Type 0} (fault : F) (b : Bool) (rest : Option F) → option_or (cond b None (Some fault)) rest ≡ None → (b ≡ true) × (rest ≡ None)

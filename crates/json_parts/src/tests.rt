@@ -1,6 +1,6 @@
 use crate::{
-    OtherForm, PartError, flag_or, has_only, list_of, list_or_empty, text, text_of, value_of,
-    whole, whole_or,
+    FromValue, OtherForm, PartError, elements_of, flag_or, has_only, list_of, list_or_empty, text,
+    text_of, value_of, whole, whole_or,
 };
 use plain_data::Items;
 use std::test::Fail;
@@ -56,5 +56,34 @@ fn refusals(rt: HostRuntime) -> Result<(), Fail> {
         list_of::<Items<Option<i64>>>(alloc, &value, "c").err(),
         form
     );
+    Ok(())
+}
+
+const COUNTS: &str = "[0,18446744073709551615]";
+
+const NO_COUNTS: [&str; 6] = ["-1", "-0", "1.0", "18446744073709551616", "null", "[1]"];
+
+#[test]
+fn counts(rt: HostRuntime) -> Result<(), Fail> {
+    let alloc = rt.alloc();
+    let value = value_of(alloc, COUNTS.as_bytes())?;
+    let read = Items::<u64>::from_value(alloc, &value)?;
+    assert_eq!(rt; read.as_slice(), [0, u64::MAX].as_slice());
+    for text in NO_COUNTS {
+        let value = value_of(alloc, text.as_bytes())?;
+        let read = u64::from_value(alloc, &value);
+        assert_eq!(rt; read.err(), Some(PartError::Form), "at {text}");
+    }
+    Ok(())
+}
+
+#[test]
+fn elements(rt: HostRuntime) -> Result<(), Fail> {
+    let value = value_of(rt.alloc(), COUNTS.as_bytes())?;
+    let elements = elements_of(&value)?;
+    assert_eq!(rt; elements.len(), 2);
+    assert_eq!(rt; elements[0].as_u64(), Some(0));
+    let value = value_of(rt.alloc(), b"{}".as_slice())?;
+    assert_eq!(rt; elements_of(&value).err(), Some(OtherForm));
     Ok(())
 }

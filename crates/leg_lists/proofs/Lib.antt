@@ -1,2 +1,3 @@
 pub mod Facts
 mod Zipped
+mod Scaled

@@ -1,1 +1,6 @@
 pub mod Stops
+pub mod Fault
+pub mod LegsText
+pub mod Requirements
+pub mod Said
+pub mod Answer

@@ -1,12 +1,21 @@
 //! How far a leg of a job goes: to the end of its input, or to a cut of it.
 #![tactic(auto)]
 
+mod building;
 mod cut;
 mod fault;
+mod leg;
+mod limits;
+mod reading;
+mod requirements;
 mod stop;
+mod text;
 
 pub use cut::Cut;
 pub use fault::LegFault;
+pub use leg::LegSpec;
+pub use limits::MOST_LEGS;
+pub use reading::read_legs;
 pub use stop::Stop;
 
 #[cfg(test)]

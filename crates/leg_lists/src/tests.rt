@@ -1,5 +1,8 @@
+mod lists;
+
 use crate::{Cut, LegFault};
 use plain_data::Items;
+use plan_scale::ScaleFault;
 use std::alloc::{AllocError, Global};
 use std::test::Fail;
 use stream_model::{Entry, Partition, Source};
@@ -77,6 +80,10 @@ fn faults_have_their_names(rt: HostRuntime) -> Result<(), Fail> {
     let texts = [
         (LegFault::StopRange, "L1 StopRange"),
         (LegFault::Memory, "L2 Memory"),
+        (LegFault::Legs, "L3 Legs"),
+        (LegFault::NotJson, "L4 NotJson"),
+        (LegFault::Member, "L5 Member"),
+        (LegFault::Scale(7, ScaleFault::Ring), "S6 Ring"),
     ];
     for (fault, text) in texts {
         assert_eq!(rt; format!(in rt.alloc(); "{fault}")?.as_str(), text);

@@ -1,90 +1,94 @@
--- A world that has run delivers the plan's rows.
-use Rattle.std.proofs.Common.{◌≡◌, ℕ, ◌<◌, false, [], map, refl, sym, subst, arith, None}
-use Rattle.std.specs.Prelude.{slice_index}
-use Rattle.std.specs.FinMap.{get, empty, get-empty}
-use Rattle.std.specs.List.{range_with_len}
-use Rattle.std.proofs.lemmas.List.FromFn.{get_or-map-range_with_len}
+-- A world that has run delivers the rows that become due.
+use Rattle.std.proofs.Common.{◌≡◌, ℕ, Bool, true, false, List, [], refl, sym, ap, subst, ◌∙◌}
+use Rattle.std.specs.Prelude.{Option, None, ◌==◌, if◌then◌else◌}
 use Rattle.plan_model.specs.PlanData.{PlanData, IsPlan}
 use Rattle.plan_model.specs.declared.spec.Pane.{Pane}
-use Rattle.plan_model.specs.Rows.{AreRowsOf, pane_cmp}
+use Rattle.plan_model.specs.Rows.{AreRowsOf}
 use Rattle.stream_model.specs.InputData.{InputData, IsInput, BelongsTo}
-use Rattle.stream_model.specs.Watermarks.{IsOrderly}
-use Rattle.stream_model.specs.PlanRows.{plan_rows}
-use Rattle.dataflow_model.specs.declared.role.Role.{Role}
-use Rattle.dataflow_model.specs.declared.role.Role.TheVariants.{Source, Chain, Window, Sink}
-use Rattle.dataflow_model.specs.Leg.{count_at}
-use Rattle.dataflow_model.specs.AbstractTask.{AbstractTask}
+use Rattle.stream_model.specs.Watermarks.{IsOrderly, IsCut, empty_cut}
+use Rattle.stream_model.specs.PlanRows.{plan_rows, snapshot}
+use Rattle.stream_model.proofs.Facts.{nothing_at_first}
+use Rattle.dataflow_model.specs.Leg.Until.{ToEnd, TillAsked}
+use Rattle.dataflow_model.specs.State.{State}
 use Rattle.dataflow_model.specs.Start.{IsLegStart}
 use Rattle.dataflow_model.specs.Steps.{IsDone}
+use Rattle.dataflow_model.specs.History.{History, IsComplete}
 use Rattle.dataflow_laws.specs.World as flow
-use Rattle.dataflow_laws.specs.Legs.{HaveNothing}
+use Rattle.dataflow_laws.specs.Legs.{AreAt, HaveNothing}
+use Rattle.dataflow_laws.specs.Inputs.{due_between}
+use Rattle.dataflow_laws.specs.Compiled.{cut_to, layout_to}
 use Rattle.dataflow_laws.specs.Progress.{IsFinished}
-use Rattle.dataflow_laws.proofs.Facts.{compiled_leg_delivers_all}
-use Rattle.layout_rules.specs.Stages.{task_count}
+use Rattle.dataflow_laws.proofs.Facts.{compiled_leg_delivers, compiled_leg_delivers_all}
 use Rattle.layout_rules.specs.Rules.{IsCompiled}
 use Rattle.layout_rules.specs.Scale.{ScaleData, IsScale}
-use Rattle.leg_lists.specs.declared.stop.Stop.TheVariants.{Never}
-use Rattle.plan_compiler.specs.LayoutData.{LayoutData}
-use Rattle.input_flow.specs.InputEntries.{input_of}
-use Rattle.task_setups.specs.declared.leg.Leg.{Leg}
-use Rattle.task_setups.specs.Legs.{IsLayoutOf, leg_over}
-use Rattle.leg_tasks.specs.Beginning.{first_tasks}
-use Rattle.core_steps.specs.Given.{GivenData, layout_in, opening_by, start_in}
-use Rattle.core_steps.specs.Beginning.{AreNewTasks}
-use Rattle.core_steps.specs.Laws.{IsLegGiven}
+use Rattle.leg_lists.specs.declared.stop.Stop.{Stop}
+use Rattle.leg_lists.specs.declared.stop.Stop.TheVariants.{Never, At}
+use Rattle.leg_lists.specs.Stops.{until_of}
+use Rattle.plan_compiler.specs.LayoutData.{LayoutData, IsLayoutOf}
+use Rattle.input_flow.specs.InputEntries.{input_of, counts_at}
+use Rattle.input_flow.proofs.Facts.{full_is_cut, empty_counts}
+use Rattle.redistribute.specs.StartData.{StartData, offsets_of}
+use Rattle.redistribute.specs.Begins.{IsStartIn, IsFromNothing, HasSnapshot}
+use Rattle.redistribute.specs.Stopping.{CanStop}
+use Rattle.redistribute.proofs.Facts.{tasks_have_snapshot}
+use Rattle.core_steps.specs.Given.{GivenData, layout_in, start_in}
 use Rattle.core_steps.specs.World.{WorldData, world_in, IsWorld}
-use Rattle.core_steps.proofs.Facts.{every_leg_begins}
+use Rattle.core_steps.specs.Finishing.{rows_in}
 use Rattle.leg_runs.proofs.Falling.{ended}
-use Rattle.leg_runs.proofs.Opening.{first_is_new}
 
--- a leg from nothing to the end
-abbrev pub whole_leg : Leg
-whole_leg = record { number = 0; stop = Never }
+-- where a leg that can stop so comes to is a cut of the input
+end_is_cut : (i : InputData) (s : StartData) (stop : Stop) → CanStop i.sources (offsets_of s) stop → IsCut i.sources (cut_to i (until_of stop))
+end_is_cut i s Never can = full_is_cut i.sources
+end_is_cut i s (At cut) can = can.0
 
-abbrev pub fresh : PlanData → InputData → LayoutData → GivenData
-fresh p i l = record { plan = p; input = i; layout = l; leg = whole_leg; offsets = []; windows = [] }
+never_asked : (stop : Stop) → until_of stop ≡ TillAsked → ⊥
+never_asked Never e = cc
+never_asked (At cut) e = cc
 
-is_given : (p : PlanData) (i : InputData) (l : LayoutData) → IsPlan p → IsLayoutOf p l → BelongsTo p i → IsLegGiven (fresh p i l)
-is_given p i l ip laid belongs = record {
-  plan = ip;
-  laid_out = laid;
-  belongs = belongs;
-  route = record { rising = λ x q. omega arith; within = λ x q. omega arith; asked = λ _. refl };
-  within = tt;
-  windows = λ n q _. get-empty pane_cmp q;
-}
+none_there : {X : Type 0} (b : Bool) (x y : Option X) → x ≡ None → y ≡ (if b then x else None) → y ≡ None
+none_there true x y none e = e ∙ none
+none_there false x y none e = e
 
-pub tasks_begin : (p : PlanData) (i : InputData) (l : LayoutData) → IsPlan p → IsLayoutOf p l → BelongsTo p i
-    → IsLegStart p (layout_in (fresh p i l)) (start_in (fresh p i l)) × AreNewTasks (fresh p i l) (first_tasks p i (leg_over whole_leg i) l.stages)
-tasks_begin p i l ip laid belongs =
-    let g = fresh p i l in
-    let begins = every_leg_begins g (is_given p i l ip laid belongs) in
-    (begins.0, subst (AreNewTasks g) (sym (λ j. map (λ t. first_is_new g t refl refl j) (range_with_len 0 (task_count l.stages)))) begins.1)
+-- at the beginning nothing is in the windows
+none_at_first : (p : PlanData) (i : InputData) (s : StartData) → IsFromNothing i s → HasSnapshot p i s
+none_at_first p i s nothing q = ap (λ cut. snapshot p i.sources cut q) nothing.offsets ∙ nothing_at_first p i.sources q
 
-none_read : (r : Role) (k : AbstractTask) (q : ℕ) → q < k.inputs → slice_index (opening_by r k [] empty).offsets q ≡ 0
-none_read Source k q l = get_or-map-range_with_len (λ (x : ℕ). count_at [] k.source (k.partition x)) 0 k.inputs q q 0 l (omega arith)
-none_read Chain k q l = refl
-none_read Window k q l = refl
-none_read Sink k q l = refl
+module _ (p : PlanData) (c : ScaleData) (i : InputData) (s : StartData) (l : LayoutData) (ip : IsPlan p) (sc : IsScale p c) (is : IsCompiled p c l.stages) (laid : IsLayoutOf p l)
+    (input : IsInput i) (orderly : IsOrderly i.time i.sources) (belongs : BelongsTo p i) (starts : IsStartIn i s) where
+  abbrev pub given_to : Stop → GivenData
+  given_to stop = record { plan = p; input = i; start = s; layout = l; stop = stop }
 
-none_kept : (r : Role) (k : AbstractTask) (q : Pane) → get (opening_by r k [] empty).windows q ≡ None
-none_kept Source k q = get-empty pane_cmp q
-none_kept Chain k q = get-empty pane_cmp q
-none_kept Window k q = get-empty pane_cmp q
-none_kept Sink k q = get-empty pane_cmp q
+  module _ (stop : Stop) (w : WorldData) (world : IsWorld w) (fine : w.has_failed ≡ false) (given : w.given ≡ given_to stop) (finished : IsFinished (layout_in w.given) (world_in w)) where
+    abbrev g : GivenData
+    g = given_to stop
 
-have_nothing : (p : PlanData) (i : InputData) (l : LayoutData) → HaveNothing (input_of p i) (layout_in (fresh p i l)) (start_in (fresh p i l))
-have_nothing p i l = let k = λ (t : ℕ). (layout_in (fresh p i l)).task t in record {
-  offsets = λ t n b role kl. none_read (k t).role (k t) n kl;
-  windows = λ u lo hi q. none_kept (k u).role (k u) q;
-}
+    opens : IsLegStart p (layout_in g) (start_in g)
+    opens = subst (λ (x : GivenData). IsLegStart x.plan (layout_in x) (start_in x)) given world.sound.start
 
-pub delivers : (p : PlanData) (c : ScaleData) (i : InputData) (l : LayoutData) (w : WorldData) → IsPlan p → IsScale p c → IsCompiled p c l.stages → IsInput i → IsOrderly i.time i.sources → BelongsTo p i
-    → IsWorld w → w.has_failed ≡ false → w.given ≡ fresh p i l → IsFinished (layout_in w.given) (world_in w) → AreRowsOf (plan_rows p i.sources) ((world_in w).tasks (layout_in w.given).sink).rows
-delivers p c i l w ip sc is input orderly belongs world fine given finished =
-    let g = fresh p i l in
-    let start = subst (λ (x : GivenData). IsLegStart x.plan (layout_in x) (start_in x)) given world.sound.start in
-    let end : flow.IsEnd p (layout_in g) (start_in g) (world_in w) = subst (λ (x : GivenData). flow.IsEnd x.plan (layout_in x) (start_in x) (world_in w)) given (ended w world fine) in
-    let all : IsFinished (layout_in g) (world_in w) = subst (λ (x : GivenData). IsFinished (layout_in x) (world_in w)) given finished in
-    let rows = compiled_leg_delivers_all p c i l.stages (start_in g) ip sc is input orderly belongs start (have_nothing p i l) end.0 (λ t m. subst (λ f. IsDone (f t)) (sym end.1.tasks) (all t m)) in
-    subst (λ (x : GivenData). AreRowsOf (plan_rows p i.sources) ((world_in w).tasks (layout_in x).sink).rows) (sym given) (subst (λ f. AreRowsOf (plan_rows p i.sources) (f (layout_in g).sink).rows) end.1.tasks rows)
+    end : flow.IsEnd p (layout_in g) (start_in g) (world_in w)
+    end = subst (λ (x : GivenData). flow.IsEnd x.plan (layout_in x) (start_in x) (world_in w)) given (ended w world fine)
+
+    done : IsComplete end.0
+    done t m = subst (λ (f : ℕ → State). IsDone (f t)) (sym end.1.tasks) ((subst (λ (x : GivenData). IsFinished (layout_in x) (world_in w)) given finished) t m)
+
+    pub delivers : CanStop i.sources (offsets_of s) stop → HasSnapshot p i s → AreRowsOf (due_between p i.sources (offsets_of s) (cut_to i (until_of stop))) (rows_in w)
+    delivers can has =
+        let due = due_between p i.sources (offsets_of s) (cut_to i (until_of stop)) in
+        let rows = compiled_leg_delivers p c i s.number (offsets_of s) (until_of stop) l.stages (start_in g) ip sc is input orderly belongs starts.cut (end_is_cut i s stop can) (never_asked stop) opens (tasks_have_snapshot p l i s stop ip laid belongs starts has).0 end.0 done in
+        subst (λ (x : GivenData). AreRowsOf due ((world_in w).tasks (layout_in x).sink).rows) (sym given) (subst (λ (f : ℕ → State). AreRowsOf due (f (layout_in g).sink).rows) end.1.tasks rows.0)
+
+  all_rows : (n : ℕ) → n ≡ 0 → (start : ℕ → State) → let a = layout_to p i n ToEnd l.stages in IsLegStart p a start → HaveNothing (input_of p i) a start → (h : History p a start) → IsComplete h → AreRowsOf (plan_rows p i.sources) (h.end a.sink).rows
+  all_rows n e =
+      subst (λ m. (start : ℕ → State) → let a = layout_to p i m ToEnd l.stages in IsLegStart p a start → HaveNothing (input_of p i) a start → (h : History p a start) → IsComplete h → AreRowsOf (plan_rows p i.sources) (h.end a.sink).rows) (sym e)
+      (λ start opens none h done. compiled_leg_delivers_all p c i l.stages start ip sc is input orderly belongs opens none h done)
+
+  pub delivers_all : (w : WorldData) → IsWorld w → w.has_failed ≡ false → w.given ≡ given_to Never → IsFinished (layout_in w.given) (world_in w) → IsFromNothing i s → AreRowsOf (plan_rows p i.sources) (rows_in w)
+  delivers_all w world fine given finished nothing =
+      let g = given_to Never in
+      let has = none_at_first p i s nothing in
+      let cut = (tasks_have_snapshot p l i s Never ip laid belongs starts has).0 in
+      let at : AreAt (input_of p i) (layout_in g) (start_in g) (λ q. 0) = subst (AreAt (input_of p i) (layout_in g) (start_in g)) (ap (counts_at p) nothing.offsets ∙ empty_counts p i) cut.offsets in
+      let none : HaveNothing (input_of p i) (layout_in g) (start_in g) = record { offsets = at; windows = λ u lo hi q. none_there ((layout_in g).owner q.key == u) (snapshot p i.sources (offsets_of s) q) _ (has q) (cut.windows u lo hi q) } in
+      let h = end Never w world fine given finished in
+      let rows = all_rows s.number nothing.number (start_in g) (opens Never w world fine given finished) none h.0 (done Never w world fine given finished) in
+      subst (λ (x : GivenData). AreRowsOf (plan_rows p i.sources) ((world_in w).tasks (layout_in x).sink).rows) (sym given) (subst (λ (f : ℕ → State). AreRowsOf (plan_rows p i.sources) (f (layout_in g).sink).rows) h.1.tasks rows)

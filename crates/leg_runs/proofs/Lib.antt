@@ -1,4 +1,3 @@
 mod Orders
 mod Falling
-mod Opening
 mod Delivered

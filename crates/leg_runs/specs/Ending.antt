@@ -1,11 +1,27 @@
 -- What a leg answers.
+use Rattle.std.specs.Prelude.{◌≡◌, List}
+use Rattle.plan_model.specs.declared.spec.Row.{Row}
 use Rattle.plan_model.specs.PlanData.{PlanData}
 use Rattle.plan_model.specs.Rows.{AreRowsOf}
 use Rattle.stream_model.specs.InputData.{InputData}
 use Rattle.stream_model.specs.PlanRows.{plan_rows}
-use Rattle.leg_runs.specs.declared.leg.Finish.{Finish}
-use Rattle.leg_runs.specs.declared.leg.Finish.TheVariants.{Ended}
+use Rattle.dataflow_laws.specs.Inputs.{due_between}
+use Rattle.dataflow_laws.specs.Compiled.{cut_to}
+use Rattle.leg_lists.specs.declared.stop.Stop.{Stop}
+use Rattle.leg_lists.specs.Stops.{until_of}
+use Rattle.redistribute.specs.StartData.{StartData, offsets_of}
+use Rattle.redistribute.specs.Begins.{HasSnapshot}
+use Rattle.core_steps.specs.declared.finish.Finish.{Finish}
+use Rattle.core_steps.specs.declared.finish.Finish.TheVariants.{Ended, Stopped}
+use Rattle.core_steps.specs.Finishing.{finish_of}
+
+-- a leg that was to stop so ended so, and where its start had the snapshot of its cut, it has delivered the rows that became due, each once, and nothing else
+pub record IsEndOf (p : PlanData) (i : InputData) (s : StartData) (stop : Stop) (finish : Finish) : Type 0 where
+  pub rows : List Row
+  pub is : finish ≡ finish_of stop rows
+  pub delivered : HasSnapshot p i s → AreRowsOf (due_between p i.sources (offsets_of s) (cut_to i (until_of stop))) rows
 
 -- it ended, with all rows of the plan on the input, each once, and nothing else
 abbrev pub IsWholeRun : PlanData → InputData → Finish → Type 0
 IsWholeRun p i (Ended rows) = AreRowsOf (plan_rows p i.sources) rows
+IsWholeRun p i (Stopped rows) = ⊥

@@ -1,33 +1,75 @@
-//! A leg from nothing to the end of its input.
+//! A leg of a job, run in one thread.
 
-ghost use Rattle.std.specs.Prelude.{◌≡◌, MatchResult};
+ghost use Rattle.std.specs.Prelude.{◌≡◌, IfErr, IfOk, MatchResult, OnOk};
+ghost use Rattle.plan_model.specs.Rows.{AreRowsOf};
 ghost use Rattle.stream_model.specs.InputData.{BelongsTo};
+ghost use Rattle.stream_model.specs.PlanRows.{plan_rows};
 ghost use Rattle.layout_rules.specs.Scale.{IsScale};
 ghost use Rattle.leg_lists.specs.declared.fault.LegFault.TheVariants as fault;
-ghost use Rattle.leg_runs.specs.Ending.{IsWholeRun};
+ghost use Rattle.leg_lists.specs.declared.stop.Stop.TheVariants.{Never};
+ghost use Rattle.redistribute.specs.StartData.{offsets_of};
+ghost use Rattle.redistribute.specs.Begins.{IsStartIn, IsFromNothing};
+ghost use Rattle.redistribute.specs.Stopping.{CanStop, IsRefusal};
+ghost use Rattle.leg_runs.specs.Ending.{IsEndOf, IsWholeRun};
 
 use crate::running::run;
-use core_steps::{Given, World};
+use core_steps::{Finish, Given, World};
 use leg_lists::{LegFault, Stop};
-use leg_tasks::tasks;
 use logical_plan::Plan;
 use plain_data::Items;
 use plan_compiler::{Scale, compile};
 use plan_model::Row;
+use redistribute::Start;
 use std::alloc::Global;
 use stream_input::Input;
-use task_setups::Leg;
 use window_state::HashKeys;
 
-/// How a leg ended.
-#[derive(Debug, Drop)]
-pub enum Finish {
-    /// It came to the end of its input, and delivered these rows, in the order in which they came.
-    Ended(Items<Row>),
+/// Runs a leg that begins at a start, on the layout of the plan at a scale, to the end of its input or to the cut where it
+/// stops: steps are made until there is none. The panes of the windows are hashed by the keys.
+///
+/// The input and the scale were read by the plan, and the start is one of the input.
+///
+/// # Errors
+///
+/// `StopRange` where a leg from the start cannot stop so, else `Memory` where memory runs out.
+pub fn run_leg_by(
+    alloc: Global,
+    keys: HashKeys,
+    plan: &Plan,
+    input: &Input,
+    start: &Start,
+    scale: &Scale,
+    stop: Stop,
+) -> Result<Finish, LegFault>
+    requires belongs { BelongsTo plan.now input.now }
+    requires scale { IsScale plan.now scale.now }
+    requires starts { IsStartIn input.now start.now }
+    ensures stops { OnOk result (CanStop input.now.sources (offsets_of start.now) stop) }
+    ensures ends { IfOk result (λ finish. IsEndOf plan.now input.now start.now stop finish) }
+    ensures whole { IfOk result (λ finish. IsFromNothing input.now start.now → stop ≡ Never → IsWholeRun plan.now input.now finish) }
+    ensures refused { IfErr result (λ fault. IsRefusal input.now.sources (offsets_of start.now) stop fault) }
+{
+    start.check_stop(input, &stop)?;
+    let layout = compile(alloc, plan, scale)?;
+    let given = Given {
+        plan,
+        input,
+        start,
+        layout: &layout,
+    };
+    let _columns = plan.columns();
+    let _sources = input.sources();
+    let mut world = World::new(alloc, keys, given, stop)?;
+    run(alloc, &mut world, &layout)?;
+    let _failed = world.has_failed();
+    match world.finish() {
+        Some(finish) => Ok(finish),
+        None => unreachable!(),
+    }
 }
 
-/// Runs a leg that starts from nothing to the end of an input, on the layout of the plan at a scale: each time the first
-/// step is made that there is. The panes of the windows are hashed by the keys.
+/// The rows of a leg that starts from nothing and runs to the end of an input, in the order in which they came: those of a
+/// whole job, without a savepoint. The panes of the windows are hashed by the keys.
 ///
 /// The input and the scale were read by the plan.
 ///
@@ -40,29 +82,14 @@ pub fn run_leg(
     plan: &Plan,
     input: &Input,
     scale: &Scale,
-) -> Result<Finish, LegFault>
+) -> Result<Items<Row>, LegFault>
     requires belongs { BelongsTo plan.now input.now }
     requires scale { IsScale plan.now scale.now }
-    ensures { MatchResult result (λ finish. IsWholeRun plan.now input.now finish) (λ cause. cause ≡ fault.Memory) }
+    ensures { MatchResult result (λ rows. AreRowsOf (plan_rows plan.now input.now.sources) rows) (λ cause. cause ≡ fault.Memory) }
 {
-    let layout = compile(alloc, plan, scale)?;
-    let leg = Leg {
-        number: 0,
-        stop: Stop::Never,
-    };
-    let tasks = tasks(alloc, keys, plan, input, &layout, &leg)?;
-    let given = Given {
-        plan,
-        input,
-        layout: &layout,
-        leg: &leg,
-        offsets: &[],
-        windows: &[],
-    };
-    let _columns = plan.columns();
-    let _sources = input.sources();
-    let mut world = World::new(alloc, given, tasks)?;
-    run(&mut world, &layout)?;
-    let _failed = world.has_failed();
-    Ok(Finish::Ended(Items::from_vec(world.into_rows())))
+    let start = Start::empty(alloc, plan, input)?;
+    match run_leg_by(alloc, keys, plan, input, &start, scale, Stop::Never)? {
+        Finish::Ended(rows) => Ok(rows),
+        Finish::Stopped(_) => unreachable!(),
+    }
 }

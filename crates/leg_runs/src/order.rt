@@ -48,7 +48,7 @@ fn take_step(world: &World, layout: &Layout, task: u32) -> Option<Step>
 }
 
 /// The step if it could be made.
-fn enabled(world: &World, step: Step) -> Option<Step>
+pub(crate) fn enabled(world: &World, step: Step) -> Option<Step>
     requires going { world.now.has_failed ≡ false }
     ensures { MatchOption result (CanMake world.now step → ⊥) (λ it. CanMake world.now it) }
 {
@@ -60,7 +60,7 @@ fn enabled(world: &World, step: Step) -> Option<Step>
 }
 
 /// The first step that a task could make.
-fn task_step(world: &World, layout: &Layout, task: u32) -> Option<Step>
+pub(crate) fn task_step(world: &World, layout: &Layout, task: u32) -> Option<Step>
     requires same { layout.now ≡ world.now.given.layout }
     requires laid_out { IsLayoutOf world.now.given.plan layout.now }
     requires going { world.now.has_failed ≡ false }

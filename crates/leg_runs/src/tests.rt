@@ -1,4 +1,4 @@
-use crate::{Finish, run_leg};
+use crate::run_leg;
 use logical_plan::Plan;
 use plain_data::Items;
 use plan_compiler::Scale;
@@ -61,8 +61,7 @@ fn rows_of<R: AllocGlobal + Abort + RandomSource>(
     let scale = Scale::read(rt.alloc(), &plan, scale.as_bytes())?;
     let input = Input::read(rt.alloc(), &plan, input.as_bytes())?;
     let keys = HashKeys::random(rt)?;
-    let Finish::Ended(rows) = run_leg(rt.alloc(), keys, &plan, &input, &scale)?;
-    Ok(rows)
+    Ok(run_leg(rt.alloc(), keys, &plan, &input, &scale)?)
 }
 
 fn has_row(rows: &[Row], want: &Want) -> bool {

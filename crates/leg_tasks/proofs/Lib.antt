@@ -1,5 +1,2 @@
-mod Partitions
 mod Suiting
 mod Starting
-mod Delivering
-pub mod Facts

@@ -1,19 +1,26 @@
 //! The tasks of a leg, made.
 
-ghost use Rattle.std.specs.Prelude.{◌≡◌, ◌<◌, IfOk};
+ghost use Rattle.std.specs.Prelude.{◌≡◌, ◌<◌, [], IfErr, IfOk, OnOk};
+ghost use Rattle.layout_rules.specs.Layouts.{partition_counts};
 ghost use Rattle.layout_rules.specs.Stages as rule;
 ghost use Rattle.stream_model.specs.InputData.{BelongsTo};
-ghost use Rattle.task_setups.specs.Beginnings.{Suits};
-ghost use Rattle.task_setups.specs.Laws.{IsWithin};
+ghost use Rattle.dataflow_laws.specs.Compiled.{layout_to};
 ghost use Rattle.leg_lists.specs.Stops.{until_of};
+ghost use Rattle.redistribute.specs.StartData.{offsets_of};
+ghost use Rattle.redistribute.specs.Begins.{IsStartIn};
+ghost use Rattle.redistribute.specs.Parts.{IsPartFor};
+ghost use Rattle.redistribute.specs.Stopping.{CanStop, IsRefusal};
+ghost use Rattle.task_setups.specs.Beginnings.{Suits};
 ghost use Rattle.task_setups.specs.Legs.{IsLayoutOf, leg_over};
 ghost use Rattle.task_setups.specs.Setups.{setup_of as setup_said};
 ghost use Rattle.task_steps.specs.Beginning.{begun};
-ghost use Rattle.leg_tasks.specs.Beginning as first;
+ghost use Rattle.leg_tasks.specs.Beginning as begins;
 
-use crate::opening::{Opening, first_opening};
+use crate::opening::{Opening, opening_of};
+use leg_lists::LegFault;
 use logical_plan::Plan;
 use plan_compiler::Layout;
+use redistribute::{Start, TaskStart, spread};
 use std::alloc::{AllocError, Global};
 use stream_input::Input;
 use task_setups::{Leg, setup_of};
@@ -54,8 +61,8 @@ pub fn begin(
     Task::new(alloc, setup, offsets, marks.as_slice(), window)
 }
 
-/// A task of a leg that starts from nothing.
-fn first_task(
+/// A task of a leg that begins with a part of a start.
+fn task_from(
     alloc: Global,
     keys: HashKeys,
     plan: &Plan,
@@ -63,45 +70,71 @@ fn first_task(
     layout: &Layout,
     leg: &Leg,
     task: u32,
+    start: &TaskStart,
 ) -> Result<Task, AllocError>
     requires laid_out { IsLayoutOf plan.now layout.now }
-    requires belongs { BelongsTo plan.now input.now }
     requires task { task < rule.task_count layout.now.stages }
     requires number { leg.now.number < u64.MAX }
-    ensures { IfOk result (λ made. made ≡ first.first_task plan.now input.now (leg_over leg.now input.now) layout.now.stages task) }
+    requires part { IsPartFor (partition_counts plan.now) layout.now.stages task start.now }
+    ensures { IfOk result (λ made. made ≡ begins.begun_with plan.now (leg_over leg.now input.now) layout.now.stages task start.now) }
 {
-    let opening = first_opening(alloc, keys, plan, input, layout, task)?;
+    let inputs = layout.inputs_of(task).len();
+    let opening = opening_of(alloc, keys, plan, inputs, start)?;
     begin(alloc, plan, input, layout, leg, task, opening)
 }
 
-/// The tasks of a leg that starts from nothing, in order: each partition of a source before its first entry, and nothing in
-/// the windows. The panes of the windows are hashed by the keys.
+/// The tasks of a leg, in order, each with its part of a start.
+fn tasks_from(
+    alloc: Global,
+    keys: HashKeys,
+    plan: &Plan,
+    input: &Input,
+    start: &Start,
+    layout: &Layout,
+    leg: &Leg,
+) -> Result<Vec<Task>, AllocError>
+    requires laid_out { IsLayoutOf plan.now layout.now }
+    requires number { leg.now.number < u64.MAX }
+    requires bare { start.now.groups ≡ [] }
+    ensures { IfOk result (λ made. made.items ≡ begins.new_tasks plan.now start.now (leg_over leg.now input.now) layout.now.stages) }
+{
+    let parts = spread(alloc, plan, start, layout)?;
+    let mut tasks = Vec::new(alloc);
+    for task in 0..layout.task_count() {
+        let part = &parts[task as usize];
+        tasks.push(task_from(alloc, keys, plan, input, layout, leg, task, part)?)?;
+    }
+    Ok(tasks)
+}
+
+/// The tasks of a leg that begins at a start, in order: each source where the start has its partitions, and nothing in the
+/// windows. The panes of the windows are hashed by the keys.
 ///
-/// The layout is one of the plan, the input was read by it, the savepoint that follows has a number, and where the leg goes
-/// to a cut, the input has so many entries.
+/// The layout is one of the plan, the input was read by it, the start is one of the input, and the leg goes on from the
+/// start's savepoint.
 ///
 /// # Errors
 ///
-/// Only where memory runs out.
+/// `StopRange` where a leg from the start cannot stop so, else `Memory` where memory runs out.
 pub fn tasks(
     alloc: Global,
     keys: HashKeys,
     plan: &Plan,
     input: &Input,
+    start: &Start,
     layout: &Layout,
     leg: &Leg,
-) -> Result<Vec<Task>, AllocError>
+) -> Result<Vec<Task>, LegFault>
     requires laid_out { IsLayoutOf plan.now layout.now }
     requires belongs { BelongsTo plan.now input.now }
-    requires number { leg.now.number < u64.MAX }
-    requires within { IsWithin input.now (until_of leg.now.stop) }
-    ensures are { IfOk result (λ made. made.items ≡ first.first_tasks plan.now input.now (leg_over leg.now input.now) layout.now.stages) }
-    ensures begin { IfOk result (λ made. first.BeginLeg plan.now input.now (first.layout_over plan.now input.now leg.now layout.now) made.items) }
+    requires starts { IsStartIn input.now start.now }
+    requires number { leg.now.number ≡ start.now.number }
+    ensures stops { OnOk result (CanStop input.now.sources (offsets_of start.now) leg.now.stop) }
+    ensures are { IfOk result (λ made. made.items ≡ begins.new_tasks plan.now start.now (leg_over leg.now input.now) layout.now.stages) }
+    ensures begin { IfOk result (λ made. begins.BeginLeg plan.now input.now start.now layout.now.stages (layout_to plan.now input.now leg.now.number (until_of leg.now.stop) layout.now.stages) made.items) }
+    ensures refused { IfErr result (λ fault. IsRefusal input.now.sources (offsets_of start.now) leg.now.stop fault) }
 {
     let _columns = plan.columns();
-    let mut tasks = Vec::new(alloc);
-    for task in 0..layout.task_count() {
-        tasks.push(first_task(alloc, keys, plan, input, layout, leg, task)?)?;
-    }
-    Ok(tasks)
+    start.check_stop(input, &leg.stop)?;
+    Ok(tasks_from(alloc, keys, plan, input, start, layout, leg)?)
 }

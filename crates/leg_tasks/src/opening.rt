@@ -1,19 +1,16 @@
 //! What a task begins with.
 
-ghost use Rattle.std.specs.Prelude.{◌≡◌, ◌<◌, [], length, map, IfOk, slice_index_or};
+ghost use Rattle.std.specs.Prelude.{◌≡◌, map, replicate, Option, None, [], IfOk};
+ghost use Rattle.plain_data.specs.Times.{lowest};
 ghost use Rattle.std.specs.List.{All};
-ghost use Rattle.layout_rules.specs.Stages as rule;
-ghost use Rattle.stream_model.specs.InputData.{BelongsTo, partition_at};
-ghost use Rattle.stream_model.specs.Watermarks.{partition_watermark};
-ghost use Rattle.task_setups.specs.Legs.{IsLayoutOf};
-ghost use Rattle.leg_tasks.specs.Beginning as first;
+ghost use Rattle.window_state.specs.State.{StateData};
+ghost use Rattle.window_state.specs.Parts.{IsPartOf};
+ghost use Rattle.leg_tasks.specs.Beginning as begins;
 
-use dataflow_model::Role;
 use logical_plan::Plan;
-use plan_compiler::Layout;
+use redistribute::{PartitionStart, TaskStart};
 use std::alloc::{AllocError, Global};
-use stream_input::Input;
-use window_state::{HashKeys, WindowState};
+use window_state::{HashKeys, Part, WindowState};
 
 /// What a task begins with, beside what it is told.
 #[derive(Drop)]
@@ -26,88 +23,91 @@ pub struct Opening {
     pub window: Option<WindowState>,
 }
 
-/// The watermark of each of some partitions of a source before its first entry.
-fn partition_marks(
-    alloc: Global,
-    input: &Input,
-    source: u32,
-    partitions: &[u32],
-) -> Result<Vec<i64>, AllocError>
-    requires { All (λ k. k < length (slice_index_or input.now.sources source [])) partitions.now }
-    ensures { IfOk result (λ marks. marks.items ≡ map (λ k. partition_watermark (partition_at input.now.sources source k) 0) partitions.now) }
+fn offsets_of(alloc: Global, partitions: &[PartitionStart]) -> Result<Vec<u64>, AllocError>
+    ensures { IfOk result (λ offsets. offsets.items ≡ map (λ b. b.offset) partitions.now) }
+{
+    let mut offsets = Vec::new(alloc);
+    for partition in partitions {
+        offsets.push(partition.offset)?;
+    }
+    Ok(offsets)
+}
+
+fn marks_of(alloc: Global, partitions: &[PartitionStart]) -> Result<Vec<i64>, AllocError>
+    ensures { IfOk result (λ marks. marks.items ≡ map (λ b. b.watermark) partitions.now) }
 {
     let mut marks = Vec::new(alloc);
     for partition in partitions {
-        marks.push(input.watermark_at(source, *partition, 0))?;
+        marks.push(partition.watermark)?;
     }
     Ok(marks)
 }
 
-/// The watermarks that a task begins with: of a source those of its partitions, of any other the least for each input.
-fn first_marks(
-    alloc: Global,
-    plan: &Plan,
-    input: &Input,
-    layout: &Layout,
-    task: u32,
-) -> Result<Vec<i64>, AllocError>
-    requires laid_out { IsLayoutOf plan.now layout.now }
-    requires belongs { BelongsTo plan.now input.now }
-    requires task { task < rule.task_count layout.now.stages }
-    ensures { IfOk result (λ marks. marks.items ≡ first.first_marks plan.now input.now layout.now.stages task) }
+/// What a task begins with that has partitions.
+fn source_opening(alloc: Global, partitions: &[PartitionStart]) -> Result<Opening, AllocError>
+    ensures offsets { IfOk result (λ opening. opening.offsets.items ≡ map (λ b. b.offset) partitions.now) }
+    ensures marks { IfOk result (λ opening. opening.marks.items ≡ map (λ b. b.watermark) partitions.now) }
+    ensures window { IfOk result (λ opening. opening.window ≡ None) }
 {
-    match layout.stage(task).source() {
-        Some(source) => partition_marks(alloc, input, source, layout.partitions_of(task)),
-        None => Ok(vec![in alloc; i64::MIN; layout.inputs_of(task).len()]?),
-    }
+    Ok(Opening {
+        offsets: offsets_of(alloc, partitions)?,
+        marks: marks_of(alloc, partitions)?,
+        window: None,
+    })
 }
 
-/// The state of the plan's window operator that no record has reached.
-fn empty_window(alloc: Global, keys: HashKeys, plan: &Plan) -> Result<WindowState, AllocError>
-    ensures { IfOk result (λ state. state ≡ first.empty_window plan.now) }
+/// What a task begins with that has so many inputs: their least watermarks, and its windows.
+fn other_opening(
+    alloc: Global,
+    inputs: usize,
+    window: Option<WindowState>,
+) -> Result<Opening, AllocError>
+    ensures offsets { IfOk result (λ opening. opening.offsets.items ≡ []) }
+    ensures marks { IfOk result (λ opening. opening.marks.items ≡ replicate inputs lowest) }
+    ensures window { IfOk result (λ opening. opening.window ≡ window) }
 {
-    match WindowState::new(alloc, keys, plan.window()) {
+    Ok(Opening {
+        offsets: Vec::new(alloc),
+        marks: vec![in alloc; i64::MIN; inputs]?,
+        window,
+    })
+}
+
+/// The state of the plan's window operator with these parts in its windows.
+fn window_with(
+    alloc: Global,
+    keys: HashKeys,
+    plan: &Plan,
+    parts: &[Part],
+) -> Result<WindowState, AllocError>
+    requires { All (IsPartOf plan.now.window) parts.now }
+    ensures { IfOk result (λ state. state ≡ begins.window_with plan.now parts.now) }
+{
+    match WindowState::from_parts(alloc, keys, plan.window(), parts) {
         Ok(state) => Ok(state),
         Err(_) => Err(AllocError),
     }
 }
 
-/// What stands in the windows of a task that begins: nothing, and no windows where it is not the window's.
-fn first_window(
+/// What a task of so many inputs begins with that has this part of a start.
+pub(crate) fn opening_of(
     alloc: Global,
     keys: HashKeys,
     plan: &Plan,
-    layout: &Layout,
-    task: u32,
-) -> Result<Option<WindowState>, AllocError>
-    requires { task < rule.task_count layout.now.stages }
-    ensures { IfOk result (λ window. window ≡ first.first_window plan.now layout.now.stages task) }
-{
-    match layout.role(task) {
-        Role::Window => Ok(Some(empty_window(alloc, keys, plan)?)),
-        Role::Source | Role::Chain | Role::Sink => Ok(None),
-    }
-}
-
-/// What a task begins with in a leg that starts from nothing.
-pub(crate) fn first_opening(
-    alloc: Global,
-    keys: HashKeys,
-    plan: &Plan,
-    input: &Input,
-    layout: &Layout,
-    task: u32,
+    inputs: usize,
+    start: &TaskStart,
 ) -> Result<Opening, AllocError>
-    requires laid_out { IsLayoutOf plan.now layout.now }
-    requires belongs { BelongsTo plan.now input.now }
-    requires task { task < rule.task_count layout.now.stages }
-    ensures offsets { IfOk result (λ opening. opening.offsets.items ≡ first.first_offsets plan.now layout.now.stages task) }
-    ensures marks { IfOk result (λ opening. opening.marks.items ≡ first.first_marks plan.now input.now layout.now.stages task) }
-    ensures window { IfOk result (λ opening. opening.window ≡ first.first_window plan.now layout.now.stages task) }
+    requires { All (IsPartOf plan.now.window) (begins.panes_in start.now) }
+    ensures offsets { IfOk result (λ opening. opening.offsets.items ≡ begins.offsets_in start.now) }
+    ensures marks { IfOk result (λ opening. opening.marks.items ≡ begins.marks_in inputs start.now) }
+    ensures window { IfOk result (λ opening. opening.window ≡ begins.window_in plan.now start.now) }
 {
-    Ok(Opening {
-        offsets: vec![in alloc; 0; layout.partitions_of(task).len()]?,
-        marks: first_marks(alloc, plan, input, layout, task)?,
-        window: first_window(alloc, keys, plan, layout, task)?,
-    })
+    match start {
+        TaskStart::Source(partitions) => source_opening(alloc, partitions.as_slice()),
+        TaskStart::Chain | TaskStart::Sink => other_opening(alloc, inputs, None),
+        TaskStart::Window(parts) => {
+            let window = window_with(alloc, keys, plan, parts.as_slice())?;
+            other_opening(alloc, inputs, Some(window))
+        }
+    }
 }

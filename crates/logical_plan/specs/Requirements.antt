@@ -4,7 +4,8 @@ use Rattle.std.specs.List.{list_all}
 use Rattle.json_parts.specs.Answer.{otherwise}
 use Rattle.json_parts.specs.Tests.{is_within, is_place}
 use Rattle.key_groups.specs.declared.limits.TheConstants.{MOST_GROUPS}
-use Rattle.plan_model.specs.declared.limits.TheConstants.{MOST_COLUMNS, MOST_SOURCES, MOST_PARTITIONS, MOST_CONDITIONS, LONGEST_WINDOW, MOST_WINDOWS, MOST_AGGREGATES}
+use Rattle.plain_data.specs.declared.limits.TheConstants.{MOST_COLUMNS}
+use Rattle.plan_model.specs.declared.limits.TheConstants.{MOST_SOURCES, MOST_PARTITIONS, MOST_CONDITIONS, LONGEST_WINDOW, MOST_WINDOWS, MOST_AGGREGATES}
 use Rattle.plan_model.specs.Uids.{is_nat_within, is_uid, are_distinct}
 use Rattle.logical_plan.specs.declared.text.AggregateText.{AggregateText}
 use Rattle.logical_plan.specs.declared.text.AggregateText.TheVariants.{Count, Sum, Least, Greatest}

@@ -9,6 +9,8 @@ ghost use Rattle.plan_model.specs.Uids.{is_uid};
 ghost use Rattle.logical_plan.specs.Places.{texts};
 ghost use Rattle.logical_plan.specs.Requirements.{is_aggregate_of, requirements, text_uids};
 ghost use Rattle.logical_plan.specs.Answer.{source_data, filter_data, aggregate_data, having_data, window_data, plan_data};
+ghost use Rattle.plain_data.specs.declared.limits.TheConstants.{MOST_COLUMNS};
+ghost use Rattle.plan_model.specs.declared.limits.TheConstants.{MOST_PARTITIONS, MOST_AGGREGATES};
 
 use crate::plan::Plan;
 use crate::text::{AggregateText, FilterText, HavingText, PlanText, SourceText, WindowText};
@@ -28,7 +30,7 @@ fn narrow(n: i64) -> u32
 
 fn source_spec(source: SourceText) -> SourceSpec
     requires uid { is_uid source.uid ≡ true }
-    requires partitions { is_within (pos 1) (pos 64) source.partitions ≡ true }
+    requires partitions { is_within (pos 1) (pos MOST_PARTITIONS) source.partitions ≡ true }
     ensures { result ≡ source_data source }
 {
     let SourceText { uid, partitions } = source;
@@ -40,7 +42,7 @@ fn source_spec(source: SourceText) -> SourceSpec
 
 fn source_specs(alloc: Global, sources: Items<SourceText>) -> Result<Items<SourceSpec>, AllocError>
     requires uids { list_all (λ s. is_uid s.uid) sources ≡ true }
-    requires partitions { list_all (λ s. is_within (pos 1) (pos 64) s.partitions) sources ≡ true }
+    requires partitions { list_all (λ s. is_within (pos 1) (pos MOST_PARTITIONS) s.partitions) sources ≡ true }
     ensures { IfOk result (λ specs. specs ≡ map source_data sources) }
 {
     let mut specs = Vec::new(alloc);
@@ -52,7 +54,7 @@ fn source_specs(alloc: Global, sources: Items<SourceText>) -> Result<Items<Sourc
 
 fn filter_spec(filter: FilterText, columns: i64) -> FilterSpec
     requires uid { is_uid filter.uid ≡ true }
-    requires columns { is_within (pos 1) (pos 16) columns ≡ true }
+    requires columns { is_within (pos 1) (pos MOST_COLUMNS) columns ≡ true }
     requires column { is_place columns filter.column ≡ true }
     ensures says { result ≡ filter_data filter }
     ensures fits { FitsSigned w64 result.value }
@@ -77,7 +79,7 @@ fn filter_specs(
     columns: i64,
 ) -> Result<Items<FilterSpec>, AllocError>
     requires uids { list_all (λ f. is_uid f.uid) filters ≡ true }
-    requires columns { is_within (pos 1) (pos 16) columns ≡ true }
+    requires columns { is_within (pos 1) (pos MOST_COLUMNS) columns ≡ true }
     requires within { list_all (λ f. is_place columns f.column) filters ≡ true }
     ensures says { IfOk result (λ specs. specs ≡ map filter_data filters) }
     ensures fit { IfOk result (λ specs. All (λ f. FitsSigned w64 f.value) specs) }
@@ -90,7 +92,7 @@ fn filter_specs(
 }
 
 fn aggregate_spec(aggregate: AggregateText, columns: i64) -> Aggregate
-    requires columns { is_within (pos 1) (pos 16) columns ≡ true }
+    requires columns { is_within (pos 1) (pos MOST_COLUMNS) columns ≡ true }
     requires column { is_aggregate_of columns aggregate ≡ true }
     ensures { result ≡ aggregate_data aggregate }
 {
@@ -107,7 +109,7 @@ fn aggregate_specs(
     aggregates: &[AggregateText],
     columns: i64,
 ) -> Result<Items<Aggregate>, AllocError>
-    requires columns { is_within (pos 1) (pos 16) columns ≡ true }
+    requires columns { is_within (pos 1) (pos MOST_COLUMNS) columns ≡ true }
     requires within { list_all (is_aggregate_of columns) aggregates.now ≡ true }
     ensures { IfOk result (λ specs. specs ≡ map aggregate_data aggregates.now) }
 {
@@ -119,7 +121,7 @@ fn aggregate_specs(
 }
 
 fn having_spec(having: HavingText) -> Having
-    requires { is_place (pos 8) having.aggregate ≡ true }
+    requires { is_place (pos MOST_AGGREGATES) having.aggregate ≡ true }
     ensures says { result ≡ having_data having }
     ensures fits { FitsSigned w64 result.value }
 {
@@ -131,7 +133,7 @@ fn having_spec(having: HavingText) -> Having
 }
 
 fn having_specs(alloc: Global, having: &[HavingText]) -> Result<Items<Having>, AllocError>
-    requires { list_all (λ h. is_place (pos 8) h.aggregate) having.now ≡ true }
+    requires { list_all (λ h. is_place (pos MOST_AGGREGATES) h.aggregate) having.now ≡ true }
     ensures says { IfOk result (λ specs. specs ≡ map having_data having.now) }
     ensures fit { IfOk result (λ specs. All (λ h. FitsSigned w64 h.value) specs) }
 {
@@ -150,9 +152,9 @@ fn window_spec(
     key: u32,
 ) -> Result<WindowSpec, AllocError>
     requires uid { is_uid window.uid ≡ true }
-    requires columns { is_within (pos 1) (pos 16) columns ≡ true }
+    requires columns { is_within (pos 1) (pos MOST_COLUMNS) columns ≡ true }
     requires aggregates { list_all (is_aggregate_of columns) window.aggregates ≡ true }
-    requires having { list_all (λ h. is_place (pos 8) h.aggregate) window.having ≡ true }
+    requires having { list_all (λ h. is_place (pos MOST_AGGREGATES) h.aggregate) window.having ≡ true }
     ensures says { IfOk result (λ spec. spec ≡ window_data time key window) }
     ensures fit { IfOk result (λ spec. All (λ h. FitsSigned w64 h.value) spec.having) }
 {

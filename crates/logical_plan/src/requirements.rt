@@ -9,9 +9,10 @@ ghost use Rattle.logical_plan.specs.Requirements as required;
 
 use crate::text::{AggregateText, FilterText, HavingText, PlanText, SourceText};
 use key_groups::MOST_GROUPS;
+use plain_data::MOST_COLUMNS;
 use plan_model::{
-    LONGEST_WINDOW, MOST_AGGREGATES, MOST_COLUMNS, MOST_CONDITIONS, MOST_PARTITIONS, MOST_SOURCES,
-    MOST_WINDOWS, is_uid,
+    LONGEST_WINDOW, MOST_AGGREGATES, MOST_CONDITIONS, MOST_PARTITIONS, MOST_SOURCES, MOST_WINDOWS,
+    is_uid,
 };
 
 #[tactic(auto, unfolding(crate::specs::Requirements::has_columns))]

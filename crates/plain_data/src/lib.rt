@@ -6,7 +6,9 @@
 #![tactic(auto)]
 
 mod items;
+mod limits;
 mod text;
 
 pub use items::Items;
+pub use limits::MOST_COLUMNS;
 pub use text::Text;

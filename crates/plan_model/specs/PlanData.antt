@@ -3,7 +3,8 @@ use Rattle.std.specs.Prelude.{◌≡◌, ℕ, pos, neg_ℤ, ◌*ℤ◌, ◌<◌,
 use Rattle.std.specs.Int.{w64}
 use Rattle.std.specs.List.{All}
 use Rattle.key_groups.specs.declared.limits.TheConstants.{MOST_GROUPS}
-use Rattle.plan_model.specs.declared.limits.TheConstants.{MOST_COLUMNS, MOST_SOURCES, MOST_PARTITIONS, MOST_CONDITIONS, LONGEST_WINDOW, MOST_WINDOWS, MOST_AGGREGATES}
+use Rattle.plain_data.specs.declared.limits.TheConstants.{MOST_COLUMNS}
+use Rattle.plan_model.specs.declared.limits.TheConstants.{MOST_SOURCES, MOST_PARTITIONS, MOST_CONDITIONS, LONGEST_WINDOW, MOST_WINDOWS, MOST_AGGREGATES}
 use Rattle.plan_model.specs.Uids.{is_uid, are_distinct}
 use Rattle.plan_model.specs.declared.spec.SourceSpec.{SourceSpec}
 use Rattle.plan_model.specs.declared.spec.FilterSpec.{FilterSpec}

@@ -7,8 +7,8 @@ mod spec;
 mod uid;
 
 pub use limits::{
-    LONGEST_WINDOW, MOST_AGGREGATES, MOST_COLUMNS, MOST_CONDITIONS, MOST_PARTITIONS, MOST_SOURCES,
-    MOST_WINDOWS,
+    LONGEST_UID, LONGEST_WINDOW, MOST_AGGREGATES, MOST_CONDITIONS, MOST_PARTITIONS, MOST_RECORDS,
+    MOST_SOURCES, MOST_WINDOWS,
 };
 pub use spec::{Aggregate, FilterSpec, Having, Pane, Row, SourceSpec, WindowSpec};
 pub use uid::{Uid, is_uid, put_uid, read_uid};

@@ -1,7 +1,8 @@
-//! How large a plan may be. The most key groups are `key_groups::MOST_GROUPS`.
+//! How large a plan and its input may be. The most columns are
+//! `plain_data::MOST_COLUMNS`, the most key groups `key_groups::MOST_GROUPS`.
 
-/// The most columns of a record.
-pub const MOST_COLUMNS: u32 = 16;
+/// The most characters of a uid.
+pub const LONGEST_UID: usize = 64;
 
 /// The most sources.
 pub const MOST_SOURCES: usize = 8;
@@ -20,3 +21,6 @@ pub const MOST_WINDOWS: i64 = 256;
 
 /// The most aggregates.
 pub const MOST_AGGREGATES: usize = 8;
+
+/// The most records of an input.
+pub const MOST_RECORDS: u64 = 1 << 40;

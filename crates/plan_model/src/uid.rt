@@ -5,6 +5,7 @@ ghost use Rattle.std.specs.List.{list_all};
 ghost use Rattle.byte_fields.specs.Reads.{Reads, Gives};
 ghost use Rattle.plan_model.specs.Uids.{is_uid as is_name, is_uid_byte as is_name_byte, uid_field};
 
+use crate::limits::LONGEST_UID;
 use byte_fields::{FieldFault, ReadFault, put_bytes, put_u8, read_bytes, read_few};
 use plain_data::Text;
 use std::alloc::{AllocError, Global};
@@ -78,7 +79,7 @@ fn are_uid_bytes(bytes: &[u8]) -> bool
 pub fn is_uid(text: &str) -> bool
     ensures { result ≡ is_name text.now }
 {
-    1 <= text.len() && text.len() <= 64 && are_uid_bytes(text.as_bytes())
+    1 <= text.len() && text.len() <= LONGEST_UID && are_uid_bytes(text.as_bytes())
 }
 
 /// The field of a uid, put after bytes that are there.
@@ -111,7 +112,7 @@ fn read_text(bytes: &[u8]) -> Result<(&str, &[u8]), FieldFault>
     ensures read { Reads (λ x. (x.0.now, x.1.now)) result (uid_field.read bytes.now) }
     ensures sound { IfOk result (λ x. is_name x.0.now ≡ true) }
 {
-    let (length, rest) = read_few(64, bytes)?;
+    let (length, rest) = read_few(LONGEST_UID as u8, bytes)?;
     let (uid, rest) = read_bytes(length as usize, rest)?;
     if !are_uid_bytes(uid) {
         return Err(FieldFault::Range);

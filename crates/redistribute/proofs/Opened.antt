@@ -9,15 +9,15 @@ use Rattle.plan_model.specs.PlanData.{PlanData, IsPlan}
 use Rattle.plan_model.specs.declared.spec.Pane.{Pane}
 use Rattle.stream_model.specs.declared.entry.Entry.{Entry}
 use Rattle.stream_model.specs.InputData.{InputData, BelongsTo, partition_at}
-use Rattle.stream_model.specs.Watermarks.{partition_watermark, IsCut, IsBefore, empty_cut, merged_watermark}
-use Rattle.stream_model.proofs.Facts.{nothing_at_first}
+use Rattle.stream_model.specs.Watermarks.{partition_watermark, IsCut, IsBefore}
+use Rattle.stream_model.specs.PlanRows.{snapshot}
 use Rattle.dataflow_model.specs.declared.role.Role.{Role}
 use Rattle.dataflow_model.specs.AbstractTask.{AbstractTask}
 use Rattle.dataflow_model.specs.AbstractLayout.{AbstractLayout, partition_read}
 use Rattle.dataflow_model.specs.Leg.{Leg, until_at, count_at, leg_of}
 use Rattle.dataflow_model.specs.Opening.{IsOpening}
 use Rattle.dataflow_model.specs.Start.{IsLegStart}
-use Rattle.dataflow_model.specs.InputCuts.{snapshot_at}
+use Rattle.dataflow_model.specs.Snapshots.{AtOwners}
 use Rattle.dataflow_model.specs.State.{State}
 use Rattle.dataflow_model.specs.declared.role.Role.TheVariants as role
 use Rattle.layout_rules.specs.Laws.{IsRoute}
@@ -26,19 +26,22 @@ use Rattle.layout_rules.specs.Rules.{IsCompiled, window_of, stages_of}
 use Rattle.layout_rules.specs.Scale.{ScaleData, IsScale}
 use Rattle.layout_rules.specs.Stages.{source_of, task_stage, task_role, partitions_of}
 use Rattle.layout_rules.proofs.Facts.{compiled_ever, tasks_are_one_leg}
-use Rattle.plan_compiler.specs.LayoutData.{LayoutData}
+use Rattle.plan_compiler.specs.LayoutData.{LayoutData, layout_of}
 use Rattle.input_flow.specs.InputEntries.{entries_of, input_of, counts_at}
-use Rattle.input_flow.proofs.Facts.{there, cut_in, snapshot_at_cut}
-use Rattle.dataflow_laws.specs.Legs.{AreAt, HaveMarks, HaveSnapshot, LeaveSnapshot}
+use Rattle.input_flow.proofs.Facts.{there, cut_in}
+use Rattle.dataflow_laws.specs.Legs.{AreAt, HaveMarks}
+use Rattle.dataflow_laws.specs.Inputs.{HaveCut}
+use Rattle.dataflow_laws.specs.Compiled.{layout_to}
 use Rattle.leg_lists.specs.declared.stop.Stop.{Stop}
 use Rattle.leg_lists.specs.declared.stop.Stop.TheVariants.{Never, At}
 use Rattle.leg_lists.specs.Stops.{until_of}
 use Rattle.redistribute.specs.declared.task_start.PartitionStart.{PartitionStart}
-use Rattle.redistribute.specs.StartData.{StartData}
+use Rattle.redistribute.specs.StartData.{StartData, offsets_of}
+use Rattle.redistribute.specs.Begins.{IsStartIn}
 use Rattle.redistribute.specs.Snapshots.{saved_partition, saved_source, start_at}
 use Rattle.redistribute.specs.Stopping.{CanStop}
-use Rattle.redistribute.specs.Parts.{at_first, saved_at, partition_start, start_of_role}
-use Rattle.redistribute.specs.Laws.{opening_of, opening_states, TasksOpen, EmptyHasSnapshot}
+use Rattle.redistribute.specs.Parts.{at_first, saved_at, partition_start, start_of_role, task_start, with_windows}
+use Rattle.redistribute.specs.Laws.{opening_of, opening_states, TasksOpen, TasksHaveSnapshot}
 use Rattle.redistribute.proofs.Dealt.{known, early, places}
 
 -- ---- what a cut leaves of a partition
@@ -112,6 +115,13 @@ opens_as p role.Chain k starts h = refl
 opens_as p role.Window k starts h = (empty, refl, λ q d. get-empty pane_cmp q)
 opens_as p role.Sink k starts h = refl
 
+-- with nothing in the windows a part is what it is without them
+pub bare : (r : Role) (starts : List PartitionStart) → start_of_role r starts ≡ with_windows [] (start_of_role r starts)
+bare role.Source starts = refl
+bare role.Chain starts = refl
+bare role.Window starts = refl
+bare role.Sink starts = refl
+
 module _ (p : PlanData) (c : ScaleData) (i : InputData) (cut : List (List ℕ)) (n : ℕ) (leg : Leg) (ip : IsPlan p) (sc : IsScale p c) (ok : IsCompiled p c (stages_of p c)) (belongs : BelongsTo p i) (is_cut : IsCut i.sources cut) where
   abbrev L : AbstractLayout
   L = abstract_layout p (entries_of i) leg (stages_of p c) (window_of (stages_of p c))
@@ -120,7 +130,11 @@ module _ (p : PlanData) (c : ScaleData) (i : InputData) (cut : List (List ℕ)) 
   s = start_at i.sources cut n
 
   abbrev states : ℕ → State
-  states = opening_states p s L (stages_of p c)
+  states t = opening_of (L.task t).inputs (task_start (partition_counts p) s (stages_of p c) t)
+
+  -- they are those that the start has, since nothing stands in its windows
+  are_opening : states ≡ opening_states p s L (stages_of p c)
+  are_opening = λ j t. opening_of (L.task t).inputs (bare (task_role (stages_of p c) t) (map (partition_start s (source_of (task_stage (stages_of p c) t).operators)) (partitions_of (partition_counts p) (stages_of p c) t)) j)
 
   abbrev mine : ℕ → List ℕ
   mine t = partitions_of (partition_counts p) (stages_of p c) t
@@ -179,51 +193,34 @@ module _ (p : PlanData) (c : ScaleData) (i : InputData) (cut : List (List ℕ)) 
       ∙ sym (λ j. partition_watermark (partition_at i.sources (y.source j) (y.number j)) (count_at cut (y.source j) (y.number j)))
 
   -- nothing stands in their windows
-  have_nothing : (w : ℤ) → ((q : Pane) → snapshot_at p (input_of p i) (counts_at p cut) w q ≡ None) → HaveSnapshot p (input_of p i) L states (counts_at p cut) w
-  have_nothing w none u l m q =
+  have_nothing : ((q : Pane) → snapshot p i.sources cut q ≡ None) → AtOwners L (λ u. (states u).windows) (snapshot p i.sources cut)
+  have_nothing none u l m q =
       let role_is = (known p c (entries_of i) leg ip sc ok).0.roles_window u l m in
       ap (λ r. get (opening_of (L.task u).inputs (start_of_role r (starts_at u))).windows q) role_is
       ∙ get-empty pane_cmp q
-      ∙ none_either (L.owner q.key == u) (snapshot_at p (input_of p i) (counts_at p cut) w q) (none q)
+      ∙ none_either (L.owner q.key == u) (snapshot p i.sources cut q) (none q)
+
+  have_snapshot : ((q : Pane) → snapshot p i.sources cut q ≡ None) → let opened = opening_states p s L (stages_of p c) in HaveCut p i L opened cut × HaveMarks (input_of p i) L opened (counts_at p cut)
+  have_snapshot none = subst (λ (f : ℕ → State). HaveCut p i L f cut × HaveMarks (input_of p i) L f (counts_at p cut)) are_opening (record { offsets = are_at; windows = have_nothing none }, have_marks)
 
 leg_start : (p : PlanData) (c : ScaleData) (i : InputData) (cut : List (List ℕ)) (n : ℕ) (stop : Stop) → IsPlan p → IsScale p c → BelongsTo p i → IsCut i.sources cut → CanStop i.sources cut stop
-    → let a = abstract_layout p (entries_of i) (leg_of n [] (until_of stop) (entries_of i).size) (stages_of p c) (window_of (stages_of p c)) in IsLegStart p a (opening_states p (start_at i.sources cut n) a (stages_of p c))
+    → let a = layout_to p i n (until_of stop) (stages_of p c) in IsLegStart p a (opening_states p (start_at i.sources cut n) a (stages_of p c))
 leg_start p c i cut n stop ip sc belongs is_cut can =
     let leg : Leg = leg_of n [] (until_of stop) (entries_of i).size in
     let ok = compiled_ever p c in
-    record {
+    subst (IsLegStart p (layout_to p i n (until_of stop) (stages_of p c))) (are_opening p c i cut n leg ip sc ok belongs is_cut)
+    (record {
       opens = λ t l. opens p c i cut n leg ip sc ok belongs is_cut t;
       leg = tasks_are_one_leg p (entries_of i) (stages_of p c) (window_of (stages_of p c)) n cut [] (until_of stop) (states p c i cut n leg ip sc ok belongs is_cut) (route i cut stop is_cut can) (begins p c i cut n leg ip sc ok belongs is_cut);
-    }
+    })
 
 pub tasks_open : TasksOpen
-tasks_open p l i cut n stop ip lo belongs is_cut can =
-    let R : LayoutData → Type 0 = λ m. let a = abstract_layout p (entries_of i) (leg_of n [] (until_of stop) (entries_of i).size) m.stages (window_of m.stages) in IsLegStart p a (opening_states p (start_at i.sources cut n) a m.stages) in
-    subst R (sym lo.is) (leg_start p lo.scale i cut n stop ip lo.fits belongs is_cut can)
+tasks_open p l i start stop ip lo belongs is can =
+    let R : StartData → LayoutData → Type 0 = λ z m. let a = layout_to p i start.number (until_of stop) m.stages in IsLegStart p a (opening_states p z a m.stages) in
+    subst (R start) (sym lo.is) (subst (λ z. R z (layout_of p lo.scale)) (sym is.is) (leg_start p lo.scale i (offsets_of start) start.number stop ip lo.fits belongs is.cut can))
 
--- ---- the empty cut
-
-none_read : (ps : List (List Entry)) → AllZip (λ p n. n ≤ length p) ps (map (λ p. 0) ps)
-none_read [] = tt
-none_read (p ∷ ps) = (omega arith, none_read ps)
-
-empty_is_cut : (ss : List (List (List Entry))) → IsCut ss (empty_cut ss)
-empty_is_cut [] = tt
-empty_is_cut (s ∷ ss) = (none_read s, empty_is_cut ss)
-
-pub empty_has_snapshot : EmptyHasSnapshot
-empty_has_snapshot p l i n leg ip lo belongs =
-    let cut = empty_cut i.sources in
-    let is_cut = empty_is_cut i.sources in
-    let w = merged_watermark i.sources cut in
-    let none : (q : Pane) → snapshot_at p (input_of p i) (counts_at p cut) w q ≡ None = λ q. snapshot_at_cut p i cut q belongs is_cut ∙ nothing_at_first p i.sources q in
-    let c = lo.scale in
-    let ok = compiled_ever p c in
-    let R : LayoutData → Type 0 = λ m. let a = abstract_layout p (entries_of i) leg m.stages (window_of m.stages) in LeaveSnapshot p (input_of p i) a (opening_states p (start_at i.sources cut n) a m.stages) (counts_at p cut) w in (
-      is_cut,
-      subst R (sym lo.is) (record {
-        offsets = are_at p c i cut n leg ip lo.fits ok belongs is_cut;
-        marks = have_marks p c i cut n leg ip lo.fits ok belongs is_cut;
-        windows = have_nothing p c i cut n leg ip lo.fits ok belongs is_cut w none;
-      }),
-    )
+pub tasks_have_snapshot : TasksHaveSnapshot
+tasks_have_snapshot p l i start stop ip lo belongs is none =
+    let cut = offsets_of start in
+    let R : StartData → LayoutData → Type 0 = λ z m. let a = layout_to p i start.number (until_of stop) m.stages in let states = opening_states p z a m.stages in HaveCut p i a states cut × HaveMarks (input_of p i) a states (counts_at p cut) in
+    subst (R start) (sym lo.is) (subst (λ z. R z (layout_of p lo.scale)) (sym is.is) (have_snapshot p lo.scale i cut start.number (leg_of start.number [] (until_of stop) (entries_of i).size) ip lo.fits (compiled_ever p lo.scale) belongs is.cut none))

@@ -1,31 +1,31 @@
 -- The laws of starts that are dealt out.
 use Rattle.std.specs.Prelude.{◌≡◌, ℕ, ◌<◌, List, [], length, map, replicate, slice_get, slice_index_or, Some}
-use Rattle.std.specs.FinMap.{empty}
+use Rattle.std.specs.FinMap.{empty, from_entries}
 use Rattle.plain_data.specs.Times.{lowest}
 use Rattle.plan_model.specs.PlanData.{PlanData, IsPlan}
 use Rattle.stream_model.specs.InputData.{InputData, BelongsTo}
-use Rattle.stream_model.specs.Watermarks.{IsCut, empty_cut, merged_watermark}
 use Rattle.dataflow_model.specs.AbstractLayout.{AbstractLayout}
-use Rattle.dataflow_model.specs.Leg.{Leg, leg_of}
 use Rattle.dataflow_model.specs.Opening.{opening}
 use Rattle.dataflow_model.specs.Start.{IsLegStart}
 use Rattle.dataflow_model.specs.State.{State}
-use Rattle.layout_rules.specs.Layouts.{partition_counts, abstract_layout}
-use Rattle.layout_rules.specs.Rules.{window_of}
+use Rattle.layout_rules.specs.Layouts.{partition_counts}
 use Rattle.layout_rules.specs.declared.stage.Stage.{Stage}
 use Rattle.layout_rules.specs.Stages.{source_of, task_stage, task_count}
 use Rattle.plan_compiler.specs.LayoutData.{LayoutData, IsLayoutOf}
-use Rattle.input_flow.specs.InputEntries.{entries_of, input_of, counts_at}
-use Rattle.dataflow_laws.specs.Legs.{LeaveSnapshot}
+use Rattle.input_flow.specs.InputEntries.{input_of, counts_at}
+use Rattle.dataflow_laws.specs.Legs.{HaveMarks}
+use Rattle.dataflow_laws.specs.Inputs.{HaveCut}
+use Rattle.dataflow_laws.specs.Compiled.{layout_to}
 use Rattle.leg_lists.specs.declared.stop.Stop.{Stop}
 use Rattle.leg_lists.specs.Stops.{until_of}
+use Rattle.window_state.specs.Parts.{entries_of}
 use Rattle.redistribute.specs.declared.task_start.PartitionStart.{PartitionStart}
 use Rattle.redistribute.specs.declared.task_start.TaskStart.{TaskStart}
 use Rattle.redistribute.specs.declared.task_start.TaskStart.TheVariants.{Source, Chain, Window, Sink}
-use Rattle.redistribute.specs.StartData.{StartData, IsStartOf}
-use Rattle.redistribute.specs.Snapshots.{start_at}
+use Rattle.redistribute.specs.StartData.{StartData, IsStartOf, offsets_of}
+use Rattle.redistribute.specs.Begins.{IsStartIn, HasSnapshot}
 use Rattle.redistribute.specs.Stopping.{CanStop}
-use Rattle.redistribute.specs.Parts.{partition_start, task_start, partitions_in}
+use Rattle.redistribute.specs.Parts.{partition_start, task_start, whole_task_start, partitions_in}
 
 -- the start has partition q of source x
 pub record HasPartition (s : StartData) (x q : ℕ) : Type 0 where
@@ -53,22 +53,20 @@ NothingElse = (p : PlanData) (l : LayoutData) (s : StartData) (t k : ℕ) (b : P
 abbrev pub opening_of : ℕ → TaskStart → State
 opening_of n (Source starts) = opening n (map (λ b. b.offset) starts) (map (λ b. b.watermark) starts) empty
 opening_of n Chain = opening n [] (replicate n lowest) empty
-opening_of n Window = opening n [] (replicate n lowest) empty
+opening_of n (Window parts) = opening n [] (replicate n lowest) (from_entries (entries_of parts))
 opening_of n Sink = opening n [] (replicate n lowest) empty
 
 -- the states that the tasks of a layout of these stages begin in, of a start
 abbrev pub opening_states : PlanData → StartData → AbstractLayout → List Stage → ℕ → State
-opening_states p s a stages t = opening_of (a.task t).inputs (task_start (partition_counts p) s stages t)
+opening_states p s a stages t = opening_of (a.task t).inputs (whole_task_start p.max (partition_counts p) s stages t)
 
--- tasks that begin with what a cut leaves, in a leg that can stop as it is to, are tasks of one leg in opening states
+-- tasks that begin with a start of the input, in a leg that can stop as it is to, are tasks of one leg in opening states
 abbrev pub TasksOpen : Type 0
-TasksOpen = (p : PlanData) (l : LayoutData) (i : InputData) (cut : List (List ℕ)) (n : ℕ) (stop : Stop) → IsPlan p → IsLayoutOf p l → BelongsTo p i → IsCut i.sources cut → CanStop i.sources cut stop
-    → let a = abstract_layout p (entries_of i) (leg_of n [] (until_of stop) (entries_of i).size) l.stages (window_of l.stages) in
-    IsLegStart p a (opening_states p (start_at i.sources cut n) a l.stages)
+TasksOpen = (p : PlanData) (l : LayoutData) (i : InputData) (s : StartData) (stop : Stop) → IsPlan p → IsLayoutOf p l → BelongsTo p i → IsStartIn i s → CanStop i.sources (offsets_of s) stop
+    → let a = layout_to p i s.number (until_of stop) l.stages in IsLegStart p a (opening_states p s a l.stages)
 
--- tasks that begin with the start from nothing have the snapshot of the empty cut: its offsets, its watermarks, and nothing in the windows
-abbrev pub EmptyHasSnapshot : Type 0
-EmptyHasSnapshot = (p : PlanData) (l : LayoutData) (i : InputData) (n : ℕ) (leg : Leg) → IsPlan p → IsLayoutOf p l → BelongsTo p i
-    → let cut = empty_cut i.sources in
-    let a = abstract_layout p (entries_of i) leg l.stages (window_of l.stages) in
-    IsCut i.sources cut × LeaveSnapshot p (input_of p i) a (opening_states p (start_at i.sources cut n) a l.stages) (counts_at p cut) (merged_watermark i.sources cut)
+-- and where the start has the snapshot of its cut, so have they, with the watermarks there
+abbrev pub TasksHaveSnapshot : Type 0
+TasksHaveSnapshot = (p : PlanData) (l : LayoutData) (i : InputData) (s : StartData) (stop : Stop) → IsPlan p → IsLayoutOf p l → BelongsTo p i → IsStartIn i s → HasSnapshot p i s
+    → let a = layout_to p i s.number (until_of stop) l.stages in let states = opening_states p s a l.stages in
+    HaveCut p i a states (offsets_of s) × HaveMarks (input_of p i) a states (counts_at p (offsets_of s))

@@ -1,7 +1,9 @@
 -- Where a leg can stop.
-use Rattle.std.specs.Prelude.{ℕ, List}
+use Rattle.std.specs.Prelude.{◌≡◌, ◌⊎◌, ℕ, List}
 use Rattle.stream_model.specs.declared.entry.Entry.{Entry}
 use Rattle.stream_model.specs.Watermarks.{IsCut, IsBefore}
+use Rattle.leg_lists.specs.declared.fault.LegFault.{LegFault}
+use Rattle.leg_lists.specs.declared.fault.LegFault.TheVariants.{StopRange, Memory}
 use Rattle.leg_lists.specs.declared.stop.Stop.{Stop}
 use Rattle.leg_lists.specs.declared.stop.Stop.TheVariants.{Never, At}
 
@@ -9,3 +11,7 @@ use Rattle.leg_lists.specs.declared.stop.Stop.TheVariants.{Never, At}
 abbrev pub CanStop : List (List (List Entry)) → List (List ℕ) → Stop → Type 0
 CanStop sources begin Never = Unit {0}
 CanStop sources begin (At cut) = IsCut sources cut.counts × IsBefore begin cut.counts
+
+-- why a leg has no answer that begins at a cut: it cannot stop so, and otherwise only for want of memory
+abbrev pub IsRefusal : List (List (List Entry)) → List (List ℕ) → Stop → LegFault → Type 0
+IsRefusal sources begin stop fault = ((fault ≡ StopRange) × ¬ CanStop sources begin stop) ⊎ ((fault ≡ Memory) × CanStop sources begin stop)

@@ -1,6 +1,6 @@
 //! Laws of the definitions, each the contract of a function that does nothing.
 
-ghost use Rattle.redistribute.specs.Laws.{EachPartitionOnce, NothingElse, TasksOpen, EmptyHasSnapshot};
+ghost use Rattle.redistribute.specs.Laws.{EachPartitionOnce, NothingElse, TasksOpen, TasksHaveSnapshot};
 
 /// Each partition of each source stands in what just one task of the layout begins with, at one place, with the offset
 /// and the watermark that the start has for it.
@@ -13,13 +13,13 @@ pub fn nothing_else()
     ensures { NothingElse }
 {}
 
-/// Tasks that begin with what a cut of the input leaves, in a leg that can stop as it is to, are the tasks of one leg, each
-/// in an opening state: with the offsets and the watermarks of its partitions, and all windows empty.
+/// Tasks that begin with a start of the input, in a leg that can stop as it is to, are the tasks of one leg, each in an
+/// opening state: with the offsets and the watermarks of its partitions, and all windows empty.
 pub fn tasks_open()
     ensures { TasksOpen }
 {}
 
-/// Tasks that begin with the start from nothing have the snapshot of the empty cut.
-pub fn empty_has_snapshot()
-    ensures { EmptyHasSnapshot }
+/// Where the start has the snapshot of the cut that it begins at, the tasks have it, with the watermarks there.
+pub fn tasks_have_snapshot()
+    ensures { TasksHaveSnapshot }
 {}

@@ -1,22 +1,29 @@
 //! A start dealt out to the tasks of a layout.
 
-ghost use Rattle.std.specs.Prelude.{◌≡◌, ◌<◌, map, IfOk};
+ghost use Rattle.std.specs.Prelude.{◌≡◌, ◌<◌, true, map, ◌++◌, OnOk, IfOk};
+ghost use Rattle.std.specs.List.{All};
+ghost use Rattle.aggregates.specs.Kinds.{is_entry};
 ghost use Rattle.layout_rules.specs.Layouts.{partition_counts};
 ghost use Rattle.layout_rules.specs.Stages as rule;
 ghost use Rattle.plan_compiler.specs.LayoutData.{IsLayoutOf};
 ghost use Rattle.plan_compiler.specs.Tables.{each_task};
-ghost use Rattle.redistribute.specs.Parts as parts;
+ghost use Rattle.savepoint_codec.specs.EntriesView.{entry_data};
+ghost use Rattle.redistribute.specs.Parts as said;
 
 use crate::start::Start;
 use crate::task_start::{PartitionStart, TaskStart};
+use aggregates::{Acc, Kind};
+use key_groups::GroupRange;
 use logical_plan::Plan;
 use plain_data::Items;
 use plan_compiler::{Layout, Role};
+use savepoint_codec::{Entries, Entry};
 use std::alloc::{AllocError, Global};
+use window_state::Part;
 
 /// Where a task begins to read a partition: at its first entry, where the start has no such partition.
 fn partition_start(start: &Start, source: u32, partition: u32) -> PartitionStart
-    ensures { result ≡ parts.partition_start start.now source partition }
+    ensures { result ≡ said.partition_start start.now source partition }
 {
     let saved = match start.sources().get(source as usize) {
         Some(partitions) => partitions.as_slice().get(partition as usize).copied(),
@@ -43,13 +50,50 @@ fn partition_starts(
     source: u32,
     partitions: &[u32],
 ) -> Result<Items<PartitionStart>, AllocError>
-    ensures { IfOk result (λ starts. starts ≡ map (parts.partition_start start.now source) partitions.now) }
+    ensures { IfOk result (λ starts. starts ≡ map (said.partition_start start.now source) partitions.now) }
 {
     let mut starts = Vec::new(alloc);
     for partition in partitions {
         starts.push(partition_start(start, source, *partition))?;
     }
     Ok(Items::from_vec(starts))
+}
+
+/// What an entry of a start is for a window state.
+fn part_of(kinds: &[Kind], entry: Entry<'_>) -> Part
+    requires { is_entry kinds.now entry.count entry.numbers.now ≡ true }
+    ensures { result ≡ said.part_of kinds.now (entry_data entry.entry) }
+{
+    Part {
+        pane: entry.pane,
+        acc: Acc::from_parts(kinds, entry.count, entry.numbers).unwrap(),
+    }
+}
+
+/// The entries of a key group, put behind the parts that are there.
+fn push_parts(parts: &mut Vec<Part>, kinds: &[Kind], entries: &Entries) -> Result<(), AllocError>
+    requires { All (λ e. is_entry kinds.now e.total.count e.total.numbers ≡ true) entries.now.entries }
+    ensures { OnOk result (parts.new.items ≡ parts.old.items ++ map (said.part_of kinds.now) entries.now.entries) }
+{
+    parts.reserve(entries.len())?;
+    for i in 0..entries.len() {
+        parts.push(part_of(kinds, entries.entry(i)))?;
+    }
+    Ok(())
+}
+
+/// What stands in the windows of the key groups of a range.
+fn parts_within(alloc: Global, start: &Start, range: GroupRange) -> Result<Items<Part>, AllocError>
+    ensures { IfOk result (λ found. found ≡ said.parts_within range start.now) }
+{
+    let mut found = Vec::new(alloc);
+    for group in start.groups() {
+        let number = u32::from(group.group);
+        if range.first <= number && number <= range.last {
+            push_parts(&mut found, start.kinds(), &group.entries)?;
+        }
+    }
+    Ok(Items::from_vec(found))
 }
 
 /// The part of a start that a task begins with.
@@ -60,7 +104,7 @@ fn task_start(
     task: u32,
 ) -> Result<TaskStart, AllocError>
     requires { task < rule.task_count layout.now.stages }
-    ensures { IfOk result (λ part. part ≡ parts.task_start layout.now.partitions start.now layout.now.stages task) }
+    ensures { IfOk result (λ part. part ≡ said.whole_task_start layout.now.max layout.now.partitions start.now layout.now.stages task) }
 {
     let stage = layout.stage(task);
     match stage.role() {
@@ -71,13 +115,17 @@ fn task_start(
             Ok(TaskStart::Source(starts))
         }
         Role::Chain => Ok(TaskStart::Chain),
-        Role::Window => Ok(TaskStart::Window),
+        Role::Window => {
+            let groups = layout.groups_of(task);
+            Ok(TaskStart::Window(parts_within(alloc, start, groups)?))
+        }
         Role::Sink => Ok(TaskStart::Sink),
     }
 }
 
 /// The part of a start that each task of a layout begins with, in task order: each partition of each source stands in
-/// the part of the task that reads it, as the start has it, and in no other.
+/// the part of the task that reads it, as the start has it, and what stands in the windows of a key group in the part of
+/// the window's task that owns the group. Nothing stands in any other.
 ///
 /// # Errors
 ///
@@ -89,7 +137,7 @@ pub fn spread(
     layout: &Layout,
 ) -> Result<Vec<TaskStart>, AllocError>
     requires { IsLayoutOf plan.now layout.now }
-    ensures { IfOk result (λ starts. starts.items ≡ each_task layout.now.stages (parts.task_start (partition_counts plan.now) start.now layout.now.stages)) }
+    ensures { IfOk result (λ starts. starts.items ≡ each_task layout.now.stages (said.whole_task_start plan.now.max (partition_counts plan.now) start.now layout.now.stages)) }
 {
     let mut starts = Vec::new(alloc);
     for task in 0..layout.task_count() {

@@ -3,28 +3,33 @@
 ghost use Rattle.std.specs.Prelude.{◌≡◌, map, IfOk};
 ghost use Rattle.redistribute.specs.Snapshots.{saved_partition, saved_source};
 
+use aggregates::Kind;
 use logical_plan::Plan;
 use plain_data::Items;
-use savepoint_codec::SavedPartition;
+use savepoint_codec::{SavedGroup, SavedPartition};
 use std::alloc::{AllocError, Global};
 use std::marker::Model;
 use stream_input::Input;
 use stream_model::{Entry, Partition};
 
-/// What a leg of a job begins with: the number of the savepoint that it goes on from, and how far each partition of each
-/// source was read, with its watermark there. Sources stand in plan order.
+/// What a leg of a job begins with: the number of the savepoint that it goes on from, how far each partition of each
+/// source was read, with its watermark there, and what stands in the windows, by key group. Sources stand in plan order.
 #[derive(Debug, Drop)]
 pub struct Start {
     number: u64,
     sources: Items<Items<SavedPartition>>,
+    kinds: Items<Kind>,
+    groups: Items<SavedGroup>,
 }
 
 impl Model for Start {
-    ghost use Rattle.redistribute.specs.StartData.{StartData, start_data_of};
+    ghost use Rattle.redistribute.specs.StartData.{StartData, AreEntries};
 
     ghost Value = { StartData };
 
-    ghost view = { λ s. start_data_of s.number s.sources };
+    ghost view = { λ s. record { number = s.number; sources = s.sources; kinds = s.kinds; groups = s.groups } };
+
+    ghost invariant = { λ s. AreEntries s.kinds s.groups };
 }
 
 impl Start {
@@ -32,7 +37,8 @@ impl Start {
     ghost use Rattle.dataflow_model.specs.Leg.{count_at};
     ghost use Rattle.stream_model.specs.InputData.{BelongsTo};
     ghost use Rattle.stream_model.specs.Watermarks.{empty_cut};
-    ghost use Rattle.redistribute.specs.StartData.{IsStartOf, offsets_of};
+    ghost use Rattle.redistribute.specs.StartData.{IsStartOf, AreEntries, offsets_of};
+    ghost use Rattle.redistribute.specs.Begins.{IsStartIn, IsFromNothing, HasSnapshot};
     ghost use Rattle.redistribute.specs.Snapshots.{start_at};
 
     /// The start from nothing: no entry of any partition was read, and its number is 0.
@@ -44,6 +50,9 @@ impl Start {
         requires { BelongsTo plan.now input.now }
         ensures snapshot { IfOk result (λ start. start ≡ start_at input.now.sources (empty_cut input.now.sources) 0) }
         ensures belongs { IfOk result (λ start. IsStartOf plan.now start) }
+        ensures in_input { IfOk result (λ start. IsStartIn input.now start) }
+        ensures nothing { IfOk result (λ start. IsFromNothing input.now start) }
+        ensures has_snapshot { IfOk result (λ start. HasSnapshot plan.now input.now start) }
     {
         let mut sources = Vec::new(alloc);
         for partitions in input.sources() {
@@ -52,7 +61,28 @@ impl Start {
         Ok(Start {
             number: 0,
             sources: Items::from_vec(sources),
+            kinds: Items::from_vec(Vec::new(alloc)),
+            groups: Items::from_vec(Vec::new(alloc)),
         })
+    }
+
+    /// The start from a savepoint that holds these: its number, how far each partition of each source was read, in plan
+    /// order, the kinds of the aggregates, and what stands in the windows, by key group.
+    pub fn from_saved(
+        number: u64,
+        sources: Items<Items<SavedPartition>>,
+        kinds: Items<Kind>,
+        groups: Items<SavedGroup>,
+    ) -> Start
+        requires { AreEntries kinds groups }
+        ensures { result ≡ record { number = number; sources = sources; kinds = kinds; groups = groups } }
+    {
+        Start {
+            number,
+            sources,
+            kinds,
+            groups,
+        }
     }
 
     /// The number of the savepoint that the leg goes on from; 0 from nothing.
@@ -76,6 +106,21 @@ impl Start {
         ensures { result.now ≡ self.now.sources }
     {
         self.sources.as_slice()
+    }
+
+    /// The kinds of the aggregates of what stands in the windows.
+    pub(crate) fn kinds(&self) -> &[Kind]
+        ensures { result.now ≡ self.now.kinds }
+    {
+        self.kinds.as_slice()
+    }
+
+    /// What stands in the windows, by key group.
+    pub(crate) fn groups(&self) -> &[SavedGroup]
+        ensures says { result.now ≡ self.now.groups }
+        ensures sound { AreEntries self.now.kinds self.now.groups }
+    {
+        self.groups.as_slice()
     }
 }
 
@@ -106,12 +151,4 @@ fn unread_source(
         saved.push(unread(entries.as_slice()))?;
     }
     Ok(Items::from_vec(saved))
-}
-
-#[cfg(test)]
-impl Start {
-    /// The start from a savepoint that holds these partitions.
-    pub(crate) fn from_saved(number: u64, sources: Items<Items<SavedPartition>>) -> Start {
-        Start { number, sources }
-    }
 }

@@ -1,6 +1,7 @@
 //! What a task begins with.
 
 use plain_data::Items;
+use window_state::Part;
 
 /// A partition of a source, and where a task begins to read it.
 #[derive(Clone, Copy, Debug, PartialEq, Eq)]
@@ -18,6 +19,7 @@ pub enum TaskStart {
     /// Of a source: the partitions that the task reads, ascending.
     Source(Items<PartitionStart>),
     Chain,
-    Window,
+    /// Of the window: what stands in the panes of the task's key groups.
+    Window(Items<Part>),
     Sink,
 }

@@ -1,10 +1,18 @@
+ghost use Rattle.std.specs.Prelude.{◌≡◌, ◌∷◌, [], true, IfOk};
+ghost use Rattle.std.specs.List.{All};
+ghost use Rattle.aggregates.specs.Kinds.{is_entry};
+ghost use Rattle.aggregates.specs.declared.kind.Kind.TheVariants.{Count};
+ghost use Rattle.redistribute.specs.StartData.{AreEntries};
+
 use crate::{PartitionStart, Start, TaskStart, spread};
+use aggregates::Kind;
 use leg_lists::{Cut, LegFault, Stop};
 use logical_plan::Plan;
 use plain_data::Items;
 use plan_compiler::compile;
+use plan_model::Pane;
 use plan_scale::Scale;
-use savepoint_codec::SavedPartition;
+use savepoint_codec::{Entries, Entry, SavedGroup, SavedPartition};
 use std::alloc::{AllocError, Global};
 use std::process::Abort;
 use std::test::Fail;
@@ -21,6 +29,20 @@ const ONE_FOUR_ONE: &str =
 
 const ONE_NONE_AND_TWO: &str =
     r#"{"r":[[{"watermark":9}]],"s":[[{"watermark":4}],[],[{"watermark":5},{"watermark":7}]]}"#;
+
+/// The keys in what a task begins with.
+fn check_keys(rt: &impl Abort, start: &TaskStart, want: &[i64]) {
+    match start {
+        TaskStart::Window(parts) => {
+            assert_eq!(rt; parts.len(), want.len());
+            for (part, key) in parts.as_slice().iter().zip(want) {
+                assert_eq!(rt; (part.pane.start, part.pane.key), (10, *key));
+                assert_eq!(rt; part.acc.count(), 1);
+            }
+        }
+        _ => assert!(rt; false),
+    }
+}
 
 /// What a task begins with, in words that are easy to write.
 #[derive(Drop)]
@@ -43,9 +65,8 @@ fn check(rt: &impl Abort, start: &TaskStart, want: &Want) {
         (TaskStart::Source(starts), Want::Source(want)) => {
             check_source(rt, starts.as_slice(), want);
         }
-        (TaskStart::Chain, Want::Chain)
-        | (TaskStart::Window, Want::Window)
-        | (TaskStart::Sink, Want::Sink) => {}
+        (TaskStart::Chain, Want::Chain) | (TaskStart::Sink, Want::Sink) => {}
+        (TaskStart::Window(parts), Want::Window) => assert_eq!(rt; parts.len(), 0),
         _ => assert!(rt; false),
     }
 }
@@ -67,6 +88,53 @@ fn saved(
         saved.push(Items::from_vec(source))?;
     }
     Ok(Items::from_vec(saved))
+}
+
+/// The start with such partitions, and nothing in the windows.
+fn start_with(alloc: Global, number: u64, sources: &[&[(u64, i64)]]) -> Result<Start, AllocError> {
+    Ok(Start::from_saved(
+        number,
+        saved(alloc, sources)?,
+        Items::from_vec(Vec::new(alloc)),
+        Items::from_vec(Vec::new(alloc)),
+    ))
+}
+
+/// A key group with one record, of a key that is its number.
+fn group_with_one(alloc: Global, group: u16) -> Result<SavedGroup, AllocError>
+    ensures { IfOk result (λ saved. All (λ e. is_entry (Count ∷ []) e.total.count e.total.numbers ≡ true) saved.entries.entries) }
+{
+    let mut entries = Entries::new(alloc, 1);
+    entries.push(Entry {
+        pane: Pane {
+            start: 10,
+            key: i64::from(group),
+        },
+        count: 1,
+        numbers: &[1],
+    })?;
+    Ok(SavedGroup { group, entries })
+}
+
+/// Such key groups.
+fn groups_with_one(alloc: Global, groups: &[u16]) -> Result<Items<SavedGroup>, AllocError>
+    ensures { IfOk result (λ saved. AreEntries (Count ∷ []) saved) }
+{
+    let mut saved = Vec::new(alloc);
+    for group in groups {
+        saved.push(group_with_one(alloc, *group)?)?;
+    }
+    Ok(Items::from_vec(saved))
+}
+
+/// The start with such key groups, where nothing was read.
+fn start_with_groups(alloc: Global, groups: &[u16]) -> Result<Start, AllocError> {
+    Ok(Start::from_saved(
+        1,
+        saved(alloc, &[&[(0, 0)], &[(0, 0), (0, 0), (0, 0)]])?,
+        Items::from_vec(Vec::from_slice(alloc, &[Kind::Count])?),
+        groups_with_one(alloc, groups)?,
+    ))
 }
 
 fn stop_at(alloc: Global, counts: &[&[u64]]) -> Result<Stop, AllocError> {
@@ -127,11 +195,11 @@ fn nothing_was_read_at_first(rt: HostRuntime) -> Result<(), Fail> {
 
 #[test]
 fn a_start_is_dealt_out_unchanged(rt: HostRuntime) -> Result<(), Fail> {
-    let saved = saved(
+    let start = start_with(
         rt.alloc(),
+        u64::MAX,
         &[&[(1, i64::MAX)], &[(0, i64::MIN), (0, i64::MAX), (1, 5)]],
     )?;
-    let start = Start::from_saved(u64::MAX, saved);
     let want = [
         Want::Source(&[(0, 1, i64::MAX)]),
         Want::Source(&[(0, 0, i64::MIN)]),
@@ -147,10 +215,20 @@ fn a_start_is_dealt_out_unchanged(rt: HostRuntime) -> Result<(), Fail> {
     Ok(())
 }
 
+/// Two subtasks of the window own 64 key groups each.
+#[test]
+fn key_groups_are_dealt_to_their_subtasks(rt: HostRuntime) -> Result<(), Fail> {
+    let start = start_with_groups(rt.alloc(), &[0, 63, 64, 127])?;
+    let starts = spread_at(&rt, ONE_TWO_ONE, &start)?;
+    assert_eq!(rt; starts.len(), 7);
+    check_keys(&rt, &starts[4], &[0, 63]);
+    check_keys(&rt, &starts[5], &[64, 127]);
+    Ok(())
+}
+
 #[test]
 fn a_start_tells_its_number_and_offsets(rt: HostRuntime) -> Result<(), Fail> {
-    let saved = saved(rt.alloc(), &[&[(3, 4)], &[(u64::MAX, 5), (6, 7)]])?;
-    let start = Start::from_saved(7, saved);
+    let start = start_with(rt.alloc(), 7, &[&[(3, 4)], &[(u64::MAX, 5), (6, 7)]])?;
     assert_eq!(rt; start.number(), 7);
     let sources = start.sources();
     assert_eq!(rt; sources.len(), 2);
@@ -162,11 +240,11 @@ fn a_start_tells_its_number_and_offsets(rt: HostRuntime) -> Result<(), Fail> {
 
 #[test]
 fn a_leg_stops_between_its_start_and_the_end(rt: HostRuntime) -> Result<(), Fail> {
-    let saved = saved(
+    let start = start_with(
         rt.alloc(),
+        1,
         &[&[(0, i64::MIN)], &[(1, i64::MAX), (0, i64::MAX), (1, 5)]],
     )?;
-    let start = Start::from_saved(1, saved);
     assert_eq!(rt; stop(&rt, &start, &Stop::Never)?, Ok(()));
     let cuts: [&[&[u64]]; 3] = [
         &[&[0], &[1, 0, 1]],
@@ -182,11 +260,11 @@ fn a_leg_stops_between_its_start_and_the_end(rt: HostRuntime) -> Result<(), Fail
 
 #[test]
 fn a_leg_stops_nowhere_else(rt: HostRuntime) -> Result<(), Fail> {
-    let saved = saved(
+    let start = start_with(
         rt.alloc(),
+        1,
         &[&[(0, i64::MIN)], &[(1, i64::MAX), (0, i64::MAX), (1, 5)]],
     )?;
-    let start = Start::from_saved(1, saved);
     let others: [&[&[u64]]; 7] = [
         &[&[0], &[1, 0, 0]],
         &[&[0], &[0, 0, 2]],

@@ -12,6 +12,7 @@ use Rattle.byte_fields.specs.Lists.{nothing, as_list, counted, listed}
 use Rattle.byte_fields.specs.Fields.{u8_field, few_field, u16_field, u64_field, i64_field, i128_field}
 use Rattle.plan_model.specs.Uids.{is_nat_within, uid_field}
 use Rattle.plan_model.specs.declared.spec.Pane.{Pane}
+use Rattle.plan_model.specs.declared.limits.TheConstants.{MOST_SOURCES, MOST_PARTITIONS, MOST_AGGREGATES, MOST_RECORDS}
 use Rattle.aggregates.specs.declared.kind.Kind.{Kind}
 use Rattle.aggregates.specs.declared.kind.Kind.TheVariants.{Count, Sum, Least, Greatest}
 use Rattle.aggregates.specs.Kinds.{is_number}
@@ -45,7 +46,7 @@ partition_field =
     (before u64_field (λ _. i64_field))
 
 unfoldable pub partitions_field : Format (List SavedPartition)
-partitions_field = listed (few_field 64) partition_field
+partitions_field = listed (few_field MOST_PARTITIONS) partition_field
 
 unfoldable pub source_field : Option (List ℕ) → Format SavedSource
 source_field last =
@@ -56,7 +57,7 @@ abbrev pub source_after : Option SavedSource → Format SavedSource
 source_after last = source_field (option_map (λ s. s.uid) last)
 
 unfoldable pub sources_field : Format (List SavedSource)
-sources_field = counted (few_field 8) source_after
+sources_field = counted (few_field MOST_SOURCES) source_after
 
 -- kinds of aggregates have the codes 0 to 3
 abbrev pub kind_code : Kind → ℕ
@@ -72,7 +73,7 @@ unfoldable pub kind_field : Format Kind
 kind_field = seen_as kind_of_code kind_code (λ _. true) (where_it (λ n. nat_le n 3) Range u8_field)
 
 unfoldable pub kinds_field : Format (List Kind)
-kinds_field = listed (few_field 8) kind_field
+kinds_field = listed (few_field MOST_AGGREGATES) kind_field
 
 -- the start of a window, and a key
 unfoldable pub pane_field : Format Pane
@@ -85,7 +86,7 @@ is_pane_after (Some last) q = int_lt last.start q.start || (int_eq last.start q.
 
 -- how many records a pane has: 1 to 2^40
 unfoldable pub count_field : Format ℕ
-count_field = where_it (is_nat_within 1 (2 ^ 40)) Range u64_field
+count_field = where_it (is_nat_within 1 MOST_RECORDS) Range u64_field
 
 -- a number that so many records can come to
 unfoldable pub number_of_kind : ℕ → Kind → Format ℤ

@@ -9,6 +9,7 @@ ghost use Rattle.byte_fields.specs.Reads.{Reads, Gives};
 ghost use Rattle.byte_fields.specs.Lists.{chain, last_of};
 ghost use Rattle.savepoint_codec.specs.Fields.{number_field, max_field, is_uid_after, partition_field, partitions_field, source_field, source_after, sources_field, kind_field, kinds_field};
 ghost use Rattle.savepoint_codec.specs.Layout.{record_field};
+ghost use Rattle.plan_model.specs.declared.limits.TheConstants.{MOST_AGGREGATES};
 
 use crate::savepoint::{SavedPartition, SavedSource};
 use aggregates::Kind;
@@ -17,7 +18,7 @@ use byte_fields::{
 };
 use key_groups::MOST_GROUPS;
 use plain_data::Items;
-use plan_model::read_uid;
+use plan_model::{MOST_AGGREGATES, MOST_PARTITIONS, MOST_SOURCES, read_uid};
 use std::alloc::Global;
 use std::cmp::Ordering;
 
@@ -96,7 +97,7 @@ fn read_partition_list(
 fn read_partitions(alloc: Global, bytes: &[u8]) -> Result<(Items<SavedPartition>, &[u8]), ReadFault>
     ensures { Gives (λ x. (x.0, x.1.now)) result (partitions_field.read bytes.now) }
 {
-    let (count, rest) = read_few(64, bytes)?;
+    let (count, rest) = read_few(MOST_PARTITIONS as u8, bytes)?;
     let (partitions, rest) = read_partition_list(alloc, count, rest)?;
     Ok((Items::from_vec(partitions), rest))
 }
@@ -153,7 +154,7 @@ pub(crate) fn read_sources(
 ) -> Result<(Items<SavedSource>, &[u8]), ReadFault>
     ensures { Gives (λ x. (x.0, x.1.now)) result (sources_field.read bytes.now) }
 {
-    let (count, rest) = read_few(8, bytes)?;
+    let (count, rest) = read_few(MOST_SOURCES as u8, bytes)?;
     let (sources, rest) = read_source_list(alloc, count, rest)?;
     Ok((Items::from_vec(sources), rest))
 }
@@ -190,9 +191,9 @@ fn read_kind_list(alloc: Global, count: u8, bytes: &[u8]) -> Result<(Vec<Kind>, 
 #[tactic(auto, unfolding(crate::specs::Fields::kinds_field, byte_fields::specs::Lists::counted))]
 pub(crate) fn read_kinds(alloc: Global, bytes: &[u8]) -> Result<(Items<Kind>, &[u8]), ReadFault>
     ensures read { Gives (λ x. (x.0, x.1.now)) result (kinds_field.read bytes.now) }
-    ensures few { IfOk result (λ x. length x.0 ≤ 8) }
+    ensures few { IfOk result (λ x. length x.0 ≤ MOST_AGGREGATES) }
 {
-    let (count, rest) = read_few(8, bytes)?;
+    let (count, rest) = read_few(MOST_AGGREGATES as u8, bytes)?;
     let (kinds, rest) = read_kind_list(alloc, count, rest)?;
     Ok((Items::from_vec(kinds), rest))
 }

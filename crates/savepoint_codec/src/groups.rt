@@ -6,17 +6,15 @@ ghost use Rattle.byte_fields.specs.Reads.{Reads, Gives, Fails};
 ghost use Rattle.byte_fields.specs.Lists.{chain, last_of};
 ghost use Rattle.savepoint_codec.specs.Reading.{TakesOne, entries_read};
 ghost use Rattle.savepoint_codec.specs.Fields.{number_of_kind, pane_field, is_pane_after, count_field, numbers_field, entry_field, entry_after, entries_field, group_number, is_number_after, group_field, group_after, groups_field};
+ghost use Rattle.plan_model.specs.declared.limits.TheConstants.{MOST_AGGREGATES, MOST_RECORDS};
 
 use crate::entries::{Entries, Entry};
 use crate::savepoint::SavedGroup;
 use aggregates::Kind;
 use byte_fields::{FieldFault, ReadFault, read_i64, read_i128, read_u16, read_u64};
 use plain_data::Items;
-use plan_model::Pane;
+use plan_model::{MOST_AGGREGATES, MOST_RECORDS, Pane};
 use std::alloc::Global;
-
-/// The greatest number of aggregates.
-const MOST_KINDS: usize = 8;
 
 #[tactic(auto, unfolding(crate::specs::Fields::pane_field))]
 fn read_pane(bytes: &[u8]) -> Result<(Pane, &[u8]), FieldFault>
@@ -40,10 +38,10 @@ fn is_after(last: Option<Pane>, pane: Pane) -> bool
 #[tactic(auto, unfolding(crate::specs::Fields::count_field))]
 fn read_count(bytes: &[u8]) -> Result<(u64, &[u8]), FieldFault>
     ensures read { Reads (λ x. (x.0, x.1.now)) result (count_field.read bytes.now) }
-    ensures few { IfOk result (λ x. x.0 ≤ 2 ^ 40) }
+    ensures few { IfOk result (λ x. x.0 ≤ MOST_RECORDS) }
 {
     let (count, rest) = read_u64(bytes)?;
-    if count < 1 || count > 1 << 40 {
+    if count < 1 || count > MOST_RECORDS {
         return Err(FieldFault::Range);
     }
     Ok((count, rest))
@@ -52,7 +50,7 @@ fn read_count(bytes: &[u8]) -> Result<(u64, &[u8]), FieldFault>
 /// A number that so many records can come to.
 #[tactic(auto, unfolding(crate::specs::Fields::number_of_kind))]
 fn read_number_of(kind: Kind, count: u64, bytes: &[u8]) -> Result<(i128, &[u8]), FieldFault>
-    requires { count ≤ 2 ^ 40 }
+    requires { count ≤ MOST_RECORDS }
     ensures { Reads (λ x. (x.0, x.1.now)) result ((number_of_kind count kind).read bytes.now) }
 {
     let (number, rest) = read_i128(bytes)?;
@@ -69,7 +67,7 @@ fn read_numbers<'a>(
     bytes: &'a [u8],
     numbers: &mut [i128],
 ) -> Result<&'a [u8], FieldFault>
-    requires few { count ≤ 2 ^ 40 }
+    requires few { count ≤ MOST_RECORDS }
     requires room { length numbers.old ≡ length kinds.now }
     ensures { Reads (λ rest. (numbers.new, rest.now)) result ((numbers_field kinds.now count).read bytes.now) }
 {
@@ -84,7 +82,7 @@ fn read_numbers<'a>(
 
 /// How many bytes an entry has: its pane, its count, and its numbers.
 fn entry_size(width: usize) -> usize
-    requires { width ≤ 8 }
+    requires { width ≤ MOST_AGGREGATES }
     ensures { result ≡ 24 + 16 * width }
 {
     24 + 16 * width
@@ -92,7 +90,7 @@ fn entry_size(width: usize) -> usize
 
 /// The least number of bytes of a key group: its number, the count of its entries, and one entry.
 fn least_group_size(width: usize) -> usize
-    requires { width ≤ 8 }
+    requires { width ≤ MOST_AGGREGATES }
     ensures { result ≡ 34 + 16 * width }
 {
     10 + entry_size(width)
@@ -115,7 +113,7 @@ fn read_entry_onto<'a>(
     bytes: &'a [u8],
 ) -> Result<(Pane, &'a [u8]), ReadFault>
     requires width { entries.old.width ≡ length kinds.now }
-    requires few { length kinds.now ≤ 8 }
+    requires few { length kinds.now ≤ MOST_AGGREGATES }
     ensures { MatchResult result (λ x. TakesOne entries.old entries.new x.0 x.1.now ((entry_field kinds.now last).read bytes.now))
         (λ fault. Fails fault ((entry_field kinds.now last).read bytes.now)) }
 {
@@ -124,7 +122,7 @@ fn read_entry_onto<'a>(
         return Err(ReadFault::Bytes(FieldFault::Order));
     }
     let (count, rest) = read_count(rest)?;
-    let mut numbers = [0; MOST_KINDS];
+    let mut numbers = [0; MOST_AGGREGATES];
     let rest = read_numbers(kinds, count, rest, &mut numbers[..kinds.len()])?;
     let numbers = &numbers[..kinds.len()];
     entries.push(Entry {
@@ -142,7 +140,7 @@ fn read_entry_list<'a>(
     count: u64,
     bytes: &'a [u8],
 ) -> Result<(Entries, &'a [u8]), ReadFault>
-    requires { length kinds.now ≤ 8 }
+    requires { length kinds.now ≤ MOST_AGGREGATES }
     ensures { Gives (λ x. (x.0, x.1.now)) result (entries_read kinds.now ((chain (entry_after kinds.now) None count).read bytes.now)) }
 {
     let mut entries = Entries::new(alloc, kinds.len());
@@ -164,7 +162,7 @@ fn read_entries<'a>(
     kinds: &[Kind],
     bytes: &'a [u8],
 ) -> Result<(Entries, &'a [u8]), ReadFault>
-    requires { length kinds.now ≤ 8 }
+    requires { length kinds.now ≤ MOST_AGGREGATES }
     ensures { Gives (λ x. (x.0, x.1.now)) result (entries_read kinds.now ((entries_field kinds.now).read bytes.now)) }
 {
     let (count, rest) = read_u64(bytes)?;
@@ -207,7 +205,7 @@ fn read_group<'a>(
     last: Option<u16>,
     bytes: &'a [u8],
 ) -> Result<(SavedGroup, &'a [u8]), ReadFault>
-    requires { length kinds.now ≤ 8 }
+    requires { length kinds.now ≤ MOST_AGGREGATES }
     ensures { Gives (λ x. (x.0, x.1.now)) result ((group_field max kinds.now last).read bytes.now) }
 {
     let (group, rest) = read_group_number(max, last, bytes)?;
@@ -232,7 +230,7 @@ fn read_group_list<'a>(
     count: u16,
     bytes: &'a [u8],
 ) -> Result<(Vec<SavedGroup>, &'a [u8]), ReadFault>
-    requires { length kinds.now ≤ 8 }
+    requires { length kinds.now ≤ MOST_AGGREGATES }
     ensures { Gives (λ x. (x.0.items, x.1.now)) result ((chain (group_after max kinds.now) None count).read bytes.now) }
 {
     let mut groups = Vec::new(alloc);
@@ -254,7 +252,7 @@ pub(crate) fn read_groups<'a>(
     kinds: &[Kind],
     bytes: &'a [u8],
 ) -> Result<(Items<SavedGroup>, &'a [u8]), ReadFault>
-    requires { length kinds.now ≤ 8 }
+    requires { length kinds.now ≤ MOST_AGGREGATES }
     ensures { Gives (λ x. (x.0, x.1.now)) result ((groups_field max kinds.now).read bytes.now) }
 {
     let (count, rest) = read_u16(bytes)?;

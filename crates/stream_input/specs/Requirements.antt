@@ -6,6 +6,7 @@ use Rattle.json_parts.specs.Answer.{otherwise}
 use Rattle.plain_data.specs.Record.{at}
 use Rattle.columns.specs.declared.TheConstants.{MOST_ROWS}
 use Rattle.plan_model.specs.PlanData.{PlanData}
+use Rattle.plan_model.specs.declared.limits.TheConstants.{MOST_RECORDS}
 use Rattle.stream_input.specs.declared.fault.InputFault.{InputFault}
 use Rattle.stream_input.specs.declared.fault.InputFault.TheVariants.{Source, Partitions, Width, Number, Rows, TimeRange, TooMany}
 use Rattle.stream_model.specs.InputData.{all_records}
@@ -68,7 +69,7 @@ late_record plan text = option_map late_fault (first_late plan.window.time (sour
 
 -- at most 2^40 records
 unfoldable pub is_few : PlanData → InputText → Bool
-is_few plan text = nat_le (length (all_records (sources_of plan text))) (2 ^ 40)
+is_few plan text = nat_le (length (all_records (sources_of plan text))) MOST_RECORDS
 
 unfoldable pub requirements : PlanData → List (InputText → Option InputFault)
 requirements plan = otherwise Source (has_sources plan) ∷ otherwise Partitions (has_partitions plan) ∷ otherwise Width (has_width plan) ∷ otherwise Number (has_numbers plan) ∷ otherwise Rows (has_rows plan) ∷ otherwise TimeRange (has_times plan) ∷ late_record plan ∷ otherwise TooMany (is_few plan) ∷ []

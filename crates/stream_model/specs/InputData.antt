@@ -3,6 +3,7 @@ use Rattle.std.specs.Prelude.{◌≡◌, ℕ, ◌^◌, ◌≤◌, List, [], leng
 use Rattle.std.specs.List.{All, flat_map}
 use Rattle.plain_data.specs.Record.{Record, at}
 use Rattle.plan_model.specs.PlanData.{PlanData}
+use Rattle.plan_model.specs.declared.limits.TheConstants.{MOST_RECORDS}
 pub use Rattle.plan_model.specs.Windows.{IsTime}
 use Rattle.stream_model.specs.declared.entry.Entry.{Entry}
 use Rattle.stream_model.specs.declared.entry.Entry.TheVariants.{Rows, Watermark}
@@ -41,7 +42,7 @@ IsEntry columns time (Watermark t) = IsTime t
 -- what every input that is read meets
 pub record IsInput (i : InputData) : Type 0 where
   pub entries : All (λ partitions. All (λ entries. All (IsEntry i.columns i.time) entries) partitions) i.sources
-  pub few : length (all_records i.sources) ≤ 2 ^ 40
+  pub few : length (all_records i.sources) ≤ MOST_RECORDS
 
 -- the input was read by the plan: its columns and time are the plan's, and it has the plan's sources and partitions
 pub record BelongsTo (plan : PlanData) (i : InputData) : Type 0 where

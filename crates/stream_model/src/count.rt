@@ -1,16 +1,15 @@
 //! How many records there are.
 
 ghost use Rattle.std.specs.Prelude.{◌≡◌, ◌+◌, ◌-◌, ◌^◌, nat_le, min, length};
+ghost use Rattle.plan_model.specs.declared.limits.TheConstants.{MOST_RECORDS};
 ghost use Rattle.stream_model.specs.InputData.{records_of_entry, records_in, records_in_source, all_records};
 
 use crate::entry::{Entry, Partition, Source};
-
-/// The most records that an input may have.
-const MOST_RECORDS: u64 = 1 << 40;
+use plan_model::MOST_RECORDS;
 
 /// Whether there are no more records than an input may have.
 pub fn is_few(sources: &[Source]) -> bool
-    ensures { result ≡ nat_le (length (all_records sources.now)) (2 ^ 40) }
+    ensures { result ≡ nat_le (length (all_records sources.now)) MOST_RECORDS }
 {
     let mut total = 0;
     for source in sources {

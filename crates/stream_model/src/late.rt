@@ -5,6 +5,7 @@ ghost use Rattle.std.specs.List.{All, list_any};
 ghost use Rattle.plain_data.specs.Record.{at};
 ghost use Rattle.stream_model.specs.InputData.{records_of_entry, IsEntry};
 ghost use Rattle.stream_model.specs.Late as lateness;
+ghost use Rattle.plan_model.specs.declared.limits.TheConstants.{MOST_SOURCES};
 
 use crate::entry::{Entry, Partition, Source};
 
@@ -13,7 +14,7 @@ use crate::entry::{Entry, Partition, Source};
 pub fn first_late(columns: usize, time: usize, sources: &[Source]) -> Option<(u32, (u32, u64))>
     requires time_in { time < columns }
     requires sound { All (λ ps. All (λ es. All (IsEntry columns time) es) ps) sources.now }
-    requires sources_few { length sources.now ≤ 8 }
+    requires sources_few { length sources.now ≤ MOST_SOURCES }
     requires partitions_few { All (λ ps. length ps ≤ 64) sources.now }
     ensures { result ≡ lateness.first_late time sources.now }
 {

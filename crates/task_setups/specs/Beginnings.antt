@@ -1,6 +1,7 @@
 -- What the tasks of a leg begin with.
 use Rattle.std.specs.Prelude.{◌≡◌, ℕ, ◌^◌, ◌<◌, ℤ, List, length, Option, option_map}
 use Rattle.plan_model.specs.PlanData.{PlanData, IsPlan}
+use Rattle.plan_model.specs.declared.limits.TheConstants.{MOST_RECORDS}
 use Rattle.window_state.specs.State.{StateData}
 use Rattle.dataflow_model.specs.declared.role.Role.TheVariants.{Source}
 use Rattle.dataflow_model.specs.Leg.{Leg}
@@ -17,7 +18,7 @@ pub record Suits (p : PlanData) (leg : Leg) (stages : List Stage) (t : ℕ) (off
   pub marked : length marks ≡ (setup_of p leg stages t).inputs
   pub placed : (setup_of p leg stages t).role ≡ Source → length offsets ≡ (setup_of p leg stages t).inputs
   pub operator : option_map (λ w. w.window) window ≡ window_of p stages t
-  pub counts : HasCounts (2 ^ 40) (windows_in window)
+  pub counts : HasCounts MOST_RECORDS (windows_in window)
 
 -- a task of a compiled layout can begin with what suits it, in a leg that takes no savepoint while it goes on
 abbrev pub EveryTaskBegins : Type 0

@@ -1,6 +1,8 @@
 -- What is spread over outputs.
-use Rattle.std.proofs.Common.{◌≡◌, ℕ, zero, suc, ◌<◌, ◌==◌, Bool, true, false, List, [], ◌∷◌, ◌++◌, map, length, refl, sym, ap, ◌∙◌, arith, inl, inr, eq-eqb}
-use Rattle.std.specs.Prelude.{if◌then◌else◌, Option, Some, None}
+use Rattle.std.proofs.Common.{◌≡◌, ℕ, zero, suc, ◌*◌, ◌/◌, ◌<◌, ◌≤◌, ◌==◌, Bool, true, false, List, [], ◌∷◌, ◌++◌, map, length, refl, sym, ap, ◌∙◌, arith, inl, inr, eq-eqb}
+use Rattle.std.specs.Prelude.{ℤ, if◌then◌else◌, Option, Some, None}
+use Rattle.std.proofs.Math.Nat.{mul-one, div-eq_of_lt}
+use Rattle.key_groups.specs.Groups.{key_group}
 use Rattle.std.specs.List.{filter, range_with_len}
 use Rattle.plain_data.specs.Record.{Record, at}
 use Rattle.columns.specs.Table.{Table}
@@ -65,6 +67,24 @@ sends_dealt s key c t = numbered_spread (dealt s.max s.par key t) s.par
 
 pub sends_split : (s : Split) (n key c : ℕ) (t : Table) → s.par ≡ n → sends (Some s) s.par key 0 t ≡ sends (Some s) n key c t
 sends_split s n key c t e = ap (λ k. sends (Some s) k key c t) e
+
+filter_none : {X : Type 0} (test : X → Bool) (xs : List X) → ((x : X) → test x ≡ false) → filter test xs ≡ []
+filter_none test [] h = refl
+filter_none test (x ∷ xs) h = rw (h x) (filter_none test xs h)
+
+-- one subtask owns every key
+owner_one : (max par : ℕ) (key : ℤ) → par ≡ 1 → 1 ≤ max → owner max par key ≡ 0
+owner_one max par key one l =
+    let h : key_group max key < max = omega arith in
+    ap (λ p. key_group max key * p / max) one ∙ ap (λ n. n / max) (mul-one (key_group max key)) ∙ div-eq_of_lt h
+
+pub sends_one : (s : Split) (key c : ℕ) (t : Table) → s.par ≡ 1 → 1 ≤ s.max → (t.rows ≡ [] → ⊥) → sends (Some s) s.par key c t ≡ (0, Rows t) ∷ []
+sends_one s key c t one l ne =
+    let own = λ (r : Record). owner_one s.max s.par (at key r) one l in
+    spread_one (λ j. batch t.width (filter (λ r. owner s.max s.par (at key r) == j) t.rows)) 0 s.par (omega arith)
+    (λ j other. ap (batch t.width) (filter_none (λ r. owner s.max s.par (at key r) == j) t.rows (λ r. ap (λ n. n == j) (own r) ∙ ne_eqb 0 j (λ e. other (sym e)))))
+    ∙ ap (λ l. map (λ m. (0, m)) (batch t.width l)) (filter_all (λ r. owner s.max s.par (at key r) == 0) t.rows (λ r. ap (λ n. n == 0) (own r)))
+    ∙ ap (map (λ m. (0, m))) (batch_some t.width t.rows ne)
 
 -- without filters every record passes
 pub filter_nothing : (fs : List FilterSpec) (rows : List Record) → true ≡ (length fs == 0) → filter (passes fs) rows ≡ rows

@@ -4,6 +4,7 @@ use Rattle.std.specs.List.{All}
 use Rattle.plain_data.specs.Record.{at}
 use Rattle.columns.specs.Table.{Table}
 use Rattle.plan_model.specs.Windows.{IsTime}
+use Rattle.plan_model.specs.declared.limits.TheConstants.{MOST_RECORDS}
 use Rattle.input_state.specs.Inputs.{is_free, shut_at}
 use Rattle.dataflow_model.specs.Role.{is_source, takes_rows}
 use Rattle.task_steps.specs.TaskData.{TaskData}
@@ -18,4 +19,4 @@ pub record AreAdmitted (t : TaskData) (batch : Table) : Type 0 where
   pub taker : takes_rows t.setup.role ≡ true
   pub width : batch.width ≡ t.setup.columns
   pub times : All (λ r. IsTime (at t.setup.time r)) batch.rows
-  pub few : t.state.taken + length batch.rows ≤ 2 ^ 40
+  pub few : t.state.taken + length batch.rows ≤ MOST_RECORDS

@@ -9,6 +9,7 @@ use Rattle.plan_model.specs.declared.spec.Pane.{Pane}
 use Rattle.plan_model.specs.PlanData.{PlanData}
 use Rattle.plan_model.specs.Windows.{passes}
 use Rattle.plan_model.specs.Aggregates.{Aggregated}
+use Rattle.plan_model.specs.declared.limits.TheConstants.{MOST_RECORDS}
 use Rattle.window_state.specs.State.{StateData}
 use Rattle.window_state.specs.Windows.{CanAggregate}
 use Rattle.input_state.specs.Inputs.{all_shut, any_held}
@@ -70,7 +71,7 @@ IsTurn role.Sink cursor outputs = Unit {0}
 -- a window's task has the plan's operator; its counts come from a start's, at most 2^40, and the records taken, unless an `add` found no memory
 abbrev pub IsWindowing : Setup → ℕ → Bool → Option StateData → Type 0
 IsWindowing s taken has_failed None = s.role ≡ role.Window → ⊥
-IsWindowing s taken has_failed (Some w) = CanAggregate s.columns w.window × (w.window.time ≡ s.time) × (s.having ≡ w.window.having) × (has_failed ≡ false → HasCounts (2 ^ 40 + taken) w.windows)
+IsWindowing s taken has_failed (Some w) = CanAggregate s.columns w.window × (w.window.time ≡ s.time) × (s.having ≡ w.window.having) × (has_failed ≡ false → HasCounts (MOST_RECORDS + taken) w.windows)
 
 pub record IsTask (t : Inside) : Type 0 where
   pub room : 2 * t.setup.outputs + 1 ≤ deque_capacity t.pending
@@ -82,7 +83,7 @@ pub record IsTask (t : Inside) : Type 0 where
   pub windowing : IsWindowing t.setup t.taken t.has_failed t.window
   pub marks : length t.inputs.marks ≡ t.setup.inputs
   pub shut : length t.inputs.shut ≡ t.setup.inputs
-  pub taken : t.taken ≤ 2 ^ 40
+  pub taken : t.taken ≤ MOST_RECORDS
   -- a task that keeps no savepoint's state is for legs that take none while they go on
   pub saves : t.setup.saves ≡ 0
   pub offsets : t.setup.role ≡ role.Source → length t.offsets.items ≡ t.setup.inputs

@@ -38,7 +38,7 @@ fn next_turn(cursor: u32, outputs: u32) -> u32
 }
 
 /// Makes records pending, each for the output that owns its key.
-pub(crate) fn send_split(
+fn send_dealt(
     alloc: Global,
     split: Split,
     key: u32,
@@ -59,6 +59,31 @@ pub(crate) fn send_split(
     let pieces = pieces_of(alloc, max, par, key, batch)?;
     to_each(pending, pieces);
     Ok(())
+}
+
+/// Makes records pending, each for the output that owns its key. Those for one output are moved.
+pub(crate) fn send_split(
+    alloc: Global,
+    split: Split,
+    key: u32,
+    pending: &mut VecDeque<(u32, Message)>,
+    batch: Batch,
+) -> Result<(), AllocError>
+    requires idle { pending.old.items ≡ [] }
+    requires room { deque_len pending.old + split.par ≤ deque_capacity pending.old }
+    requires fits { split.par ≤ split.max }
+    requires key { key < batch.width }
+    requires some { batch.rows ≡ [] → ⊥ }
+    ensures pending { OnOk result (pending.new.items ≡ sends (Some split) split.par key 0 batch) }
+    ensures kept { OnErr result (pending.new.items ≡ pending.old.items) }
+    ensures capacity { deque_capacity pending.new ≡ deque_capacity pending.old }
+{
+    let _groups = split.max.get();
+    if split.par.get() == 1 {
+        pending.push_back_reserved((0, Message::Rows(batch)));
+        return Ok(());
+    }
+    send_dealt(alloc, split, key, pending, &batch)
 }
 
 /// Makes records pending that have passed the filters. Where no memory is to be had, nothing has changed.
@@ -87,7 +112,7 @@ pub(crate) fn send(
     }
     match split {
         None => pending.push_back_reserved((*cursor, Message::Rows(batch))),
-        Some(split) => send_split(alloc, split, key, pending, &batch)?,
+        Some(split) => send_split(alloc, split, key, pending, batch)?,
     }
     *cursor = next_turn(*cursor, outputs);
     Ok(())

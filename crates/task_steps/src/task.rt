@@ -21,15 +21,12 @@ use dataflow_model::{Ending, Message, Role};
 use input_flow::brought;
 use input_state::{Aligned, Inputs};
 use plain_data::Items;
-use plan_model::Row;
+use plan_model::{MOST_RECORDS, Row};
 use std::alloc::{AllocError, Global};
 use std::collections::VecDeque;
 use std::marker::Model;
 use stream_input::Input;
 use window_state::WindowState;
-
-/// How many records a task takes in a leg: as many as an input has at most.
-const MOST_RECORDS: u64 = 1 << 40;
 
 /// One task of a leg: a source, a chain of filters, a window or the sink. It borrows nothing.
 #[derive(Drop)]
@@ -40,6 +37,8 @@ pub struct Task {
     opened: bool,
     over: bool,
     offsets: Vec<u64>,
+    /// Of a source: the place of the partition that it read last.
+    reads: u32,
     inputs: Inputs,
     cursor: u32,
     taken: u64,
@@ -106,6 +105,7 @@ impl Task {
             opened: false,
             over: false,
             offsets,
+            reads: 0,
             inputs,
             cursor: 0,
             taken: 0,
@@ -459,6 +459,13 @@ impl Task {
     fn place(&self, number: u32) -> Option<u32>
         ensures { MatchOption result (HasMine self.now number → ⊥) (λ q. IsMine self.now number q) }
     {
+        let next = self.reads.saturating_add(1);
+        if self.is_mine(number, next) {
+            return Some(next);
+        }
+        if self.is_mine(number, self.reads) {
+            return Some(self.reads);
+        }
         let inputs = self.setup.inputs;
         for q in 0..inputs {
             if self.is_mine(number, q) {
@@ -532,6 +539,7 @@ impl Task {
                 let low = self.inputs.watermark(q as usize, t);
                 announce(&mut self.pending, self.setup.outputs, low);
                 self.offsets[q as usize] = n + 1;
+                self.reads = q;
                 Ok(())
             }
             Err(_) => {

@@ -9,6 +9,7 @@ use Rattle.plan_model.specs.declared.spec.Pane.{Pane}
 use Rattle.plan_model.specs.PlanData.{IsWindow, has_column}
 use Rattle.plan_model.specs.Aggregates.{Aggregated}
 use Rattle.plan_model.specs.Rows.{pane_cmp}
+use Rattle.plan_model.specs.declared.limits.TheConstants.{MOST_AGGREGATES}
 use Rattle.aggregates.specs.Kinds.{AccData, kind_of}
 
 -- p is the pane q
@@ -43,7 +44,7 @@ pub record AreOrdered (panes : List Pane) (es : List (Pane × AccData)) : Type 0
 pub record IsOperator (w : WindowSpec) : Type 0 where
   pub range : IsWindow w
   pub some : 1 ≤ length w.aggregates
-  pub few : length w.aggregates ≤ 8
+  pub few : length w.aggregates ≤ MOST_AGGREGATES
 
 -- it finds its columns in records of the width
 pub record CanAggregate (width : ℕ) (w : WindowSpec) : Type 0 where

@@ -1,13 +1,8 @@
-use Rattle.std.proofs.Common.{sym, ap, ◌∙◌, inl, inr}
+use Rattle.std.proofs.Common.{inl, inr}
 use Rattle.std.proofs.lemmas.Bool.{cases_Bool}
-use Rattle.core_steps.specs.Given.{GivenData}
-use Rattle.leg_runs.proofs.Orders.{missed, is_task}
+use Rattle.leg_runs.proofs.Orders.{missed}
 use Rattle.leg_runs.proofs.Falling.{step_falls}
 use Rattle.leg_runs.proofs.running.run.Goals as goal
-
-pub first_after-first-requires : goal.first_after-first-requires
-first_after-first-requires c =
-    is_task c.loop-step.world c.args.layout.now c.in-Some.step c.has_failed-failed.ensures.sound (c.requires.same ∙ ap (λ (g : GivenData). g.layout) (sym c.loop-step.invariant.0)) c.in-Some.ensures
 
 pub loop-step-smaller : goal.loop-step-smaller
 loop-step-smaller c = step_falls c.loop-step.world c.apply.new.self c.in-Some.step c.has_failed-failed.ensures.sound c.loop-step.invariant.1 c.in-Ok.ensures.2 c.in-Ok.ensures.3

@@ -1,33 +1,31 @@
-use Rattle.std.proofs.Common.{◌≡◌, [], ◌∷◌, ◌++◌, map, sym, ap, subst, ◌∙◌, arith}
-use Rattle.std.specs.List.{range_with_len}
-use Rattle.std.proofs.lemmas.List.FromFn.{map-range_with_len_more}
+use Rattle.std.proofs.Common.{sym, ap, subst}
+use Rattle.stream_model.specs.InputData.{InputData}
 use Rattle.layout_rules.specs.Rules.{IsCompiled}
-use Rattle.layout_rules.specs.Stages.{task_count}
 use Rattle.layout_rules.proofs.Facts.{compiled_ever}
+use Rattle.leg_lists.specs.declared.stop.Stop.{Stop}
+use Rattle.leg_lists.specs.declared.stop.Stop.TheVariants.{Never, At}
 use Rattle.leg_lists.specs.Stops.{until_of}
-use Rattle.task_setups.specs.Legs.{leg_over}
-use Rattle.leg_tasks.specs.Beginning.{first_task, layout_over, BeginLeg}
-use Rattle.leg_tasks.proofs.Starting.{first_tasks_begin}
+use Rattle.dataflow_laws.specs.Compiled.{layout_to}
+use Rattle.redistribute.specs.StartData.{StartData, offsets_of}
+use Rattle.redistribute.specs.Stopping.{CanStop}
+use Rattle.task_setups.specs.Laws.{IsWithin}
+use Rattle.leg_tasks.specs.Beginning.{BeginLeg}
+use Rattle.leg_tasks.proofs.Starting.{new_tasks_begin}
 use Rattle.leg_tasks.proofs.beginning.tasks.Goals as goal
 
-pub loop-task-preserved : goal.loop-task-preserved
-loop-task-preserved c =
-    let leg = leg_over c.args.leg.now c.args.input.now in
-    let t = c.loop-task.task in
-    let f = first_task c.args.plan.now c.args.input.now leg c.args.layout.now.stages in
-    c.in_ok-push.ensures.items
-    ∙ ap (λ ts. ts ++ c.in_ok-first_task.field-0 ∷ []) c.loop-task.invariant
-    ∙ ap (λ x. map f (range_with_len 0 t) ++ x ∷ []) c.in_ok-first_task.ensures
-    ∙ sym (map-range_with_len_more f 0 t t (omega arith))
+-- a leg that can stop so stops at a cut of the input, if at any
+stays_within : (i : InputData) (s : StartData) (stop : Stop) → CanStop i.sources (offsets_of s) stop → IsWithin i (until_of stop)
+stays_within i s Never can = tt
+stays_within i s (At cut) can = can.0
 
 pub returns-clause-begin : goal.returns-clause-begin
 returns-clause-begin c =
     let p = c.args.plan.now in
     let i = c.args.input.now in
+    let s = c.args.start.now in
     let l = c.args.layout.now in
     let leg = c.args.leg.now in
     let made = c.requires.laid_out in
     let compiled : IsCompiled p made.scale l.stages = subst (IsCompiled p made.scale) (sym (ap (λ m. m.stages) made.is)) (compiled_ever p made.scale) in
-    let all : c.loop-task.task ≡ task_count l.stages = omega (arith, c.loop-task-test.false, c.loop-task.auto.task-end, c.task_count-task-end.ensures.says) in
-    let are = c.loop-task.invariant ∙ ap (λ n. map (first_task p i (leg_over leg i) l.stages) (range_with_len 0 n)) all in
-    subst (BeginLeg p i (layout_over p i leg l)) (sym are) (first_tasks_begin p made.scale i leg.number (until_of leg.stop) l.stages c.columns-columns.ensures.sound made.fits compiled c.requires.belongs c.requires.within)
+    subst (BeginLeg p i s l.stages (layout_to p i leg.number (until_of leg.stop) l.stages)) (sym c.in_ok-tasks_from.ensures)
+    (new_tasks_begin p made.scale i s leg.number (until_of leg.stop) l.stages c.columns-columns.ensures.sound made.fits compiled c.requires.belongs (stays_within i s leg.stop c.in_ok-check_stop.ensures) (ap (λ (z : StartData). z.groups) c.requires.starts.is))

@@ -1,10 +1,30 @@
-use Rattle.core_steps.specs.Given.{given_data}
+use Rattle.std.proofs.Common.{◌≡◌, subst}
+use Rattle.leg_lists.specs.Stops.{until_of}
+use Rattle.dataflow_laws.specs.Compiled.{layout_to}
+use Rattle.redistribute.proofs.Facts.{tasks_open}
+use Rattle.leg_tasks.specs.Beginning.{BeginLeg}
+use Rattle.core_steps.specs.Given.{GivenData, given_data, layout_in}
+use Rattle.core_steps.specs.World.{IsSound}
+use Rattle.core_steps.specs.Beginning.{AreNewTasks}
 use Rattle.core_steps.proofs.Sound.{sound}
+use Rattle.core_steps.proofs.Legs.{are_new_tasks}
 use Rattle.core_steps.proofs.Beginning.{is_world, is_new}
 use Rattle.core_steps.proofs.world.World.new.Goals as goal
 
 pub invariant_of-world : goal.invariant_of-world
-invariant_of-world c = is_world (given_data c.args.given) c.args.tasks.items c.in_ok-rings.rings (sound (given_data c.args.given) c.columns-columns.ensures.sound c.sources-sources.ensures.sound c.requires.laid_out c.requires.belongs c.requires.start) c.requires.tasks c.in_ok-rings.ensures
+invariant_of-world c =
+    let g = given_data c.args.given c.args.stop in
+    let tasks = c.in_ok-tasks.tasks.items in
+    let begin : BeginLeg g.plan g.input g.start g.layout.stages (layout_in g) tasks = subst (λ n. BeginLeg g.plan g.input g.start g.layout.stages (layout_to g.plan g.input n (until_of g.stop) g.layout.stages) tasks) c.number.ensures c.in_ok-tasks.ensures.begin in
+    let begins = tasks_open g.plan g.layout g.input g.start g.stop c.columns-columns.ensures.sound c.requires.laid_out c.requires.belongs c.requires.starts c.in_ok-tasks.ensures.stops in
+    let s = sound g c.columns-columns.ensures.sound c.sources-sources.ensures.sound c.requires.laid_out c.requires.belongs begins in
+    is_world g tasks c.in_ok-rings.rings s (are_new_tasks g tasks s c.requires.belongs begin) c.in_ok-rings.ensures
 
-pub returns : goal.returns
-returns c = is_new (given_data c.args.given) c.args.tasks.items c.in_ok-rings.rings c.requires.tasks c.in_ok-rings.ensures
+pub returns-clause-opens : goal.returns-clause-opens
+returns-clause-opens c =
+    let g = given_data c.args.given c.args.stop in
+    let tasks = c.in_ok-tasks.tasks.items in
+    let begin : BeginLeg g.plan g.input g.start g.layout.stages (layout_in g) tasks = subst (λ n. BeginLeg g.plan g.input g.start g.layout.stages (layout_to g.plan g.input n (until_of g.stop) g.layout.stages) tasks) c.number.ensures c.in_ok-tasks.ensures.begin in
+    let begins = tasks_open g.plan g.layout g.input g.start g.stop c.columns-columns.ensures.sound c.requires.laid_out c.requires.belongs c.requires.starts c.in_ok-tasks.ensures.stops in
+    let s = sound g c.columns-columns.ensures.sound c.sources-sources.ensures.sound c.requires.laid_out c.requires.belongs begins in
+    is_new g tasks c.in_ok-rings.rings (are_new_tasks g tasks s c.requires.belongs begin) c.in_ok-rings.ensures

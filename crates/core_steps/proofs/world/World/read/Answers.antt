@@ -1,7 +1,11 @@
 use Rattle.dataflow_laws.specs.declared.step.Step.TheVariants.{Read}
 use Rattle.core_steps.specs.World.{world_view}
 use Rattle.core_steps.proofs.Local.{answers_of, no_task, read_goes}
+use Rattle.core_steps.proofs.Worlds.{placed_at}
 use Rattle.core_steps.proofs.world.World.read.Goals as goal
+
+pub read-answer-requires-clause-input : goal.read-answer-requires-clause-input
+read-answer-requires-clause-input c = (placed_at (world_view c.self.inside) c.args.task c.in-Some.source.now c.self.invariant c.in-Some.ensures.item.3.0 c.in-Some.ensures.value).has
 
 pub invariant_of-self-2 : goal.invariant_of-self-2
 invariant_of-self-2 c =

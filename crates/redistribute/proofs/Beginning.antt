@@ -1,0 +1,40 @@
+-- Starts at cuts of an input.
+use Rattle.std.proofs.Common.{◌≡◌, ℕ, ◌≤◌, ◌^◌, List, [], ◌∷◌, length, map, refl, sym, ap, subst, ◌∙◌}
+use Rattle.std.specs.List.{AllZip}
+use Rattle.plan_model.specs.PlanData.{PlanData}
+use Rattle.stream_model.specs.declared.entry.Entry.{Entry}
+use Rattle.stream_model.specs.InputData.{InputData}
+use Rattle.stream_model.specs.Watermarks.{IsCut, empty_cut}
+use Rattle.stream_model.specs.PlanRows.{snapshot}
+use Rattle.stream_model.proofs.Facts.{nothing_at_first}
+use Rattle.input_flow.proofs.Facts.{empty_is_cut}
+use Rattle.redistribute.specs.StartData.{offsets_of}
+use Rattle.redistribute.specs.Snapshots.{saved_source, start_at}
+use Rattle.redistribute.specs.Begins.{IsStartIn, HasSnapshot}
+
+-- the start at a cut begins there
+offsets_in : (ps : List (List Entry)) (ns : List ℕ) → AllZip (λ p n. n ≤ length p) ps ns → map (λ p. p.offset) (saved_source ps ns) ≡ ns
+offsets_in [] [] h = refl
+offsets_in [] (n ∷ ns) h = absurd h
+offsets_in (p ∷ ps) [] h = absurd h
+offsets_in (p ∷ ps) (n ∷ ns) h = ap (λ z. n ∷ z) (offsets_in ps ns h.1)
+
+pub offsets_at : (ss : List (List (List Entry))) (cs : List (List ℕ)) (n : ℕ) → IsCut ss cs → offsets_of (start_at ss cs n) ≡ cs
+offsets_at [] [] n h = refl
+offsets_at [] (c ∷ cs) n h = absurd h
+offsets_at (s ∷ ss) [] n h = absurd h
+offsets_at (s ∷ ss) (c ∷ cs) n h = λ j. offsets_in s c h.0 j ∷ offsets_at ss cs n h.1 j
+
+pub starts_in : (i : InputData) (cut : List (List ℕ)) (n : ℕ) → IsCut i.sources cut → n ≤ 2 ^ 63 → IsStartIn i (start_at i.sources cut n)
+starts_in i cut n is_cut few =
+    let same = offsets_at i.sources cut n is_cut in
+    record {
+      cut = subst (IsCut i.sources) (sym same) is_cut;
+      is = ap (λ c. start_at i.sources c n) (sym same);
+      number = few;
+    }
+
+-- ---- the empty cut
+
+pub empty_has_snapshot : (p : PlanData) (i : InputData) (n : ℕ) → HasSnapshot p i (start_at i.sources (empty_cut i.sources) n)
+empty_has_snapshot p i n q = ap (λ cut. snapshot p i.sources cut q) (offsets_at i.sources (empty_cut i.sources) n (empty_is_cut i.sources)) ∙ nothing_at_first p i.sources q

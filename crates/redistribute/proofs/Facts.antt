@@ -1,0 +1,2 @@
+-- PUBLIC: the lemmas that crates above cite. Nothing else of proofs/ is theirs to import.
+pub use Rattle.redistribute.proofs.Opened.{bare, tasks_open, tasks_have_snapshot}

@@ -1,0 +1,5 @@
+mod Sound
+mod Counts
+mod Folded
+mod Windows
+mod Shape
