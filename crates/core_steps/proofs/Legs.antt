@@ -1,10 +1,8 @@
 -- The tasks of a leg begin as a world asks.
-use Rattle.std.proofs.Common.{◌≡◌, ℕ, ◌≤◌, true, List, get_or, sym, ap, ◌∙◌, arith}
-use Rattle.plan_model.specs.PlanData.{IsPlan}
+use Rattle.std.proofs.Common.{◌≡◌, ◌≤◌, true, List, get_or, sym, ap, ◌∙◌, arith}
 use Rattle.stream_model.specs.InputData.{BelongsTo}
 use Rattle.dataflow_model.specs.Role.{is_source}
 use Rattle.dataflow_model.proofs.Facts.{source_yes}
-use Rattle.layout_rules.specs.Stages.{task_count}
 use Rattle.task_steps.specs.TaskData.{TaskData}
 use Rattle.task_steps.specs.Reading.{HasPartitions, ReadsFrom}
 use Rattle.leg_tasks.specs.Beginning.{BeginLeg}

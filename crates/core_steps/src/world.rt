@@ -81,7 +81,7 @@ impl<'a> World<'a> {
     ) -> Result<World<'a>, LegFault>
         requires laid_out { IsLayoutOf given.plan.now given.layout.now }
         requires belongs { BelongsTo given.plan.now given.input.now }
-        requires starts { IsStartIn given.input.now given.start.now }
+        requires starts { IsStartIn given.plan.now given.input.now given.start.now }
         ensures stops { OnOk result (CanStop given.entry.input.now.sources (offsets_of given.entry.start.now) stop) }
         ensures opens { IfOk result (λ world. IsNewWorld (given_data given.entry stop) world) }
         ensures refused { IfErr result (λ fault. IsRefusal given.entry.input.now.sources (offsets_of given.entry.start.now) stop fault) }

@@ -1,11 +1,12 @@
 -- A world that has run delivers the rows that become due.
-use Rattle.std.proofs.Common.{◌≡◌, ℕ, Bool, true, false, List, [], refl, sym, ap, subst, ◌∙◌}
+use Rattle.std.proofs.Common.{◌≡◌, ℕ, Bool, true, false, map, sym, ap, subst, ◌∙◌}
+use Rattle.std.specs.FinMap.{get, get-empty, from_entries}
+use Rattle.std.specs.List.{flat_map}
 use Rattle.std.specs.Prelude.{Option, None, ◌==◌, if◌then◌else◌}
 use Rattle.plan_model.specs.PlanData.{PlanData, IsPlan}
-use Rattle.plan_model.specs.declared.spec.Pane.{Pane}
-use Rattle.plan_model.specs.Rows.{AreRowsOf}
+use Rattle.plan_model.specs.Rows.{pane_cmp, AreRowsOf}
 use Rattle.stream_model.specs.InputData.{InputData, IsInput, BelongsTo}
-use Rattle.stream_model.specs.Watermarks.{IsOrderly, IsCut, empty_cut}
+use Rattle.stream_model.specs.Watermarks.{IsOrderly, IsCut}
 use Rattle.stream_model.specs.PlanRows.{plan_rows, snapshot}
 use Rattle.stream_model.proofs.Facts.{nothing_at_first}
 use Rattle.dataflow_model.specs.Leg.Until.{ToEnd, TillAsked}
@@ -29,6 +30,8 @@ use Rattle.input_flow.specs.InputEntries.{input_of, counts_at}
 use Rattle.input_flow.proofs.Facts.{full_is_cut, empty_counts}
 use Rattle.redistribute.specs.StartData.{StartData, offsets_of}
 use Rattle.redistribute.specs.Begins.{IsStartIn, IsFromNothing, HasSnapshot}
+use Rattle.window_state.specs.Parts.{entries_of}
+use Rattle.redistribute.specs.Parts.{part_of}
 use Rattle.redistribute.specs.Stopping.{CanStop}
 use Rattle.redistribute.proofs.Facts.{tasks_have_snapshot}
 use Rattle.core_steps.specs.Given.{GivenData, layout_in, start_in}
@@ -51,10 +54,13 @@ none_there false x y none e = e
 
 -- at the beginning nothing is in the windows
 none_at_first : (p : PlanData) (i : InputData) (s : StartData) → IsFromNothing i s → HasSnapshot p i s
-none_at_first p i s nothing q = ap (λ cut. snapshot p i.sources cut q) nothing.offsets ∙ nothing_at_first p i.sources q
+none_at_first p i s nothing q =
+    ap (λ gs. get {R = pane_cmp} (from_entries (entries_of (flat_map (λ g. map (part_of s.kinds) g.entries.entries) gs))) q) nothing.groups
+    ∙ get-empty pane_cmp q
+    ∙ sym (ap (λ cut. snapshot p i.sources cut q) nothing.offsets ∙ nothing_at_first p i.sources q)
 
 module _ (p : PlanData) (c : ScaleData) (i : InputData) (s : StartData) (l : LayoutData) (ip : IsPlan p) (sc : IsScale p c) (is : IsCompiled p c l.stages) (laid : IsLayoutOf p l)
-    (input : IsInput i) (orderly : IsOrderly i.time i.sources) (belongs : BelongsTo p i) (starts : IsStartIn i s) where
+    (input : IsInput i) (orderly : IsOrderly i.time i.sources) (belongs : BelongsTo p i) (starts : IsStartIn p i s) where
   abbrev pub given_to : Stop → GivenData
   given_to stop = record { plan = p; input = i; start = s; layout = l; stop = stop }
 
@@ -88,7 +94,7 @@ module _ (p : PlanData) (c : ScaleData) (i : InputData) (s : StartData) (l : Lay
       let has = none_at_first p i s nothing in
       let cut = (tasks_have_snapshot p l i s Never ip laid belongs starts has).0 in
       let at : AreAt (input_of p i) (layout_in g) (start_in g) (λ q. 0) = subst (AreAt (input_of p i) (layout_in g) (start_in g)) (ap (counts_at p) nothing.offsets ∙ empty_counts p i) cut.offsets in
-      let none : HaveNothing (input_of p i) (layout_in g) (start_in g) = record { offsets = at; windows = λ u lo hi q. none_there ((layout_in g).owner q.key == u) (snapshot p i.sources (offsets_of s) q) _ (has q) (cut.windows u lo hi q) } in
+      let none : HaveNothing (input_of p i) (layout_in g) (start_in g) = record { offsets = at; windows = λ u lo hi q. none_there ((layout_in g).owner q.key == u) (snapshot p i.sources (offsets_of s) q) _ (ap (λ cut. snapshot p i.sources cut q) nothing.offsets ∙ nothing_at_first p i.sources q) (cut.windows u lo hi q) } in
       let h = end Never w world fine given finished in
       let rows = all_rows s.number nothing.number (start_in g) (opens Never w world fine given finished) none h.0 (done Never w world fine given finished) in
       subst (λ (x : GivenData). AreRowsOf (plan_rows p i.sources) ((world_in w).tasks (layout_in x).sink).rows) (sym given) (subst (λ (f : ℕ → State). AreRowsOf (plan_rows p i.sources) (f (layout_in g).sink).rows) h.1.tasks rows)

@@ -43,7 +43,7 @@ pub fn run_leg_by(
 ) -> Result<Finish, LegFault>
     requires belongs { BelongsTo plan.now input.now }
     requires scale { IsScale plan.now scale.now }
-    requires starts { IsStartIn input.now start.now }
+    requires starts { IsStartIn plan.now input.now start.now }
     ensures stops { OnOk result (CanStop input.now.sources (offsets_of start.now) stop) }
     ensures ends { IfOk result (λ finish. IsEndOf plan.now input.now start.now stop finish) }
     ensures whole { IfOk result (λ finish. IsFromNothing input.now start.now → stop ≡ Never → IsWholeRun plan.now input.now finish) }

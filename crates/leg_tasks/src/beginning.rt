@@ -1,7 +1,6 @@
 //! The tasks of a leg, made.
 
-ghost use Rattle.std.specs.Prelude.{◌≡◌, ◌<◌, [], IfErr, IfOk, OnOk};
-ghost use Rattle.layout_rules.specs.Layouts.{partition_counts};
+ghost use Rattle.std.specs.Prelude.{◌≡◌, ◌<◌, IfErr, IfOk, OnOk};
 ghost use Rattle.layout_rules.specs.Stages as rule;
 ghost use Rattle.stream_model.specs.InputData.{BelongsTo};
 ghost use Rattle.dataflow_laws.specs.Compiled.{layout_to};
@@ -75,7 +74,7 @@ fn task_from(
     requires laid_out { IsLayoutOf plan.now layout.now }
     requires task { task < rule.task_count layout.now.stages }
     requires number { leg.now.number < u64.MAX }
-    requires part { IsPartFor (partition_counts plan.now) layout.now.stages task start.now }
+    requires part { IsPartFor plan.now layout.now.stages task start.now }
     ensures { IfOk result (λ made. made ≡ begins.begun_with plan.now (leg_over leg.now input.now) layout.now.stages task start.now) }
 {
     let inputs = layout.inputs_of(task).len();
@@ -95,7 +94,7 @@ fn tasks_from(
 ) -> Result<Vec<Task>, AllocError>
     requires laid_out { IsLayoutOf plan.now layout.now }
     requires number { leg.now.number < u64.MAX }
-    requires bare { start.now.groups ≡ [] }
+    requires starts { IsStartIn plan.now input.now start.now }
     ensures { IfOk result (λ made. made.items ≡ begins.new_tasks plan.now start.now (leg_over leg.now input.now) layout.now.stages) }
 {
     let parts = spread(alloc, plan, start, layout)?;
@@ -107,8 +106,8 @@ fn tasks_from(
     Ok(tasks)
 }
 
-/// The tasks of a leg that begins at a start, in order: each source where the start has its partitions, and nothing in the
-/// windows. The panes of the windows are hashed by the keys.
+/// The tasks of a leg that begins at a start, in order: each source where the start has its partitions, and in the windows of
+/// each of the window's tasks what the start has for its key groups. The panes of the windows are hashed by the keys.
 ///
 /// The layout is one of the plan, the input was read by it, the start is one of the input, and the leg goes on from the
 /// start's savepoint.
@@ -127,7 +126,7 @@ pub fn tasks(
 ) -> Result<Vec<Task>, LegFault>
     requires laid_out { IsLayoutOf plan.now layout.now }
     requires belongs { BelongsTo plan.now input.now }
-    requires starts { IsStartIn input.now start.now }
+    requires starts { IsStartIn plan.now input.now start.now }
     requires number { leg.now.number ≡ start.now.number }
     ensures stops { OnOk result (CanStop input.now.sources (offsets_of start.now) leg.now.stop) }
     ensures are { IfOk result (λ made. made.items ≡ begins.new_tasks plan.now start.now (leg_over leg.now input.now) layout.now.stages) }

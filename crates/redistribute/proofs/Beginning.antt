@@ -1,7 +1,9 @@
 -- Starts at cuts of an input.
-use Rattle.std.proofs.Common.{◌≡◌, ℕ, ◌≤◌, ◌^◌, List, [], ◌∷◌, length, map, refl, sym, ap, subst, ◌∙◌}
+use Rattle.std.proofs.Common.{◌≡◌, ℕ, ◌≤◌, ◌^◌, List, [], ◌∷◌, length, map, refl, sym, ap, subst, ◌∙◌, arith}
 use Rattle.std.specs.List.{AllZip}
+use Rattle.std.specs.FinMap.{get-empty}
 use Rattle.plan_model.specs.PlanData.{PlanData}
+use Rattle.plan_model.specs.Rows.{pane_cmp}
 use Rattle.stream_model.specs.declared.entry.Entry.{Entry}
 use Rattle.stream_model.specs.InputData.{InputData}
 use Rattle.stream_model.specs.Watermarks.{IsCut, empty_cut}
@@ -9,7 +11,7 @@ use Rattle.stream_model.specs.PlanRows.{snapshot}
 use Rattle.stream_model.proofs.Facts.{nothing_at_first}
 use Rattle.input_flow.proofs.Facts.{empty_is_cut}
 use Rattle.redistribute.specs.StartData.{offsets_of}
-use Rattle.redistribute.specs.Snapshots.{saved_source, start_at}
+use Rattle.redistribute.specs.Snapshots.{saved_source, saved_sources, start_at}
 use Rattle.redistribute.specs.Begins.{IsStartIn, HasSnapshot}
 
 -- the start at a cut begins there
@@ -25,16 +27,18 @@ offsets_at [] (c ∷ cs) n h = absurd h
 offsets_at (s ∷ ss) [] n h = absurd h
 offsets_at (s ∷ ss) (c ∷ cs) n h = λ j. offsets_in s c h.0 j ∷ offsets_at ss cs n h.1 j
 
-pub starts_in : (i : InputData) (cut : List (List ℕ)) (n : ℕ) → IsCut i.sources cut → n ≤ 2 ^ 63 → IsStartIn i (start_at i.sources cut n)
-starts_in i cut n is_cut few =
+pub starts_in : (p : PlanData) (i : InputData) (cut : List (List ℕ)) (n : ℕ) → IsCut i.sources cut → n ≤ 2 ^ 63 → IsStartIn p i (start_at i.sources cut n)
+starts_in p i cut n is_cut few =
     let same = offsets_at i.sources cut n is_cut in
     record {
       cut = subst (IsCut i.sources) (sym same) is_cut;
-      is = ap (λ c. start_at i.sources c n) (sym same);
+      partitions = ap (saved_sources i.sources) (sym same);
+      windows = λ k d l. absurd (omega (arith, l));
       number = few;
     }
 
 -- ---- the empty cut
 
 pub empty_has_snapshot : (p : PlanData) (i : InputData) (n : ℕ) → HasSnapshot p i (start_at i.sources (empty_cut i.sources) n)
-empty_has_snapshot p i n q = ap (λ cut. snapshot p i.sources cut q) (offsets_at i.sources (empty_cut i.sources) n (empty_is_cut i.sources)) ∙ nothing_at_first p i.sources q
+empty_has_snapshot p i n q =
+    get-empty pane_cmp q ∙ sym (ap (λ cut. snapshot p i.sources cut q) (offsets_at i.sources (empty_cut i.sources) n (empty_is_cut i.sources)) ∙ nothing_at_first p i.sources q)

@@ -1,6 +1,8 @@
 mod Unread
 mod Reached
 mod Dealt
+mod Grouped
+mod Owned
 mod Beginning
 mod Opened
 pub mod Facts

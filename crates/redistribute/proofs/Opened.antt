@@ -1,16 +1,14 @@
 -- Tasks that begin with what a cut leaves are in opening states.
 use Rattle.std.proofs.Common.{◌≡◌, ℕ, zero, suc, ◌<◌, ◌≤◌, ℤ, List, [], ◌∷◌, length, map, get_or, slice_index, refl, sym, ap, subst, ◌∙◌, arith}
-use Rattle.std.specs.Prelude.{slice_index_or, Option, None, ◌==◌, Bool, true, false, if◌then◌else◌}
-use Rattle.std.specs.List.{AllZip}
-use Rattle.std.specs.FinMap.{get, empty, get-empty}
+use Rattle.std.specs.Prelude.{slice_index_or, None, ◌==◌, if◌then◌else◌}
+use Rattle.std.specs.List.{All, AllZip}
+use Rattle.std.specs.FinMap.{get, from_entries, get-from_entries}
 use Rattle.std.proofs.lemmas.List.{length-map}
-use Rattle.plan_model.specs.Rows.{pane_cmp}
 use Rattle.plan_model.specs.PlanData.{PlanData, IsPlan}
-use Rattle.plan_model.specs.declared.spec.Pane.{Pane}
+use Rattle.plan_model.proofs.Facts.{pane_cmp_total}
 use Rattle.stream_model.specs.declared.entry.Entry.{Entry}
 use Rattle.stream_model.specs.InputData.{InputData, BelongsTo, partition_at}
 use Rattle.stream_model.specs.Watermarks.{partition_watermark, IsCut, IsBefore}
-use Rattle.stream_model.specs.PlanRows.{snapshot}
 use Rattle.dataflow_model.specs.declared.role.Role.{Role}
 use Rattle.dataflow_model.specs.AbstractTask.{AbstractTask}
 use Rattle.dataflow_model.specs.AbstractLayout.{AbstractLayout, partition_read}
@@ -24,9 +22,9 @@ use Rattle.layout_rules.specs.Laws.{IsRoute}
 use Rattle.layout_rules.specs.Layouts.{partition_counts, abstract_layout}
 use Rattle.layout_rules.specs.Rules.{IsCompiled, window_of, stages_of}
 use Rattle.layout_rules.specs.Scale.{ScaleData, IsScale}
-use Rattle.layout_rules.specs.Stages.{source_of, task_stage, task_role, partitions_of}
+use Rattle.layout_rules.specs.Stages.{source_of, task_stage, task_role, partitions_of, groups_of}
 use Rattle.layout_rules.proofs.Facts.{compiled_ever, tasks_are_one_leg}
-use Rattle.plan_compiler.specs.LayoutData.{LayoutData, layout_of}
+use Rattle.plan_compiler.specs.LayoutData.{LayoutData}
 use Rattle.input_flow.specs.InputEntries.{entries_of, input_of, counts_at}
 use Rattle.input_flow.proofs.Facts.{there, cut_in}
 use Rattle.dataflow_laws.specs.Legs.{AreAt, HaveMarks}
@@ -35,14 +33,18 @@ use Rattle.dataflow_laws.specs.Compiled.{layout_to}
 use Rattle.leg_lists.specs.declared.stop.Stop.{Stop}
 use Rattle.leg_lists.specs.declared.stop.Stop.TheVariants.{Never, At}
 use Rattle.leg_lists.specs.Stops.{until_of}
+use Rattle.window_state.specs.declared.parts.Part.{Part}
+use Rattle.window_state.specs.Parts.{entries_of as entries_of_parts}
 use Rattle.redistribute.specs.declared.task_start.PartitionStart.{PartitionStart}
 use Rattle.redistribute.specs.StartData.{StartData, offsets_of}
-use Rattle.redistribute.specs.Begins.{IsStartIn}
-use Rattle.redistribute.specs.Snapshots.{saved_partition, saved_source, start_at}
+use Rattle.redistribute.specs.Begins.{IsStartIn, HasSnapshot}
+use Rattle.redistribute.specs.Snapshots.{saved_partition, saved_source, saved_sources}
 use Rattle.redistribute.specs.Stopping.{CanStop}
-use Rattle.redistribute.specs.Parts.{at_first, saved_at, partition_start, start_of_role, task_start, with_windows}
+use Rattle.redistribute.specs.Parts.{at_first, saved_at, partition_start, start_of_role, with_windows, parts_within, parts_of, windows_of, IsOpenPart}
 use Rattle.redistribute.specs.Laws.{opening_of, opening_states, TasksOpen, TasksHaveSnapshot}
 use Rattle.redistribute.proofs.Dealt.{known, early, places}
+use Rattle.redistribute.proofs.Grouped.{total_within, open_within, none_due}
+use Rattle.redistribute.proofs.Owned.{owns}
 
 -- ---- what a cut leaves of a partition
 
@@ -52,11 +54,12 @@ saved_in (p ∷ ps) [] k cut l = absurd cut
 saved_in (p ∷ ps) (n ∷ ns) zero cut l = refl
 saved_in (p ∷ ps) (n ∷ ns) (suc k) cut l = saved_in ps ns k cut.1 (omega (arith, l))
 
-saved_there : (ss : List (List (List Entry))) (cs : List (List ℕ)) (n x k : ℕ) → IsCut ss cs → x < length ss → k < length (get_or ss x []) → saved_at (start_at ss cs n) x k ≡ saved_partition (partition_at ss x k) (count_at cs x k)
-saved_there [] cs n x k cut l m = absurd (omega (arith, l))
-saved_there (s ∷ ss) [] n x k cut l m = absurd cut
-saved_there (s ∷ ss) (c ∷ cs) n zero k cut l m = saved_in s c k cut.0 m
-saved_there (s ∷ ss) (c ∷ cs) n (suc x) k cut l m = saved_there ss cs n x k cut.1 (omega (arith, l)) m
+saved_there : (ss : List (List (List Entry))) (cs : List (List ℕ)) (x k : ℕ) → IsCut ss cs → x < length ss → k < length (get_or ss x [])
+    → slice_index_or (slice_index_or (saved_sources ss cs) x []) k at_first ≡ saved_partition (partition_at ss x k) (count_at cs x k)
+saved_there [] cs x k cut l m = absurd (omega (arith, l))
+saved_there (s ∷ ss) [] x k cut l m = absurd cut
+saved_there (s ∷ ss) (c ∷ cs) zero k cut l m = saved_in s c k cut.0 m
+saved_there (s ∷ ss) (c ∷ cs) (suc x) k cut l m = saved_there ss cs x k cut.1 (omega (arith, l)) m
 
 -- ---- how far a leg goes from a cut
 
@@ -87,10 +90,6 @@ route i cut stop is_cut can = record { rising = goes_up i cut stop is_cut can; w
 
 -- ---- opening states
 
-none_either : {X : Type 0} (b : Bool) (x : Option X) → x ≡ None → None ≡ (if b then x else None)
-none_either true x e = sym e
-none_either false x e = refl
-
 -- what a function has of the partitions that a function has
 mapped_at : {Y : Type 0} (g : PartitionStart → Y) (f : ℕ → PartitionStart) (xs : List ℕ) (q : ℕ) (d : Y) → q < length xs → slice_index_or (map g (map f xs)) q d ≡ g (f (slice_index xs q))
 mapped_at g f [] q d l = absurd (omega (arith, l))
@@ -102,8 +101,9 @@ record AreMarked (k : AbstractTask) (starts : List PartitionStart) : Type 0 wher
   length_starts : length starts ≡ k.inputs
   marked : (q : ℕ) (d : ℤ) → q < k.inputs → slice_index_or (map (λ b. b.watermark) starts) q d ≡ k.watermark q (slice_index (map (λ b. b.offset) starts) q)
 
-opens_as : (p : PlanData) (r : Role) (k : AbstractTask) (starts : List PartitionStart) → (r ≡ role.Source → AreMarked k starts) → IsOpening p r k (opening_of k.inputs (start_of_role r starts))
-opens_as p role.Source k starts h = let m = h refl in record {
+opens_as : (p : PlanData) (r : Role) (k : AbstractTask) (starts : List PartitionStart) (parts : List Part) → (r ≡ role.Source → AreMarked k starts) → All (IsOpenPart p) parts
+    → IsOpening p r k (opening_of k.inputs (with_windows parts (start_of_role r starts)))
+opens_as p role.Source k starts parts h early = let m = h refl in record {
   offsets = map (λ b. b.offset) starts;
   marks = map (λ b. b.watermark) starts;
   is = refl;
@@ -111,36 +111,31 @@ opens_as p role.Source k starts h = let m = h refl in record {
   length_marks = length-map starts (λ b. b.watermark) ∙ m.length_starts;
   marked = m.marked;
 }
-opens_as p role.Chain k starts h = refl
-opens_as p role.Window k starts h = (empty, refl, λ q d. get-empty pane_cmp q)
-opens_as p role.Sink k starts h = refl
+opens_as p role.Chain k starts parts h early = refl
+opens_as p role.Window k starts parts h early = (from_entries (entries_of_parts parts), refl, λ q d. get-from_entries pane_cmp_total (entries_of_parts parts) q ∙ none_due p q d parts early)
+opens_as p role.Sink k starts parts h early = refl
 
--- with nothing in the windows a part is what it is without them
-pub bare : (r : Role) (starts : List PartitionStart) → start_of_role r starts ≡ with_windows [] (start_of_role r starts)
-bare role.Source starts = refl
-bare role.Chain starts = refl
-bare role.Window starts = refl
-bare role.Sink starts = refl
+module _ (p : PlanData) (c : ScaleData) (i : InputData) (s : StartData) (leg : Leg) (ip : IsPlan p) (sc : IsScale p c) (belongs : BelongsTo p i) (starts : IsStartIn p i s) where
+  abbrev ok : IsCompiled p c (stages_of p c)
+  ok = compiled_ever p c
 
-module _ (p : PlanData) (c : ScaleData) (i : InputData) (cut : List (List ℕ)) (n : ℕ) (leg : Leg) (ip : IsPlan p) (sc : IsScale p c) (ok : IsCompiled p c (stages_of p c)) (belongs : BelongsTo p i) (is_cut : IsCut i.sources cut) where
+  abbrev cut : List (List ℕ)
+  cut = offsets_of s
+
   abbrev L : AbstractLayout
   L = abstract_layout p (entries_of i) leg (stages_of p c) (window_of (stages_of p c))
 
-  abbrev s : StartData
-  s = start_at i.sources cut n
-
   abbrev states : ℕ → State
-  states t = opening_of (L.task t).inputs (task_start (partition_counts p) s (stages_of p c) t)
-
-  -- they are those that the start has, since nothing stands in its windows
-  are_opening : states ≡ opening_states p s L (stages_of p c)
-  are_opening = λ j t. opening_of (L.task t).inputs (bare (task_role (stages_of p c) t) (map (partition_start s (source_of (task_stage (stages_of p c) t).operators)) (partitions_of (partition_counts p) (stages_of p c) t)) j)
+  states = opening_states p s L (stages_of p c)
 
   abbrev mine : ℕ → List ℕ
   mine t = partitions_of (partition_counts p) (stages_of p c) t
 
   abbrev starts_at : ℕ → List PartitionStart
   starts_at t = map (partition_start s (source_of (task_stage (stages_of p c) t).operators)) (mine t)
+
+  abbrev parts_at : ℕ → List Part
+  parts_at t = parts_within (groups_of p.max (stages_of p c) t) s
 
   -- where a task's partition stands
   saved_is : (t q : ℕ) → task_role (stages_of p c) t ≡ role.Source → q < length (mine t)
@@ -151,7 +146,8 @@ module _ (p : PlanData) (c : ScaleData) (i : InputData) (cut : List (List ℕ)) 
       let z = ap (λ u. length (get_or i.sources u [])) y.source in
       let u = y.source in
       let v = y.number in
-      saved_there i.sources cut n (source_of (task_stage (stages_of p c) t).operators) (slice_index (mine t) q) is_cut (omega (arith, g.0, u)) (omega (arith, g.1, z, v))
+      ap (λ ss. slice_index_or (slice_index_or ss (source_of (task_stage (stages_of p c) t).operators) []) (slice_index (mine t) q) at_first) starts.partitions
+      ∙ saved_there i.sources cut (source_of (task_stage (stages_of p c) t).operators) (slice_index (mine t) q) starts.cut (omega (arith, g.0, u)) (omega (arith, g.1, z, v))
 
   marked_at : (t : ℕ) → task_role (stages_of p c) t ≡ role.Source → AreMarked (L.task t) (starts_at t)
   marked_at t h = record {
@@ -167,13 +163,13 @@ module _ (p : PlanData) (c : ScaleData) (i : InputData) (cut : List (List ℕ)) 
   }
 
   opens : (t : ℕ) → IsOpening p (L.task t).role (L.task t) (states t)
-  opens t = opens_as p (task_role (stages_of p c) t) (L.task t) (starts_at t) (marked_at t)
+  opens t = opens_as p (task_role (stages_of p c) t) (L.task t) (starts_at t) (parts_at t) (marked_at t) (open_within p s.kinds (groups_of p.max (stages_of p c) t) s.groups starts.windows)
 
   begins : (t q : ℕ) → t < L.before → (L.task t).role ≡ role.Source → q < (L.task t).inputs → slice_index (states t).offsets q ≡ count_at cut (L.task t).source ((L.task t).partition q)
   begins t q l h m =
       let x = source_of (task_stage (stages_of p c) t).operators in
       let fits : q < length (mine t) = (let z = places p c (entries_of i) leg ip sc ok t h in omega (arith, m, z)) in
-      ap (λ r. slice_index (opening_of (L.task t).inputs (start_of_role r (starts_at t))).offsets q) h
+      ap (λ r. slice_index (opening_of (L.task t).inputs (with_windows (parts_at t) (start_of_role r (starts_at t)))).offsets q) h
       ∙ mapped_at (λ b. b.offset) (partition_start s x) (mine t) q 0 fits
       ∙ ap (λ z. z.offset) (saved_is t q h fits)
 
@@ -187,40 +183,39 @@ module _ (p : PlanData) (c : ScaleData) (i : InputData) (cut : List (List ℕ)) 
   have_marks : HaveMarks (input_of p i) L states (counts_at p cut)
   have_marks t k d l h m =
       let y = (known p c (entries_of i) leg ip sc ok).1.there t k l h m in
-      ap (λ r. slice_index_or (opening_of (L.task t).inputs (start_of_role r (starts_at t))).inputs.marks k d) h
+      ap (λ r. slice_index_or (opening_of (L.task t).inputs (with_windows (parts_at t) (start_of_role r (starts_at t)))).inputs.marks k d) h
       ∙ (marked_at t h).marked k d m
-      ∙ ap (partition_watermark (partition_at i.sources (L.task t).source ((L.task t).partition k))) (ap (λ r. slice_index (opening_of (L.task t).inputs (start_of_role r (starts_at t))).offsets k) (sym h) ∙ begins t k l h m)
+      ∙ ap (partition_watermark (partition_at i.sources (L.task t).source ((L.task t).partition k))) (ap (λ r. slice_index (opening_of (L.task t).inputs (with_windows (parts_at t) (start_of_role r (starts_at t)))).offsets k) (sym h) ∙ begins t k l h m)
       ∙ sym (λ j. partition_watermark (partition_at i.sources (y.source j) (y.number j)) (count_at cut (y.source j) (y.number j)))
 
-  -- nothing stands in their windows
-  have_nothing : ((q : Pane) → snapshot p i.sources cut q ≡ None) → AtOwners L (λ u. (states u).windows) (snapshot p i.sources cut)
-  have_nothing none u l m q =
+  -- what stands in their windows is what the start has, each pane at the task that owns its key
+  have_windows : AtOwners L (λ u. (states u).windows) (get (windows_of s))
+  have_windows u l m q =
       let role_is = (known p c (entries_of i) leg ip sc ok).0.roles_window u l m in
-      ap (λ r. get (opening_of (L.task u).inputs (start_of_role r (starts_at u))).windows q) role_is
-      ∙ get-empty pane_cmp q
-      ∙ none_either (L.owner q.key == u) (snapshot p i.sources cut q) (none q)
+      ap (λ r. get (opening_of (L.task u).inputs (with_windows (parts_at u) (start_of_role r (starts_at u)))).windows q) role_is
+      ∙ get-from_entries pane_cmp_total (entries_of_parts (parts_at u)) q
+      ∙ total_within p s.kinds q (groups_of p.max (stages_of p c) u) s.groups starts.windows
+      ∙ (λ j. if owns p c u q.key ip sc l m j then sym (get-from_entries pane_cmp_total (entries_of_parts (parts_of s)) q) j else None)
 
-  have_snapshot : ((q : Pane) → snapshot p i.sources cut q ≡ None) → let opened = opening_states p s L (stages_of p c) in HaveCut p i L opened cut × HaveMarks (input_of p i) L opened (counts_at p cut)
-  have_snapshot none = subst (λ (f : ℕ → State). HaveCut p i L f cut × HaveMarks (input_of p i) L f (counts_at p cut)) are_opening (record { offsets = are_at; windows = have_nothing none }, have_marks)
+  have_snapshot : HasSnapshot p i s → HaveCut p i L states cut × HaveMarks (input_of p i) L states (counts_at p cut)
+  have_snapshot has = (record { offsets = are_at; windows = λ u l m q. have_windows u l m q ∙ ap (λ z. if L.owner q.key == u then z else None) (has q) }, have_marks)
 
-leg_start : (p : PlanData) (c : ScaleData) (i : InputData) (cut : List (List ℕ)) (n : ℕ) (stop : Stop) → IsPlan p → IsScale p c → BelongsTo p i → IsCut i.sources cut → CanStop i.sources cut stop
-    → let a = layout_to p i n (until_of stop) (stages_of p c) in IsLegStart p a (opening_states p (start_at i.sources cut n) a (stages_of p c))
-leg_start p c i cut n stop ip sc belongs is_cut can =
-    let leg : Leg = leg_of n [] (until_of stop) (entries_of i).size in
-    let ok = compiled_ever p c in
-    subst (IsLegStart p (layout_to p i n (until_of stop) (stages_of p c))) (are_opening p c i cut n leg ip sc ok belongs is_cut)
-    (record {
-      opens = λ t l. opens p c i cut n leg ip sc ok belongs is_cut t;
-      leg = tasks_are_one_leg p (entries_of i) (stages_of p c) (window_of (stages_of p c)) n cut [] (until_of stop) (states p c i cut n leg ip sc ok belongs is_cut) (route i cut stop is_cut can) (begins p c i cut n leg ip sc ok belongs is_cut);
-    })
+leg_start : (p : PlanData) (c : ScaleData) (i : InputData) (s : StartData) (stop : Stop) → IsPlan p → IsScale p c → BelongsTo p i → IsStartIn p i s → CanStop i.sources (offsets_of s) stop
+    → let a = layout_to p i s.number (until_of stop) (stages_of p c) in IsLegStart p a (opening_states p s a (stages_of p c))
+leg_start p c i s stop ip sc belongs starts can =
+    let leg : Leg = leg_of s.number [] (until_of stop) (entries_of i).size in
+    record {
+      opens = λ t l. opens p c i s leg ip sc belongs starts t;
+      leg = tasks_are_one_leg p (entries_of i) (stages_of p c) (window_of (stages_of p c)) s.number (offsets_of s) [] (until_of stop) (states p c i s leg ip sc belongs starts) (route i (offsets_of s) stop starts.cut can) (begins p c i s leg ip sc belongs starts);
+    }
 
 pub tasks_open : TasksOpen
-tasks_open p l i start stop ip lo belongs is can =
-    let R : StartData → LayoutData → Type 0 = λ z m. let a = layout_to p i start.number (until_of stop) m.stages in IsLegStart p a (opening_states p z a m.stages) in
-    subst (R start) (sym lo.is) (subst (λ z. R z (layout_of p lo.scale)) (sym is.is) (leg_start p lo.scale i (offsets_of start) start.number stop ip lo.fits belongs is.cut can))
+tasks_open p l i s stop ip lo belongs starts can =
+    let R : LayoutData → Type 0 = λ m. let a = layout_to p i s.number (until_of stop) m.stages in IsLegStart p a (opening_states p s a m.stages) in
+    subst R (sym lo.is) (leg_start p lo.scale i s stop ip lo.fits belongs starts can)
 
 pub tasks_have_snapshot : TasksHaveSnapshot
-tasks_have_snapshot p l i start stop ip lo belongs is none =
-    let cut = offsets_of start in
-    let R : StartData → LayoutData → Type 0 = λ z m. let a = layout_to p i start.number (until_of stop) m.stages in let states = opening_states p z a m.stages in HaveCut p i a states cut × HaveMarks (input_of p i) a states (counts_at p cut) in
-    subst (R start) (sym lo.is) (subst (λ z. R z (layout_of p lo.scale)) (sym is.is) (have_snapshot p lo.scale i cut start.number (leg_of start.number [] (until_of stop) (entries_of i).size) ip lo.fits (compiled_ever p lo.scale) belongs is.cut none))
+tasks_have_snapshot p l i s stop ip lo belongs starts has =
+    let cut = offsets_of s in
+    let R : LayoutData → Type 0 = λ m. let a = layout_to p i s.number (until_of stop) m.stages in let states = opening_states p s a m.stages in HaveCut p i a states cut × HaveMarks (input_of p i) a states (counts_at p cut) in
+    subst R (sym lo.is) (have_snapshot p lo.scale i s (leg_of s.number [] (until_of stop) (entries_of i).size) ip lo.fits belongs starts has)

@@ -62,11 +62,11 @@ opening_states p s a stages t = opening_of (a.task t).inputs (whole_task_start p
 
 -- tasks that begin with a start of the input, in a leg that can stop as it is to, are tasks of one leg in opening states
 abbrev pub TasksOpen : Type 0
-TasksOpen = (p : PlanData) (l : LayoutData) (i : InputData) (s : StartData) (stop : Stop) → IsPlan p → IsLayoutOf p l → BelongsTo p i → IsStartIn i s → CanStop i.sources (offsets_of s) stop
+TasksOpen = (p : PlanData) (l : LayoutData) (i : InputData) (s : StartData) (stop : Stop) → IsPlan p → IsLayoutOf p l → BelongsTo p i → IsStartIn p i s → CanStop i.sources (offsets_of s) stop
     → let a = layout_to p i s.number (until_of stop) l.stages in IsLegStart p a (opening_states p s a l.stages)
 
 -- and where the start has the snapshot of its cut, so have they, with the watermarks there
 abbrev pub TasksHaveSnapshot : Type 0
-TasksHaveSnapshot = (p : PlanData) (l : LayoutData) (i : InputData) (s : StartData) (stop : Stop) → IsPlan p → IsLayoutOf p l → BelongsTo p i → IsStartIn i s → HasSnapshot p i s
+TasksHaveSnapshot = (p : PlanData) (l : LayoutData) (i : InputData) (s : StartData) (stop : Stop) → IsPlan p → IsLayoutOf p l → BelongsTo p i → IsStartIn p i s → HasSnapshot p i s
     → let a = layout_to p i s.number (until_of stop) l.stages in let states = opening_states p s a l.stages in
     HaveCut p i a states (offsets_of s) × HaveMarks (input_of p i) a states (counts_at p (offsets_of s))

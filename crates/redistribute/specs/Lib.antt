@@ -1,6 +1,6 @@
 pub mod StartData
 pub mod Snapshots
+pub mod Parts
 pub mod Begins
 pub mod Stopping
-pub mod Parts
 pub mod Laws

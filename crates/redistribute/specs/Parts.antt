@@ -1,10 +1,16 @@
 -- The part of a start that each task of a layout begins with.
-use Rattle.std.specs.Prelude.{◌≡◌, ℕ, nat_le, Bool, ◌&&◌, List, [], length, map, slice_index_or, if◌then◌else◌}
-use Rattle.std.specs.List.{flat_map}
+use Rattle.std.specs.Prelude.{◌≡◌, ℕ, ◌≤◌, nat_le, Bool, ◌&&◌, false, List, [], length, map, slice_index_or, if◌then◌else◌}
+use Rattle.std.specs.FinMap.{from_entries}
+use Rattle.std.specs.List.{All, flat_map}
 use Rattle.plain_data.specs.Times.{lowest}
+use Rattle.plan_model.specs.declared.limits.TheConstants.{MOST_RECORDS}
+use Rattle.plan_model.specs.PlanData.{PlanData}
+use Rattle.plan_model.specs.Rows.{is_due}
 use Rattle.dataflow_model.specs.declared.role.Role.{Role}
 use Rattle.dataflow_model.specs.declared.role.Role.TheVariants as role
+use Rattle.dataflow_model.specs.State.{Windows}
 use Rattle.layout_rules.specs.declared.stage.Stage.{Stage}
+use Rattle.layout_rules.specs.Layouts.{partition_counts}
 use Rattle.key_groups.specs.declared.ranges.GroupRange.{GroupRange}
 use Rattle.layout_rules.specs.Stages.{source_of, task_stage, task_role, partitions_of, groups_of}
 use Rattle.aggregates.specs.declared.kind.Kind.{Kind}
@@ -12,6 +18,7 @@ use Rattle.savepoint_codec.specs.EntriesData.{EntryData}
 use Rattle.savepoint_codec.specs.declared.savepoint.SavedPartition.{SavedPartition}
 use Rattle.savepoint_codec.specs.declared.savepoint.SavedGroup.{SavedGroup}
 use Rattle.window_state.specs.declared.parts.Part.{Part}
+use Rattle.window_state.specs.Parts.{entries_of, IsPartOf}
 use Rattle.redistribute.specs.declared.task_start.PartitionStart.{PartitionStart}
 use Rattle.redistribute.specs.declared.task_start.TaskStart.{TaskStart}
 use Rattle.redistribute.specs.declared.task_start.TaskStart.TheVariants.{Source, Chain, Window, Sink}
@@ -73,8 +80,23 @@ with_windows parts Sink = Sink
 abbrev pub whole_task_start : ℕ → List ℕ → StartData → List Stage → ℕ → TaskStart
 whole_task_start max counts s stages t = with_windows (parts_within (groups_of max stages t) s) (task_start counts s stages t)
 
--- a part that task t may have where nothing stands in the windows, and the sources have so many partitions: of a source all the partitions that it reads, of any other no partition
-pub record IsPartFor (counts : List ℕ) (stages : List Stage) (t : ℕ) (part : TaskStart) : Type 0 where
+-- all that stands in the windows of a start
+abbrev pub parts_of : StartData → List Part
+parts_of s = flat_map (λ g. map (part_of s.kinds) g.entries.entries) s.groups
+
+abbrev pub windows_of : StartData → Windows
+windows_of s = from_entries (entries_of (parts_of s))
+
+-- a part of a window state that a task of the plan's window may begin with: no window is due by the least watermark, and there is room for the records of a leg
+pub record IsOpenPart (p : PlanData) (x : Part) : Type 0 where
+  pub part : IsPartOf p.window x
+  pub early : is_due p.window lowest x.pane.start ≡ false
+  pub count : x.acc.total.count ≤ MOST_RECORDS
+
+-- a part that task t may have, where the sources have so many partitions: of a source all the partitions that it reads, of any other no partition, and in windows what may stand there
+pub record IsPartFor (p : PlanData) (stages : List Stage) (t : ℕ) (part : TaskStart) : Type 0 where
   pub starts : List PartitionStart
-  pub is : part ≡ start_of_role (task_role stages t) starts
-  pub each : length starts ≡ length (partitions_of counts stages t)
+  pub parts : List Part
+  pub is : part ≡ with_windows parts (start_of_role (task_role stages t) starts)
+  pub each : length starts ≡ length (partitions_of (partition_counts p) stages t)
+  pub sound : All (IsOpenPart p) parts

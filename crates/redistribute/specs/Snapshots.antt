@@ -14,6 +14,10 @@ saved_partition entries n = record { offset = n; watermark = partition_watermark
 abbrev pub saved_source : List (List Entry) → List ℕ → List SavedPartition
 saved_source partitions counts = map (λ p. saved_partition p.0 p.1) (zip partitions counts)
 
--- the start from a savepoint of this number at a cut
+-- the partitions of all sources, read up to a cut
+abbrev pub saved_sources : List (List (List Entry)) → List (List ℕ) → List (List SavedPartition)
+saved_sources sources cut = map (λ s. saved_source s.0 s.1) (zip sources cut)
+
+-- the start from a savepoint of this number at a cut, with nothing in the windows
 abbrev pub start_at : List (List (List Entry)) → List (List ℕ) → ℕ → StartData
-start_at sources cut number = start_data_of number (map (λ s. saved_source s.0 s.1) (zip sources cut))
+start_at sources cut number = start_data_of number (saved_sources sources cut)

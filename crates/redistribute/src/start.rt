@@ -50,7 +50,7 @@ impl Start {
         requires { BelongsTo plan.now input.now }
         ensures snapshot { IfOk result (λ start. start ≡ start_at input.now.sources (empty_cut input.now.sources) 0) }
         ensures belongs { IfOk result (λ start. IsStartOf plan.now start) }
-        ensures in_input { IfOk result (λ start. IsStartIn input.now start) }
+        ensures in_input { IfOk result (λ start. IsStartIn plan.now input.now start) }
         ensures nothing { IfOk result (λ start. IsFromNothing input.now start) }
         ensures has_snapshot { IfOk result (λ start. HasSnapshot plan.now input.now start) }
     {

@@ -3,3 +3,4 @@ mod Counts
 mod Folded
 mod Windows
 mod Shape
+mod Starts

@@ -33,7 +33,7 @@ first_of_both (r ∷ rs) ts s = ap (option_or (r s)) (first_of_both rs ts s) ∙
 abbrev met : Result (Unit {0}) RestoreFault
 met = Ok tt
 
-none_of : (o : Option RestoreFault) → option_map_or Err o met ≡ met → o ≡ None
+pub none_of : (o : Option RestoreFault) → option_map_or Err o met ≡ met → o ≡ None
 none_of o h = (no_fault o tt tt h).0
 
 some_of : (o : Option RestoreFault) (f : RestoreFault) → option_map_or Err o met ≡ Err f → o ≡ Some f

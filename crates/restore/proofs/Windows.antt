@@ -8,6 +8,7 @@ use Rattle.plan_model.specs.declared.spec.WindowSpec.{WindowSpec}
 use Rattle.plan_model.specs.PlanData.{IsWindow}
 use Rattle.plan_model.specs.Windows.{is_start}
 use Rattle.plan_model.specs.Rows.{is_due}
+use Rattle.window_state.specs.Windows.{IsStart}
 use Rattle.restore.specs.Requirements.{is_reached}
 
 above : (w : WindowSpec) (s : ℤ) → w.size ≤ℤ pos (2 ^ 40) → is_reached w s ≡ true → neg_ℤ (pos (2 ^ 62 + 2 ^ 40)) <ℤ s
@@ -15,6 +16,9 @@ above w s b h = grind (arith, ints)
 
 below : (w : WindowSpec) (s : ℤ) → is_reached w s ≡ true → s <ℤ pos (2 ^ 62)
 below w s h = grind (arith, ints)
+
+pub starts_within : (w : WindowSpec) (s : ℤ) → IsWindow w → is_reached w s ≡ true → IsStart s
+starts_within w s p h = record { above = above w s p.size_small h; below = below w s h }
 
 -- what lies between fits in 64 bits
 fits : (z : ℤ) → neg_ℤ (pos (2 ^ 63)) ≤ℤ z → z <ℤ pos (2 ^ 63) → to_z w64 (of_z w64 z) ≡ z

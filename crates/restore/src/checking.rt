@@ -3,6 +3,8 @@
 ghost use Rattle.std.specs.Prelude.{◌≡◌, ◌-◌, ◌^◌, min, length, IfOk};
 ghost use Rattle.std.specs.List.{All};
 ghost use Rattle.stream_model.specs.Watermarks.{merged_watermark, records_before};
+ghost use Rattle.stream_model.specs.InputData.{BelongsTo};
+ghost use Rattle.redistribute.specs.Begins.{IsStartIn};
 ghost use Rattle.redistribute.specs.StartData.{IsStartOf};
 ghost use Rattle.restore.specs.Saved.{cut_of};
 ghost use Rattle.restore.specs.Saved as said;
@@ -121,7 +123,7 @@ fn meet_input(
 }
 
 /// The start from a savepoint, of a job with this plan and this input: its number, how far each partition was read, and what
-/// stands in the windows.
+/// stands in the windows. Where the input was read by the plan, a leg can begin with it, whoever wrote the savepoint.
 ///
 /// # Errors
 ///
@@ -135,6 +137,7 @@ pub fn check(
 ) -> Result<Start, RestoreFault>
     ensures reads { Gives is_memory (λ start. start) result (start_or_fault plan.now input.now savepoint.now) }
     ensures belongs { IfOk result (λ start. IsStartOf plan.now start) }
+    ensures in_input { IfOk result (λ start. BelongsTo plan.now input.now → IsStartIn plan.now input.now start) }
 {
     let contents = savepoint.contents();
     meet_plan(alloc, plan, contents)?;

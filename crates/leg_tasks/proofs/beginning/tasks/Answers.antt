@@ -28,4 +28,4 @@ returns-clause-begin c =
     let made = c.requires.laid_out in
     let compiled : IsCompiled p made.scale l.stages = subst (IsCompiled p made.scale) (sym (ap (λ m. m.stages) made.is)) (compiled_ever p made.scale) in
     subst (BeginLeg p i s l.stages (layout_to p i leg.number (until_of leg.stop) l.stages)) (sym c.in_ok-tasks_from.ensures)
-    (new_tasks_begin p made.scale i s leg.number (until_of leg.stop) l.stages c.columns-columns.ensures.sound made.fits compiled c.requires.belongs (stays_within i s leg.stop c.in_ok-check_stop.ensures) (ap (λ (z : StartData). z.groups) c.requires.starts.is))
+    (new_tasks_begin p made.scale i s leg.number (until_of leg.stop) l.stages c.columns-columns.ensures.sound made.fits compiled c.requires.belongs (stays_within i s leg.stop c.in_ok-check_stop.ensures))

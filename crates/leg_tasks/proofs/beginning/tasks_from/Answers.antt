@@ -34,7 +34,7 @@ task_from-requires-clause-part c =
     let stages = c.args.layout.now.stages in
     let t = c.loop-task.task in
     let mine = own_part p s stages c.in_ok-parts.parts.items t c.index-part.result.now c.in_ok-parts.ensures (omega (arith, c.loop-task-test.true, c.task_count-task-end.ensures.says)) c.index-part.ensures in
-    subst (IsPartFor (partition_counts p) stages t) (sym mine) (is_part p s stages t c.requires.bare)
+    subst (IsPartFor p stages t) (sym mine) (is_part p c.args.input.now s stages t c.requires.starts)
 
 pub loop-task-preserved : goal.loop-task-preserved
 loop-task-preserved c =

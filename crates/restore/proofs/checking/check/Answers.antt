@@ -11,6 +11,8 @@ use Rattle.restore.specs.Requirements.{plan_requirements, input_requirements}
 use Rattle.restore.specs.Answer.{start_of, is_memory, met_or_fault}
 use Rattle.restore.proofs.Sound.{groups_sound, are_entries, sound_along}
 use Rattle.restore.proofs.Shape.{both_met, first_unmet_is, second_unmet_is, start_shaped, gives_fault}
+use Rattle.redistribute.specs.Begins.{IsStartIn}
+use Rattle.restore.proofs.Starts.{is_start_in}
 use Rattle.restore.proofs.checking.check.Goals as goal
 
 pub meet_input-requires-clause-sound : goal.meet_input-requires-clause-sound
@@ -74,3 +76,18 @@ returns-clause-belongs c =
     let Q : List (List SavedPartition) → Type 0 = λ z. map (λ partitions. length partitions) z ≡ partition_counts p in
     let R : StartData → Type 0 = λ z. IsStartOf p z in
     subst R (sym c.from_saved.ensures) (subst Q (sym sources) (start_shaped p c.args.savepoint.now (subst P says c.in_ok-meet_plan.ensures)))
+
+pub returns-clause-in_input : goal.returns-clause-in_input
+returns-clause-in_input c =
+    let p = c.args.plan.now in
+    let i = c.args.input.now in
+    let s = c.args.savepoint.now in
+    let says = c.contents-contents.ensures.says in
+    let P : Contents → Type 0 = λ z. met_or_fault (plan_requirements p) z ≡ Ok tt in
+    let Q : Contents → Type 0 = λ z. met_or_fault (input_requirements p i) z ≡ Ok tt in
+    let listed = c.as_slice.ensures ∙ ap (λ z. z.sources) says in
+    let sources = c.in_ok-saved.ensures ∙ (λ j. map (λ x. saved_under x.uid (listed j)) (c.sources.ensures.says j)) in
+    let kinds = c.in_ok-kinds.ensures ∙ ap (λ z. z.kinds) says in
+    let groups = c.in_ok-groups.ensures ∙ c.as_slice-4.ensures ∙ ap (λ z. z.groups) says in
+    let made = sym (c.from_saved.ensures ∙ (λ j. record { number = (says j).number; sources = sources j; kinds = kinds j; groups = groups j })) in
+    λ belongs. subst (IsStartIn p i) made (is_start_in p i s c.sources.ensures.sound belongs (groups_sound s c.contents-contents.ensures.sound) (subst P says c.in_ok-meet_plan.ensures) (subst Q says c.in_ok-meet_input.ensures))

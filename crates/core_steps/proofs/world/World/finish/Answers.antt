@@ -1,4 +1,4 @@
-use Rattle.std.proofs.Common.{refl, sym, ◌∙◌}
+use Rattle.std.proofs.Common.{sym, ◌∙◌}
 use Rattle.core_steps.specs.Finishing.{finish_of}
 use Rattle.core_steps.proofs.world.World.finish.Goals as goal
 

@@ -1,11 +1,9 @@
-use Rattle.std.proofs.Common.{◌≡◌, subst}
+use Rattle.std.proofs.Common.{subst}
 use Rattle.leg_lists.specs.Stops.{until_of}
 use Rattle.dataflow_laws.specs.Compiled.{layout_to}
 use Rattle.redistribute.proofs.Facts.{tasks_open}
 use Rattle.leg_tasks.specs.Beginning.{BeginLeg}
-use Rattle.core_steps.specs.Given.{GivenData, given_data, layout_in}
-use Rattle.core_steps.specs.World.{IsSound}
-use Rattle.core_steps.specs.Beginning.{AreNewTasks}
+use Rattle.core_steps.specs.Given.{given_data, layout_in}
 use Rattle.core_steps.proofs.Sound.{sound}
 use Rattle.core_steps.proofs.Legs.{are_new_tasks}
 use Rattle.core_steps.proofs.Beginning.{is_world, is_new}

@@ -25,12 +25,13 @@ returns-clause-belongs c =
 pub returns-clause-in_input : goal.returns-clause-in_input
 returns-clause-in_input c =
     let i = c.args.input.now in
-    subst (IsStartIn i) (sym (returns-clause-snapshot c)) (starts_in i (empty_cut i.sources) 0 (empty_is_cut i.sources) (omega arith))
+    let p = c.args.plan.now in
+    subst (IsStartIn p i) (sym (returns-clause-snapshot c)) (starts_in p i (empty_cut i.sources) 0 (empty_is_cut i.sources) (omega arith))
 
 pub returns-clause-nothing : goal.returns-clause-nothing
 returns-clause-nothing c =
     let ss = c.args.input.now.sources in
-    subst (IsFromNothing c.args.input.now) (sym (returns-clause-snapshot c)) (record { number = refl; offsets = offsets_at ss (empty_cut ss) 0 (empty_is_cut ss) })
+    subst (IsFromNothing c.args.input.now) (sym (returns-clause-snapshot c)) (record { number = refl; offsets = offsets_at ss (empty_cut ss) 0 (empty_is_cut ss); groups = refl })
 
 pub returns-clause-has_snapshot : goal.returns-clause-has_snapshot
 returns-clause-has_snapshot c = subst (HasSnapshot c.args.plan.now c.args.input.now) (sym (returns-clause-snapshot c)) (empty_has_snapshot c.args.plan.now c.args.input.now 0)
