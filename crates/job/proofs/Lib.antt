@@ -6,3 +6,4 @@ mod Lines
 mod LayoutAnswers
 mod ShowAnswers
 mod Parts
+mod LegAnswers

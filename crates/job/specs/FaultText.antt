@@ -9,6 +9,10 @@ use Rattle.plan_scale.specs.declared.fault.ScaleFault.{ScaleFault}
 use Rattle.plan_scale.specs.declared.fault.ScaleFault.TheVariants as scale
 use Rattle.savepoint_codec.specs.declared.fault.SaveFault.{SaveFault}
 use Rattle.savepoint_codec.specs.declared.fault.SaveFault.TheVariants as save
+use Rattle.restore.specs.declared.fault.RestoreFault.{RestoreFault}
+use Rattle.restore.specs.declared.fault.RestoreFault.TheVariants as restore
+use Rattle.leg_lists.specs.declared.fault.LegFault.{LegFault}
+use Rattle.leg_lists.specs.declared.fault.LegFault.TheVariants as leg
 use Rattle.job.specs.declared.fault.JobFault.{JobFault}
 use Rattle.job.specs.declared.fault.JobFault.TheVariants as job
 
@@ -61,11 +65,35 @@ save_text save.Order = codes "V4 Order"
 save_text save.Range = codes "V5 Range"
 save_text save.Memory = codes "memory"
 
+abbrev pub restore_text : RestoreFault → List ℕ
+restore_text restore.MaxParallelism = codes "Q1 MaxParallelism"
+restore_text restore.UnknownUid = codes "Q2 UnknownUid"
+restore_text restore.MissingUid = codes "Q3 MissingUid"
+restore_text restore.PlanChanged = codes "Q4 PlanChanged"
+restore_text restore.Partitions = codes "Q5 Partitions"
+restore_text restore.Offset = codes "Q6 Offset"
+restore_text restore.Watermark = codes "Q7 Watermark"
+restore_text restore.WrongGroup = codes "Q8 WrongGroup"
+restore_text restore.ClosedWindow = codes "Q9 ClosedWindow"
+restore_text restore.Count = codes "Q11 Count"
+restore_text restore.Number = codes "Q12 Number"
+restore_text restore.Memory = codes "memory"
+
+abbrev pub leg_text : LegFault → List ℕ
+leg_text leg.StopRange = codes "L1 StopRange"
+leg_text leg.Legs = codes "L3 Legs"
+leg_text leg.NotJson = codes "L4 NotJson"
+leg_text leg.Member = codes "L5 Member"
+leg_text (leg.Scale place fault) = scale_text fault
+leg_text leg.Memory = codes "memory"
+
 abbrev pub fault_text : JobFault → List ℕ
 fault_text (job.Plan fault) = plan_text fault
 fault_text (job.Input fault) = input_text fault
 fault_text (job.Scale fault) = scale_text fault
 fault_text (job.Save fault) = save_text fault
+fault_text (job.Restore fault) = restore_text fault
+fault_text (job.Leg fault) = leg_text fault
 fault_text job.Cut = codes "C1 Cut"
 fault_text job.Number = codes "C2 Number"
 fault_text job.Read = codes "F1 Read"
@@ -88,12 +116,23 @@ abbrev pub save_status : SaveFault → ℕ
 save_status save.Memory = 4
 save_status fault = 3
 
+abbrev pub restore_status : RestoreFault → ℕ
+restore_status restore.Memory = 4
+restore_status fault = 3
+
+abbrev pub leg_status : LegFault → ℕ
+leg_status leg.Memory = 4
+leg_status (leg.Scale place fault) = scale_status fault
+leg_status fault = 3
+
 -- 4 for want of memory, 2 for a word of the command line that is no cut or no number, and else 3
 abbrev pub status : JobFault → ℕ
 status (job.Plan fault) = plan_status fault
 status (job.Input fault) = input_status fault
 status (job.Scale fault) = scale_status fault
 status (job.Save fault) = save_status fault
+status (job.Restore fault) = restore_status fault
+status (job.Leg fault) = leg_status fault
 status job.Cut = 2
 status job.Number = 2
 status job.Memory = 4

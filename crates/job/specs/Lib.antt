@@ -9,3 +9,4 @@ pub mod Run
 pub mod Tells
 pub mod ShowText
 pub mod Show
+pub mod Leg

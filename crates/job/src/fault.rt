@@ -1,9 +1,11 @@
 ghost use Rattle.std.specs.Prelude.{◌≡◌};
 ghost use Rattle.job.specs.declared.fault.JobFault.TheVariants.{Memory};
-ghost use Rattle.job.specs.Fault.{plan_fault, input_fault, scale_fault, save_fault};
+ghost use Rattle.job.specs.Fault.{plan_fault, input_fault, scale_fault, save_fault, restore_fault, leg_fault};
 
+use leg_lists::LegFault;
 use logical_plan::PlanFault;
 use plan_compiler::ScaleFault;
+use restore::RestoreFault;
 use savepoint_codec::SaveFault;
 use std::alloc::{AllocError, AllocFailed};
 use stream_input::InputFault;
@@ -19,6 +21,10 @@ pub enum JobFault {
     Scale(ScaleFault),
     /// The savepoint's bytes are refused.
     Save(SaveFault),
+    /// The job cannot go on from the savepoint.
+    Restore(RestoreFault),
+    /// A leg cannot stop as it is to, or a list of legs is refused.
+    Leg(LegFault),
     /// A word of the command line is no cut.
     Cut,
     /// A word of the command line is no number in its range.
@@ -71,6 +77,29 @@ impl From<SaveFault> for JobFault {
         match fault {
             SaveFault::Memory => JobFault::Memory,
             other => JobFault::Save(other),
+        }
+    }
+}
+
+impl From<RestoreFault> for JobFault {
+    ghost from_gives = { λ fault e. e ≡ restore_fault fault };
+
+    fn from(fault: RestoreFault) -> JobFault {
+        match fault {
+            RestoreFault::Memory => JobFault::Memory,
+            other => JobFault::Restore(other),
+        }
+    }
+}
+
+impl From<LegFault> for JobFault {
+    ghost from_gives = { λ fault e. e ≡ leg_fault fault };
+
+    fn from(fault: LegFault) -> JobFault {
+        match fault {
+            LegFault::Memory => JobFault::Memory,
+            LegFault::Scale(_, scale) => JobFault::from(scale),
+            other => JobFault::Leg(other),
         }
     }
 }

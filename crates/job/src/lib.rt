@@ -7,6 +7,7 @@ mod group;
 pub mod laws;
 mod layout;
 mod layout_text;
+mod leg;
 #[cfg(test)]
 mod limits;
 mod line;
@@ -23,6 +24,7 @@ pub use cut::read_cut;
 pub use fault::JobFault;
 pub use group::job_group;
 pub use layout::job_layout;
+pub use leg::job_leg;
 pub use line::{FaultLine, fault_line, status_of};
 pub use run::job_run;
 pub use show::job_show;

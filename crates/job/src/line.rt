@@ -1,11 +1,13 @@
 //! What the program says of a fault.
 
 ghost use Rattle.std.specs.Prelude.{◌≡◌, IfOk, string_bytes};
-ghost use Rattle.job.specs.FaultText.{fault_text, plan_text, save_text, scale_text, status};
+ghost use Rattle.job.specs.FaultText.{fault_text, leg_text, plan_text, restore_text, save_text, scale_text, status};
 
 use crate::fault::JobFault;
+use leg_lists::LegFault;
 use logical_plan::PlanFault;
 use plan_compiler::ScaleFault;
+use restore::RestoreFault;
 use savepoint_codec::SaveFault;
 use std::alloc::{AllocError, Global};
 use std::fmt;
@@ -22,7 +24,9 @@ pub fn status_of(fault: &JobFault) -> u8
         | JobFault::Plan(PlanFault::Memory)
         | JobFault::Input(InputFault::Memory)
         | JobFault::Scale(ScaleFault::Memory)
-        | JobFault::Save(SaveFault::Memory) => 4,
+        | JobFault::Save(SaveFault::Memory)
+        | JobFault::Restore(RestoreFault::Memory)
+        | JobFault::Leg(LegFault::Memory | LegFault::Scale(_, ScaleFault::Memory)) => 4,
         _ => 3,
     }
 }
@@ -72,6 +76,8 @@ impl fmt::Display for FaultLine<'_> {
             JobFault::Input(InputFault::Memory) | JobFault::Memory => write!(f, "memory"),
             JobFault::Scale(fault) => write!(f, "{}", scale_name(fault)),
             JobFault::Save(fault) => write!(f, "{}", save_name(fault)),
+            JobFault::Restore(fault) => write!(f, "{}", restore_name(fault)),
+            JobFault::Leg(fault) => write!(f, "{}", leg_name(fault)),
             JobFault::Cut => write!(f, "C1 Cut"),
             JobFault::Number => write!(f, "C2 Number"),
             JobFault::Read => write!(f, "F1 Read"),
@@ -128,5 +134,37 @@ fn save_name(fault: &SaveFault) -> &'static str
         SaveFault::Order => "V4 Order",
         SaveFault::Range => "V5 Range",
         SaveFault::Memory => "memory",
+    }
+}
+
+fn restore_name(fault: &RestoreFault) -> &'static str
+    ensures { result.now ≡ restore_text fault.now }
+{
+    match fault {
+        RestoreFault::MaxParallelism => "Q1 MaxParallelism",
+        RestoreFault::UnknownUid => "Q2 UnknownUid",
+        RestoreFault::MissingUid => "Q3 MissingUid",
+        RestoreFault::PlanChanged => "Q4 PlanChanged",
+        RestoreFault::Partitions => "Q5 Partitions",
+        RestoreFault::Offset => "Q6 Offset",
+        RestoreFault::Watermark => "Q7 Watermark",
+        RestoreFault::WrongGroup => "Q8 WrongGroup",
+        RestoreFault::ClosedWindow => "Q9 ClosedWindow",
+        RestoreFault::Count => "Q11 Count",
+        RestoreFault::Number => "Q12 Number",
+        RestoreFault::Memory => "memory",
+    }
+}
+
+fn leg_name(fault: &LegFault) -> &'static str
+    ensures { result.now ≡ leg_text fault.now }
+{
+    match fault {
+        LegFault::StopRange => "L1 StopRange",
+        LegFault::Legs => "L3 Legs",
+        LegFault::NotJson => "L4 NotJson",
+        LegFault::Member => "L5 Member",
+        LegFault::Scale(_, scale) => scale_name(scale),
+        LegFault::Memory => "memory",
     }
 }

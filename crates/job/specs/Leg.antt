@@ -1,0 +1,97 @@
+-- What running a leg answers.
+use Rattle.std.specs.Prelude.{◌≡◌, ◌⊎◌, ℕ, List, Option, Some, None, Result, Ok, Err}
+use Rattle.std.specs.Io.KnownBytes.{Appends}
+use Rattle.std.specs.Option.{option_map_or}
+use Rattle.std.specs.Result.{result_map_both}
+use Rattle.json_parts.specs.Answer.{unless}
+use Rattle.plan_model.specs.PlanData.{PlanData}
+use Rattle.plan_model.specs.declared.spec.Row.{Row}
+use Rattle.plan_model.specs.Rows.{AreRowsOf}
+use Rattle.logical_plan.specs.Answer.{plan_of_bytes}
+use Rattle.stream_model.specs.InputData.{InputData}
+use Rattle.stream_model.specs.Watermarks.{empty_cut}
+use Rattle.stream_input.specs.Answer.{input_of_bytes}
+use Rattle.dataflow_laws.specs.Inputs.{due_between}
+use Rattle.dataflow_laws.specs.Compiled.{cut_to}
+use Rattle.plan_scale.specs.Answer.{scale_of_bytes}
+use Rattle.savepoint_codec.specs.Answer.{savepoint_of_bytes}
+use Rattle.leg_lists.specs.declared.fault.LegFault.TheVariants.{StopRange}
+use Rattle.leg_lists.specs.declared.stop.Stop.{Stop}
+use Rattle.leg_lists.specs.declared.stop.Stop.TheVariants.{Never, At}
+use Rattle.leg_lists.specs.Stops.{until_of}
+use Rattle.redistribute.specs.StartData.{StartData, offsets_of}
+use Rattle.redistribute.specs.Snapshots.{start_at}
+use Rattle.redistribute.specs.Begins.{HasSnapshot}
+use Rattle.redistribute.specs.Stopping.{CanStop}
+use Rattle.restore.specs.Answer.{start_or_fault}
+use Rattle.job.specs.declared.fault.JobFault.{JobFault}
+use Rattle.job.specs.declared.fault.JobFault.TheVariants.{Plan, Input, Scale, Save, Restore, Leg, Cut, Write}
+use Rattle.job.specs.Cut.{cut_said}
+use Rattle.job.specs.Fault.{is_memory}
+use Rattle.job.specs.Text.{IsTextOf}
+
+-- what the texts of a leg say, but for its scale, which changes no row
+pub record LegJob : Type 0 where
+  pub plan : PlanData
+  pub input : InputData
+  pub start : StartData
+  pub stop : Stop
+
+-- an answer that goes on with another, unless it is a fault
+abbrev pub and_then : {X Y : Type 0} → (X → Result Y JobFault) → Result X JobFault → Result Y JobFault
+and_then next (Ok x) = next x
+and_then next (Err fault) = Err fault
+
+-- a reader's answer, with its fault as one of a job
+abbrev pub as_job : {X F : Type 0} → (F → JobFault) → Result X F → Result X JobFault
+as_job fault_of said = result_map_both (λ x. x) fault_of said
+
+-- where the leg begins: at the savepoint that the bytes spell, or from nothing
+unfoldable pub start_said : PlanData → InputData → Option (List ℕ) → Result StartData JobFault
+start_said p i None = Ok (start_at i.sources (empty_cut i.sources) 0)
+start_said p i (Some bytes) = and_then (λ s. as_job Restore (start_or_fault p i s)) (as_job Save (savepoint_of_bytes bytes))
+
+-- where it stops: at the cut that the word spells, or never
+unfoldable pub stop_said : Option (List ℕ) → Result Stop JobFault
+stop_said None = Ok Never
+stop_said (Some word) = option_map_or (λ cut. Ok (At cut)) (cut_said word) (Err Cut)
+
+abbrev pub job_with : PlanData → InputData → Option (List ℕ) → Option (List ℕ) → Result LegJob JobFault
+job_with p i from stop = and_then (λ s. and_then (λ t. Ok (record { plan = p; input = i; start = s; stop = t })) (stop_said stop)) (start_said p i from)
+
+-- with a plan and an input that were read, and with a plan
+unfoldable pub leg_on : PlanData → InputData → List ℕ → Option (List ℕ) → Option (List ℕ) → Result LegJob JobFault
+leg_on p i scale from stop = and_then (λ c. job_with p i from stop) (as_job Scale (scale_of_bytes p scale))
+
+unfoldable pub leg_by : PlanData → List ℕ → List ℕ → Option (List ℕ) → Option (List ℕ) → Result LegJob JobFault
+leg_by p input scale from stop = and_then (λ i. leg_on p i scale from stop) (as_job Input (input_of_bytes p input))
+
+-- what the texts say, or the first refusal: the plan's, the input's, the scale's, the savepoint's, the cut's
+unfoldable pub leg_said : List ℕ → List ℕ → List ℕ → Option (List ℕ) → Option (List ℕ) → Result LegJob JobFault
+leg_said plan input scale from stop = and_then (λ p. leg_by p input scale from stop) (as_job Plan (plan_of_bytes plan))
+
+-- the leg can stop as it is to
+abbrev pub CanStopSo : LegJob → Type 0
+CanStopSo job = CanStop job.input.sources (offsets_of job.start) job.stop
+
+-- rows are those that become due from the leg's start to where it goes, each once, if it starts with the snapshot of its cut
+abbrev pub AreLegRows : LegJob → List Row → Type 0
+AreLegRows job rows = HasSnapshot job.plan job.input job.start → AreRowsOf (due_between job.plan job.input.sources (offsets_of job.start) (cut_to job.input (until_of job.stop))) rows
+
+-- and a text has their lines, in the order of start and key
+abbrev pub IsLegText : LegJob → List ℕ → Type 0
+IsLegText job text = HasSnapshot job.plan job.input job.start → IsTextOf (due_between job.plan job.input.sources (offsets_of job.start) (cut_to job.input (until_of job.stop))) text
+
+-- why a job that was read is not done: the leg cannot stop so, or what it gives cannot be written
+abbrev pub IsLate : LegJob → JobFault → Type 0
+IsLate job fault = ((fault ≡ Leg StopRange) × ¬ CanStopSo job) ⊎ ((fault ≡ Write) × CanStopSo job)
+
+-- where the answer is Ok, the leg's text is written; else the refusal is the first that the texts give, or one of the job that they say
+abbrev pub TellsLeg : Result LegJob JobFault → Result (Unit {0}) JobFault → Option (List ℕ) → Option (List ℕ) → Type 0
+TellsLeg said (Ok _) old new = (job : LegJob) × (said ≡ Ok job) × CanStopSo job × ((text : List ℕ) × IsLegText job text × Appends old new text)
+TellsLeg said (Err fault) old new = unless (is_memory fault) ((said ≡ Err fault) ⊎ ((job : LegJob) × (said ≡ Ok job) × IsLate job fault))
+
+-- what a leg gives, or why it gives nothing
+abbrev pub GivesLeg : {X : Type 0} → (X → Type 0) → LegJob → Result X JobFault → Type 0
+GivesLeg is job (Ok x) = CanStopSo job × is x
+GivesLeg is job (Err fault) = unless (is_memory fault) ((fault ≡ Leg StopRange) × ¬ CanStopSo job)
