@@ -1,0 +1,8 @@
+mod Filled
+mod Windows
+mod Ranges
+mod InOrder
+mod Owned
+mod Spelled
+mod RecordLength
+mod Whole

@@ -1,0 +1,4 @@
+pub mod Saved
+pub mod Parts
+pub mod Buckets
+pub mod Sources

@@ -1,0 +1,144 @@
+//! What stands in the panes of tasks, by key group.
+
+ghost use Rattle.std.specs.Prelude.{◌≡◌, ℕ, ◌^◌, ◌<◌, ◌≤◌, ◌++◌, length, replicate, OnOk, IfOk};
+ghost use Rattle.std.specs.List.{All, flat_map, fold};
+ghost use Rattle.std.specs.List.Sorted.{IsStrictlySortedBy};
+ghost use Rattle.plan_model.specs.Rows.{pane_cmp};
+ghost use Rattle.key_groups.specs.declared.limits.TheConstants.{MOST_GROUPS};
+ghost use Rattle.gather.specs.Saved.{entries_in_group, saved_group};
+ghost use Rattle.gather.specs.Saved as said;
+ghost use Rattle.gather.specs.Parts.{panes_in as panes_of, panes_in_group, windows_in};
+ghost use Rattle.gather.specs.Buckets.{HaveWidth, IsTyped, no_entries, with_part, groups_from};
+
+use key_groups::{MaxParallelism, group_of};
+use plain_data::Items;
+use plan_model::Pane;
+use redistribute::TaskStart;
+use savepoint_codec::{Entries, Entry, SavedGroup};
+use std::alloc::{AllocError, Global};
+use window_state::Part;
+
+/// A bucket for each key group, with nothing in it.
+fn empty_buckets(
+    alloc: Global,
+    max: MaxParallelism,
+    width: usize,
+) -> Result<Vec<Entries>, AllocError>
+    ensures says { IfOk result (λ buckets. buckets.items ≡ replicate max (no_entries width)) }
+    ensures positive { 1 ≤ max }
+    ensures small { max ≤ MOST_GROUPS }
+{
+    let mut buckets = Vec::with_capacity(alloc, max.get() as usize)?;
+    for _group in 0..max.get() {
+        buckets.push(Entries::new(alloc, width))?;
+    }
+    Ok(buckets)
+}
+
+/// What stands in a pane, put into the bucket of its key group.
+fn push_part(buckets: &mut [Entries], max: MaxParallelism, part: &Part) -> Result<(), AllocError>
+    requires groups { length buckets.old ≡ max }
+    requires widths { HaveWidth (length part.now.acc.kinds) buckets.old }
+    ensures says { OnOk result (buckets.new ≡ with_part max buckets.old part.now) }
+    ensures widths { OnOk result ((n : ℕ) → HaveWidth n buckets.old → HaveWidth n buckets.new) }
+    ensures typed { IsTyped part.now }
+{
+    let Pane { start, key } = part.pane;
+    let group = group_of(key, max);
+    buckets[group as usize].push(Entry {
+        pane: Pane { start, key },
+        count: part.acc.count(),
+        numbers: part.acc.numbers(),
+    })
+}
+
+/// The panes of a task, put into the buckets of their key groups.
+fn push_parts(
+    buckets: &mut [Entries],
+    max: MaxParallelism,
+    parts: &[Part],
+) -> Result<(), AllocError>
+    requires groups { length buckets.old ≡ max }
+    requires widths { All (λ part. HaveWidth (length part.acc.kinds) buckets.old) parts.now }
+    ensures says { OnOk result (buckets.new ≡ fold (with_part max) buckets.old parts.now) }
+    ensures widths { OnOk result ((n : ℕ) → HaveWidth n buckets.old → HaveWidth n buckets.new) }
+    ensures typed { OnOk result (All IsTyped parts.now) }
+{
+    for part in parts {
+        push_part(buckets, max, part)?;
+    }
+    Ok(())
+}
+
+/// The panes of a task; none, but for a window's task.
+fn panes_in(part: &TaskStart) -> &[Part]
+    ensures { result.now ≡ panes_of part.now }
+{
+    match part {
+        TaskStart::Window(panes) => panes.as_slice(),
+        _ => &[],
+    }
+}
+
+/// The panes of all tasks, by key group.
+fn all_buckets(
+    alloc: Global,
+    max: MaxParallelism,
+    width: usize,
+    parts: &[TaskStart],
+) -> Result<Vec<Entries>, AllocError>
+    requires { All (λ part. length part.acc.kinds ≡ width) (flat_map panes_of parts.now) }
+    ensures says { IfOk result (λ buckets. buckets.items ≡ fold (with_part max) (replicate max (no_entries width)) (flat_map panes_of parts.now)) }
+    ensures typed { IfOk result (λ buckets. All IsTyped (flat_map panes_of parts.now)) }
+    ensures positive { 1 ≤ max }
+    ensures small { max ≤ MOST_GROUPS }
+{
+    let mut buckets = empty_buckets(alloc, max, width)?;
+    for part in parts {
+        push_parts(&mut buckets, max, panes_in(part))?;
+    }
+    Ok(buckets)
+}
+
+/// A key group put behind others, if it has entries.
+fn push_group(groups: &mut Vec<SavedGroup>, group: u16, entries: Entries) -> Result<(), AllocError>
+    ensures says { OnOk result (groups.new.items ≡ groups.old.items ++ saved_group entries.width group entries.entries) }
+    ensures long { length entries.entries < 2 ^ 64 }
+{
+    if entries.len() > 0 {
+        groups.push(SavedGroup { group, entries })?;
+    }
+    Ok(())
+}
+
+/// The buckets that have entries, each as its key group.
+fn kept_groups(alloc: Global, buckets: Vec<Entries>) -> Result<Items<SavedGroup>, AllocError>
+    requires { length buckets.items < 2 ^ 16 }
+    ensures says { IfOk result (λ groups. groups ≡ groups_from 0 buckets.items) }
+    ensures long { IfOk result (λ groups. All (λ b. length b.entries < 2 ^ 64) buckets.items) }
+{
+    let mut groups = Vec::new(alloc);
+    let mut group = 0;
+    for entries in buckets {
+        push_group(&mut groups, group, entries)?;
+        group += 1;
+    }
+    Ok(Items::from_vec(groups))
+}
+
+/// What stands in the panes of all tasks, by key group, ascending.
+pub fn saved_groups(
+    alloc: Global,
+    max: MaxParallelism,
+    width: usize,
+    parts: &[TaskStart],
+) -> Result<Items<SavedGroup>, AllocError>
+    requires wide { All (λ part. length part.acc.kinds ≡ width) (flat_map panes_of parts.now) }
+    requires ordered { (group : ℕ) → IsStrictlySortedBy pane_cmp (panes_in_group max group (flat_map panes_of parts.now)) }
+    ensures says { IfOk result (λ groups. groups ≡ said.saved_groups max width (windows_in parts.now)) }
+    ensures typed { IfOk result (λ groups. All IsTyped (flat_map panes_of parts.now)) }
+    ensures long { IfOk result (λ groups. (group : ℕ) → group < max → length (entries_in_group max (windows_in parts.now) group) < 2 ^ 64) }
+{
+    let buckets = all_buckets(alloc, max, width, parts)?;
+    kept_groups(alloc, buckets)
+}

@@ -1,0 +1,8 @@
+//! The parts that the tasks of a leg leave, put together into a savepoint.
+#![tactic(auto)]
+
+mod buckets;
+mod gathering;
+mod sources;
+
+pub use gathering::gather;
