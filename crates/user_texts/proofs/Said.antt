@@ -1,0 +1,16 @@
+-- The first page with a code, in a table of references and in a table of texts.
+use Rattle.std.proofs.Common.{◌≡◌, ℕ, Bool, true, false, cond, map, List, [], ◌∷◌, Option, Some, option_map, refl}
+use Rattle.std.specs.Borrow.{Bor}
+use Rattle.std.specs.List.{find}
+use Rattle.user_texts.specs.Pages.{same_code, page_said}
+
+step : (is : Bool) (page : Bor (List ℕ) × Bor (List ℕ)) (texts : Option (List ℕ × List ℕ)) (pages : Option (Bor (List ℕ) × Bor (List ℕ)))
+    → option_map (λ p. p.1) texts ≡ option_map (λ p. p.1.now) pages → option_map (λ p. p.1) (cond is (Some (page.0.now, page.1.now)) texts) ≡ option_map (λ p. p.1.now) (cond is (Some page) pages)
+step true page texts pages same = refl
+step false page texts pages same = same
+
+pub said : (pages : List (Bor (List ℕ) × Bor (List ℕ))) (code : List ℕ)
+    → page_said (map (λ page. (page.0.now, page.1.now)) pages) code ≡ option_map (λ page. page.1.now) (find (λ page. same_code page.0.now code) pages)
+unfolding page_said
+said [] code = refl
+said (page ∷ pages) code = step (same_code page.0.now code) page _ _ (said pages code)

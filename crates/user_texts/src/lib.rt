@@ -1,0 +1,13 @@
+//! What the program says of itself: its version, and the page of each fault.
+#![tactic(auto)]
+
+mod page;
+mod pages;
+#[cfg(test)]
+mod tests;
+mod version;
+mod writing;
+
+pub use page::{FaultPage, explain};
+pub use version::{VERSION, write_version};
+pub use writing::TextFault;

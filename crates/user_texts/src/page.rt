@@ -1,0 +1,47 @@
+//! The page of a fault.
+
+ghost use Rattle.std.specs.Prelude.{◌≡◌, option_copied, map};
+ghost use Rattle.std.specs.List.{find};
+ghost use Rattle.user_texts.specs.Pages.{explained, same_code, page_said, TellsPage};
+
+use crate::pages::PAGES;
+use crate::writing::{TextFault, write_text};
+use std::io::Write;
+
+/// A page: the code of a fault, and what docs/FAULTS.md says of it.
+pub type FaultPage<'a> = (&'a str, &'a str);
+
+/// Whether two words are one code, in capital or small letters.
+fn is_same_code(a: &str, b: &str) -> bool
+    ensures { result ≡ same_code a.now b.now }
+{
+    a.eq_ignore_ascii_case(b)
+}
+
+/// The first page with a code.
+fn page_with<'a>(pages: &'a [FaultPage<'a>], code: &str) -> Option<&'a FaultPage<'a>>
+    ensures { option_copied result ≡ find (λ page. same_code page.0.now code.now) pages.now }
+{
+    pages.iter().find(|page| is_same_code(page.0, code))
+}
+
+fn write_page<W: Write>(pages: &[FaultPage<'_>], code: &str, out: &mut W) -> Result<(), TextFault>
+    ensures { TellsPage (page_said (map (λ page. (page.0.now, page.1.now)) pages.now) code.now) result (W.contents out.old) (W.contents out.new) }
+{
+    match page_with(pages, code) {
+        Some((_, text)) => write_text(out, text),
+        None => Err(TextFault::NoPage),
+    }
+}
+
+/// Writes the page of the fault with a code, as `I5` or `i5`: what it means, an example, and what to do.
+///
+/// # Errors
+///
+/// `NoPage` where no page has the code; `Write` where the writer refuses the page.
+#[tactic(auto, unfolding(crate::specs::Pages::explained))]
+pub fn explain<W: Write>(code: &str, out: &mut W) -> Result<(), TextFault>
+    ensures { TellsPage (explained code.now) result (W.contents out.old) (W.contents out.new) }
+{
+    write_page(&PAGES, code, out)
+}

@@ -1,0 +1,34 @@
+use crate::{TextFault, explain, write_version};
+use std::test::Fail;
+
+#[test]
+fn the_version(rt: HostRuntime) -> Result<(), Fail> {
+    let mut out = Vec::new(rt.alloc());
+    write_version(&mut out)?;
+    let want = "streamjob 0.1.0\nbuilt with rattle-kit-13b logic dac8208d650f15bf\n";
+    assert_eq!(rt; out.as_slice(), want.as_bytes());
+    Ok(())
+}
+
+#[test]
+fn a_page_in_either_case(rt: HostRuntime) -> Result<(), Fail> {
+    let mut large = Vec::new(rt.alloc());
+    explain("P3", &mut large)?;
+    assert!(rt; large.starts_with(b"P3 Columns (status 3)\n\n`columns` is not 1 to 16.\n"));
+    let mut small = Vec::new(rt.alloc());
+    explain("p3", &mut small)?;
+    assert_eq!(rt; small.as_slice(), large.as_slice());
+    let mut memory = Vec::new(rt.alloc());
+    explain("MEMORY", &mut memory)?;
+    assert!(rt; memory.starts_with(b"memory (status 4)\n"));
+    Ok(())
+}
+
+#[test]
+fn codes_without_a_page(rt: HostRuntime) {
+    let mut out = Vec::new(rt.alloc());
+    for code in ["", "P", "P0", "P16", "P3 ", "P3 Columns", "C1"] {
+        assert_eq!(rt; explain(code, &mut out), Err(TextFault::NoPage), "{code}");
+    }
+    assert!(rt; out.is_empty());
+}
