@@ -1,9 +1,10 @@
 #!/usr/bin/env python3
-"""Makes an input of streamjob from CSV files, on standard output.
+"""Makes an input of streamjob from CSV and NDJSON files, on standard output.
 
-    csv_to_input.py [--names FILE] [--bound N] [--rows N] --columns COLUMN,COLUMN,.. SOURCE=FILE[,FILE..] ..
+    csv_to_input.py [--names FILE] [--bound N [--late FILE]] [--rows N] --columns COLUMN,COLUMN,.. SOURCE=FILE[,FILE..] ..
 
-Each FILE has a line of names first, and is one partition of the source SOURCE. Each COLUMN is one number of a record:
+Each FILE is one partition of the source SOURCE. It is CSV, with a line of names first, or, where its name ends in .ndjson, a JSON object
+a line, whose members are its fields. Each COLUMN is one number of a record:
 
     bytes           a whole number, as it stands
     power_kw:3      a decimal with at most 3 decimal places, times 1000: 2.39 is 2390
@@ -13,7 +14,8 @@ Each FILE has a line of names first, and is one partition of the source SOURCE. 
     paid:eq:yes     1 where the text is just this, else 0; ne for the opposite
 
 An entry has at most 4,096 rows, or as many as --rows says. With --bound N the first column is the time, and a watermark stands
-between two entries: the greatest time so far less N less 1. A record at or below a watermark is late and refused.
+between two entries: the greatest time so far less N less 1. A record at or below a watermark is late and refused, or, with --late, left
+out and written to that file, a CSV of the fields that --columns names.
 
 What cannot be kept exactly is refused with status 1, as `FILE:LINE: COLUMN: ..`. No number passes through a float. What
 stands on standard output is then no whole document, and streamjob refuses it, too.
@@ -93,66 +95,113 @@ def reader_of(column, names):
     raise Refused(f"--columns: {column!r} is not understood")
 
 
-def records(path, columns):
-    """Each record of a file, with the number of its line."""
-    with open(path, encoding="utf-8-sig", newline="") as file:
-        lines = csv.reader(file, strict=True)
+def csv_texts(path, file, fields):
+    """The texts of the fields in each line of a CSV file, with the number of the line."""
+    lines = csv.reader(file, strict=True)
+    try:
+        header = next(lines, [])
+        for field in fields:
+            if header.count(field) != 1:
+                raise Refused(f"{path}:1: there has to be one column {field!r}; there are {', '.join(header)}")
+        places = [header.index(field) for field in fields]
+        for cells in lines:
+            if len(cells) != len(header):
+                raise Refused(f"{path}:{lines.line_num}: {len(cells)} cells, and the first line has {len(header)}")
+            yield lines.line_num, [cells[place] for place in places]
+    except csv.Error as why:
+        raise Refused(f"{path}: after line {lines.line_num}: {why}") from None
+
+
+def members_once(pairs):
+    members = dict(pairs)
+    if len(members) < len(pairs):
+        raise ValueError("a member stands twice")
+    return members
+
+
+def json_text(members, field):
+    """The text of a member: of a number just as it stands, since it never becomes a float."""
+    value = members.get(field)
+    if isinstance(value, bool):
+        return "true" if value else "false"
+    if not isinstance(value, str):
+        raise Refused(f"there has to be a member {field!r} with a text, a number, true or false")
+    return value
+
+
+def json_texts(path, file, fields):
+    """The texts of the fields in each line of an NDJSON file, with the number of the line."""
+    for line, text in enumerate(file, 1):
         try:
-            yield from rows_of(path, lines, columns)
-        except (csv.Error, UnicodeDecodeError) as why:
-            raise Refused(f"{path}: after line {lines.line_num}: {why}") from None
+            members = json.loads(text, parse_int=str, parse_float=str, object_pairs_hook=members_once)
+            if not isinstance(members, dict):
+                raise Refused("a line has to be a JSON object")
+            yield line, [json_text(members, field) for field in fields]
+        except (Refused, ValueError, RecursionError) as why:
+            raise Refused(f"{path}:{line}: {why}") from None
 
 
-def rows_of(path, lines, columns):
-    header = next(lines, [])
-    for field, _ in columns:
-        if header.count(field) != 1:
-            raise Refused(f"{path}:1: there has to be one column {field!r}; there are {', '.join(header)}")
-    places = [(field, header.index(field), number) for field, number in columns]
-    for cells in lines:
-        if len(cells) != len(header):
-            raise Refused(f"{path}:{lines.line_num}: {len(cells)} cells, and the first line has {len(header)}")
-        row = []
-        for field, place, number in places:
-            try:
-                row.append(number(cells[place]))
-            except Refused as why:
-                raise Refused(f"{path}:{lines.line_num}: {field}: {why}") from None
-        yield lines.line_num, row
+def texts_of(path, fields):
+    """The texts of the fields in each line of a file, with the number of the line."""
+    with open(path, encoding="utf-8-sig", newline="") as file:
+        try:
+            yield from (json_texts if path.endswith(".ndjson") else csv_texts)(path, file, fields)
+        except UnicodeDecodeError as why:
+            raise Refused(f"{path}: {why}") from None
 
 
-def entries(path, columns, bound, most):
-    """The entries of a partition, each made when it is asked for."""
+def row_of(path, line, columns, texts):
+    row = []
+    for field, number in columns:
+        try:
+            row.append(number(texts[field]))
+        except Refused as why:
+            raise Refused(f"{path}:{line}: {field}: {why}") from None
+    return row
+
+
+def fields_of(columns):
+    """The fields that the columns name, each once."""
+    return list(dict.fromkeys(field for field, _ in columns))
+
+
+def entries(path, columns, said, late):
+    """The entries of a partition, each made when it is asked for. What is late goes to the function `late`."""
     rows, watermark, latest = [], None, None
-    for line, row in records(path, columns):
-        if len(rows) == most:
+    fields = fields_of(columns)
+    for line, texts in texts_of(path, fields):
+        row = row_of(path, line, columns, dict(zip(fields, texts)))
+        if len(rows) == said.rows:
             yield {"rows": rows}
             rows = []
-            if bound is not None:
-                watermark = latest - bound - 1
+            if said.bound is not None:
+                watermark = latest - said.bound - 1
                 yield {"watermark": watermark}
         if watermark is not None and row[0] <= watermark:
-            raise Refused(f"{path}:{line}: late: the time {row[0]} is not above the watermark {watermark}")
+            if late is None:
+                raise Refused(f"{path}:{line}: late: the time {row[0]} is not above the watermark {watermark}")
+            late(texts)
+            continue
         latest = row[0] if latest is None else max(latest, row[0])
         rows.append(row)
     if rows:
         yield {"rows": rows}
 
 
-def write_partition(path, columns, said, out):
+def write_partition(path, columns, said, late, out):
     out.write("[")
-    for number, entry in enumerate(entries(path, columns, said.bound, said.rows)):
+    for number, entry in enumerate(entries(path, columns, said, late)):
         out.write(("," if number else "") + "\n" + json.dumps(entry, separators=(",", ":")))
     out.write("]")
 
 
-def write_input(sources, columns, said, out):
+def write_input(sources, columns, said, late, out):
     out.write("{")
     for number, (uid, files) in enumerate(sources.items()):
         out.write((",\n" if number else "") + json.dumps(uid) + ":[")
         for place, path in enumerate(files.split(",")):
             out.write("," if place else "")
-            write_partition(path, columns, said, out)
+            write_partition(path, columns, said, late, out)
         out.write("]")
     out.write("}\n")
 
@@ -187,6 +236,7 @@ def main():
     words = argparse.ArgumentParser(description=__doc__, formatter_class=argparse.RawDescriptionHelpFormatter)
     words.add_argument("--names", metavar="FILE")
     words.add_argument("--bound", type=int, metavar="N")
+    words.add_argument("--late", metavar="FILE")
     words.add_argument("--rows", type=int, metavar="N", default=MOST_ROWS)
     words.add_argument("--columns", required=True, metavar="COLUMN,..")
     words.add_argument("sources", nargs="+", metavar="SOURCE=FILE[,FILE..]")
@@ -197,7 +247,13 @@ def main():
     columns = [reader_of(column, names) for column in said.columns.split(",")]
     if said.names is None and any(column.endswith(":name") for column in said.columns.split(",")):
         raise Refused("a column of names needs --names FILE, so that the numbers can be read back")
-    write_input(sources_of(said.sources), columns, said, sys.stdout)
+    if said.late is None:
+        write_input(sources_of(said.sources), columns, said, None, sys.stdout)
+    else:
+        with open(said.late, "w", encoding="utf-8", newline="") as file:
+            late = csv.writer(file, lineterminator="\n").writerow
+            late(fields_of(columns))
+            write_input(sources_of(said.sources), columns, said, late, sys.stdout)
     sys.stdout.flush()
     if said.names is not None:
         write_names(said.names, names)
