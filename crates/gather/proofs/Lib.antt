@@ -6,3 +6,4 @@ mod Owned
 mod Spelled
 mod RecordLength
 mod Whole
+mod Spread

@@ -103,11 +103,11 @@ module _ (owners : OwnersHaveRanges) (p : PlanData) (c : ScaleData) (ip : IsPlan
       there ∙ ap (λ a. F a + group_owner p.max (parallelism_at S a) g) (in_stage t h)
 
 -- panes of which none is in the group
-none_there : (q : Pane → Bool) (parts : List Part) → All (λ part. q part.pane ≡ false) parts → filter q (map (λ part. part.pane) parts) ≡ []
+pub none_there : (q : Pane → Bool) (parts : List Part) → All (λ part. q part.pane ≡ false) parts → filter q (map (λ part. part.pane) parts) ≡ []
 none_there q [] h = refl
 none_there q (x ∷ xs) h = ap (λ b. cond b (x.pane ∷ filter q (map (λ part. part.pane) xs)) (filter q (map (λ part. part.pane) xs))) (h 0 x (omega arith)) ∙ none_there q xs (λ k d l. h (suc k) d (omega (arith, l)))
 
-each_in : (max g : ℕ) (f : TaskStart → List Part) (xs : List TaskStart) → panes_in_group max g (flat_map f xs) ≡ flat_map (λ x. panes_in_group max g (f x)) xs
+pub each_in : {X : Type 0} (max g : ℕ) (f : X → List Part) (xs : List X) → panes_in_group max g (flat_map f xs) ≡ flat_map (λ x. panes_in_group max g (f x)) xs
 each_in max g f [] = refl
 each_in max g f (x ∷ xs) =
     ap (filter (is_in_group max g)) (map-append (λ part. part.pane) (f x) (flat_map f xs))
@@ -115,7 +115,7 @@ each_in max g f (x ∷ xs) =
     ∙ ap (λ qs. panes_in_group max g (f x) ++ qs) (each_in max g f xs)
 
 -- where at most one gives anything, all give what that one does
-empty : {X Y : Type 0} (f : X → List Y) (xs : List X) (d : X) → ((i : ℕ) → i < length xs → f (get_or xs i d) ≡ []) → flat_map f xs ≡ []
+pub empty : {X Y : Type 0} (f : X → List Y) (xs : List X) (d : X) → ((i : ℕ) → i < length xs → f (get_or xs i d) ≡ []) → flat_map f xs ≡ []
 empty f [] d h = refl
 empty f (x ∷ xs) d h = ap (λ ys. ys ++ flat_map f xs) (h 0 (omega arith)) ∙ empty f xs d (λ i l. h (suc i) (omega (arith, l)))
 
@@ -154,7 +154,7 @@ all_counted p stages parts h = every_pane (λ part. part.acc.total.count ≤ MOS
 pub all_wide : (p : PlanData) (stages : List Stage) (parts : List TaskStart) → AreParts p stages parts → All (λ part. length part.acc.kinds ≡ length p.window.aggregates) (flat_map panes_in parts)
 all_wide p stages parts h = λ k d l. ap (length {A = Kind}) (all_kinds p stages parts h k d l) ∙ length-map p.window.aggregates kind_of
 
-sorted_nil : IsStrictlySortedBy pane_cmp []
+pub sorted_nil : IsStrictlySortedBy pane_cmp []
 unfolding IsStrictlySortedBy
 sorted_nil = tt
 

@@ -12,8 +12,3 @@ flat_map-range f n =
     ap (λ m. flat_map f (range_with_len 0 m)) (let e : n + 1 ≡ suc n = omega arith in e)
     ∙ ap (flat_map f) (range_more 0 n ∙ ap (λ m. range_with_len 0 n ++ m ∷ []) (let e : 0 + n ≡ n = omega arith in e))
     ∙ sym (flat_map_more f [] (range_with_len 0 n) n)
-
--- a value behind a test
-pub passed : (b : Bool) (n m : ℕ) → cond b (Some n) None ≡ Some m → (b ≡ true) × (n ≡ m)
-passed true n m e = (refl, cc)
-passed false n m e = absurd cc

@@ -3,6 +3,7 @@
 
 mod buckets;
 mod gathering;
+pub mod laws;
 mod sources;
 
 pub use gathering::gather;
