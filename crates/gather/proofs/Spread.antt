@@ -117,10 +117,3 @@ spread_are_parts p stages s h =
     of_role t role.Chain e = e
     of_role t role.Window e = (e, are_panes p (groups_of p.max stages t) s h)
     of_role t role.Sink e = e
-
--- a start with nothing in its windows
-pub no_groups : (p : PlanData) (s : StartData) → s.groups ≡ [] → HasGroups p s
-no_groups p s e = record {
-  each = subst (All (IsGroupFor p s.kinds)) (sym e) (All-nil (IsGroupFor p s.kinds));
-  once = λ i j d l m is. absurd (omega (arith, l, ap (length {A = SavedGroup}) e));
-}
