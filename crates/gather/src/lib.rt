@@ -7,3 +7,6 @@ pub mod laws;
 mod sources;
 
 pub use gathering::gather;
+
+#[cfg(test)]
+mod tests;
