@@ -1,5 +1,5 @@
 -- What spread gives of a start are parts.
-use Rattle.std.proofs.Common.{◌≡◌, ℕ, zero, suc, ◌+◌, ◌<◌, ◌≤◌, Bool, true, false, cond, ◌&&◌, List, [], ◌∷◌, ◌++◌, length, map, get_or, refl, sym, ap, subst, ◌∙◌, inl, inr, arith}
+use Rattle.std.proofs.Common.{◌≡◌, ℕ, suc, ◌<◌, ◌≤◌, Bool, true, false, cond, ◌&&◌, List, [], ◌∷◌, ◌++◌, length, map, get_or, refl, sym, ap, subst, ◌∙◌, inl, inr, arith}
 use Rattle.std.specs.Prelude.{nat_le}
 use Rattle.std.specs.List.{All, filter, flat_map}
 use Rattle.std.specs.List.Sorted.{IsStrictlySortedBy}
@@ -20,14 +20,13 @@ use Rattle.dataflow_model.specs.declared.role.Role.{Role}
 use Rattle.dataflow_model.specs.declared.role.Role.TheVariants as role
 use Rattle.layout_rules.specs.Layouts.{partition_counts}
 use Rattle.layout_rules.specs.Stages.{source_of, task_stage, task_role, task_count, partitions_of, groups_of}
-use Rattle.layout_rules.specs.declared.stage.Stage.{Stage}
 use Rattle.aggregates.specs.declared.kind.Kind.{Kind}
 use Rattle.aggregates.specs.Kinds.{kind_of, is_entry, are_numbers}
 use Rattle.window_state.specs.declared.parts.Part.{Part}
 use Rattle.savepoint_codec.specs.EntriesData.{EntryData}
 use Rattle.savepoint_codec.specs.declared.savepoint.SavedGroup.{SavedGroup}
 use Rattle.redistribute.specs.StartData.{StartData}
-use Rattle.redistribute.specs.Parts.{partition_start, start_of_role, task_start, part_of, is_group_of, parts_in_group, parts_within, with_windows, whole_task_start}
+use Rattle.redistribute.specs.Parts.{partition_start, start_of_role, part_of, is_group_of, parts_in_group, parts_within, with_windows, whole_task_start}
 use Rattle.redistribute.specs.declared.task_start.TaskStart.TheVariants.{Chain}
 use Rattle.gather.specs.Saved.{is_in_group}
 use Rattle.gather.specs.Parts.{panes_in_group, ArePanes, IsPartOf}
@@ -117,10 +116,3 @@ spread_are_parts p stages s h =
     of_role t role.Chain e = e
     of_role t role.Window e = (e, are_panes p (groups_of p.max stages t) s h)
     of_role t role.Sink e = e
-
--- a start with nothing in its windows
-pub no_groups : (p : PlanData) (s : StartData) → s.groups ≡ [] → HasGroups p s
-no_groups p s e = record {
-  each = subst (All (IsGroupFor p s.kinds)) (sym e) (All-nil (IsGroupFor p s.kinds));
-  once = λ i j d l m is. absurd (omega (arith, l, ap (length {A = SavedGroup}) e));
-}

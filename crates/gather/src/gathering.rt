@@ -22,7 +22,7 @@ use savepoint_codec::{Contents, Savepoint};
 use std::alloc::{AllocError, Global};
 
 /// The kind of each aggregate.
-fn kinds_of(alloc: Global, aggregates: &[Aggregate]) -> Result<Items<Kind>, AllocError>
+pub fn kinds_of(alloc: Global, aggregates: &[Aggregate]) -> Result<Items<Kind>, AllocError>
     ensures { IfOk result (λ kinds. kinds ≡ map kind_of aggregates.now) }
 {
     let mut kinds = Vec::new(alloc);

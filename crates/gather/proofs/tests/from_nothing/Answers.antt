@@ -1,5 +1,5 @@
 use Rattle.std.proofs.Common.{ap}
-use Rattle.gather.proofs.Spread.{no_groups}
+use Rattle.gather.proofs.Started.{no_groups}
 use Rattle.gather.proofs.tests.from_nothing.Goals as goal
 
 pub again-requires-clause-groups : goal.again-requires-clause-groups
