@@ -1,2 +1,3 @@
 mod Suiting
 mod Starting
+mod Readable

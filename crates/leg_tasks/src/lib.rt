@@ -10,3 +10,6 @@ mod opening;
 
 pub use beginning::{begin, tasks};
 pub use opening::Opening;
+
+#[cfg(test)]
+mod tests;
