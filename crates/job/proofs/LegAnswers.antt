@@ -18,19 +18,12 @@ use Rattle.plan_scale.specs.Answer.{scale_of_bytes}
 use Rattle.plan_scale.specs.Answer as scales
 use Rattle.plan_scale.specs.declared.fault.ScaleFault.{ScaleFault}
 use Rattle.plan_scale.specs.declared.fault.ScaleFault.TheVariants as scale
-use Rattle.savepoint_codec.specs.Answer as saves
-use Rattle.savepoint_codec.specs.declared.fault.SaveFault.{SaveFault}
-use Rattle.savepoint_codec.specs.declared.fault.SaveFault.TheVariants as save
-use Rattle.savepoint_codec.specs.declared.savepoint.Contents.{Contents}
 use Rattle.leg_lists.specs.declared.fault.LegFault.TheVariants.{StopRange}
 use Rattle.leg_lists.specs.declared.stop.Stop.{Stop}
 use Rattle.redistribute.specs.StartData.{StartData}
-use Rattle.restore.specs.Answer as restores
-use Rattle.restore.specs.declared.fault.RestoreFault.{RestoreFault}
-use Rattle.restore.specs.declared.fault.RestoreFault.TheVariants as restore
 use Rattle.job.specs.declared.fault.JobFault.{JobFault}
-use Rattle.job.specs.declared.fault.JobFault.TheVariants.{Plan, Input, Scale, Save, Restore, Leg, Write, Memory}
-use Rattle.job.specs.Fault.{plan_fault, input_fault, scale_fault, save_fault, restore_fault, is_memory}
+use Rattle.job.specs.declared.fault.JobFault.TheVariants.{Plan, Input, Scale, Leg, Write, Memory}
+use Rattle.job.specs.Fault.{plan_fault, input_fault, scale_fault, is_memory}
 use Rattle.job.specs.Leg.{LegJob, and_then, as_job, start_said, stop_said, job_with, leg_on, leg_by, leg_said, CanStopSo, IsLegText, TellsLeg}
 
 only : {P Q : Type 0} (b : Bool) → (P → Q) → unless b P → unless b Q
@@ -87,28 +80,6 @@ scale_told said scale.MissingUid is = inr (scale.MissingUid, is, refl)
 scale_told said scale.Parallelism is = inr (scale.Parallelism, is, refl)
 scale_told said scale.Ring is = inr (scale.Ring, is, refl)
 scale_told said scale.Tasks is = inr (scale.Tasks, is, refl)
-
-pub restore_told : {X : Type 0} (said : Result X RestoreFault) (fault : RestoreFault) → Fails restores.is_memory fault said → IsToldOf said Restore (restore_fault fault)
-restore_told said restore.Memory is = inl refl
-restore_told said restore.MaxParallelism is = inr (restore.MaxParallelism, is, refl)
-restore_told said restore.UnknownUid is = inr (restore.UnknownUid, is, refl)
-restore_told said restore.MissingUid is = inr (restore.MissingUid, is, refl)
-restore_told said restore.PlanChanged is = inr (restore.PlanChanged, is, refl)
-restore_told said restore.Partitions is = inr (restore.Partitions, is, refl)
-restore_told said restore.Offset is = inr (restore.Offset, is, refl)
-restore_told said restore.Watermark is = inr (restore.Watermark, is, refl)
-restore_told said restore.WrongGroup is = inr (restore.WrongGroup, is, refl)
-restore_told said restore.ClosedWindow is = inr (restore.ClosedWindow, is, refl)
-restore_told said restore.Count is = inr (restore.Count, is, refl)
-restore_told said restore.Number is = inr (restore.Number, is, refl)
-
-pub save_told : (said : Result Contents SaveFault) (fault : SaveFault) → saves.Fails fault said → IsToldOf said Save (save_fault fault)
-save_told said save.Memory is = inl refl
-save_told said save.Magic is = inr (save.Magic, is, refl)
-save_told said save.Truncated is = inr (save.Truncated, is, refl)
-save_told said save.Trailing is = inr (save.Trailing, is, refl)
-save_told said save.Order is = inr (save.Order, is, refl)
-save_told said save.Range is = inr (save.Range, is, refl)
 
 -- and so of what a job's reader says
 pub told_of : {X F : Type 0} (said : Result X F) (fault_of : F → JobFault) (told : JobFault) → IsToldOf said fault_of told → Fails is_memory told (as_job fault_of said)
