@@ -1,5 +1,9 @@
-//! A plain program that reads and writes the layout of savepoints: plain decode|encode|show TIMES FILE.
+//! A plain program that reads and writes the layout of savepoints: plain decode|encode|show|fire TIMES FILE.
+use std::collections::HashMap;
 use std::io::Write;
+
+/// How long the windows of the savepoint's plan are.
+const SIZE: i64 = 60_000;
 
 struct Entry {
     start: i64,
@@ -230,6 +234,27 @@ fn show(s: &Savepoint) -> std::io::Result<()> {
     out.flush()
 }
 
+/// Puts the entries into the state of a window, a map, takes all of them out in order, and prints their rows.
+fn fire(s: &Savepoint) -> std::io::Result<()> {
+    let mut state = HashMap::new();
+    for group in &s.groups {
+        for (entry, numbers) in group.entries.iter().zip(group.numbers.chunks(s.kinds.len())) {
+            state.insert((entry.start, entry.key), numbers);
+        }
+    }
+    let mut rows: Vec<_> = state.drain().collect();
+    rows.sort_unstable_by_key(|(pane, _)| *pane);
+    let mut out = std::io::BufWriter::new(std::io::stdout().lock());
+    for ((start, key), numbers) in rows {
+        write!(out, "{start} {} {key}", start + SIZE)?;
+        for number in numbers {
+            write!(out, " {number}")?;
+        }
+        writeln!(out)?;
+    }
+    out.flush()
+}
+
 fn main() {
     let words: Vec<String> = std::env::args().collect();
     let times: u32 = words[2].parse().unwrap();
@@ -247,6 +272,7 @@ fn main() {
                 count = encode(&savepoint).len();
             }
         }
+        "fire" => return fire(&decode(&bytes).unwrap()).unwrap(),
         _ => return show(&decode(&bytes).unwrap()).unwrap(),
     }
     println!("{count}");

@@ -1,7 +1,8 @@
 #!/bin/sh
-# Decodes, encodes and shows a savepoint with this project's programs and with a plain Rust program of the
-# same layout, compares what they print, and prints what each took. Words are numbers of entries (1000000
-# where there are none); RUNS is how often each program runs (3), TIMES how often it decodes or encodes (5).
+# Decodes, encodes and shows a savepoint, and goes on from it to the end of its job, with this project's programs and
+# with a plain Rust program of the same layout, compares what they print, and prints what each took. Words are numbers
+# of entries (100000 1000000 where there are none); RUNS is how often each program runs (3), TIMES how often it decodes
+# or encodes (5).
 set -e
 here=$(cd "$(dirname "$0")" && pwd)
 top=$here/../..
@@ -14,9 +15,9 @@ folder=$(mktemp -d)
 trap 'rm -r "$folder"' EXIT
 rustc --edition 2024 -O "$here/plain.rs" -o "$folder/plain"
 
-for entries in ${@:-1000000}; do
+for entries in ${@:-100000 1000000}; do
   savepoint=$folder/savepoint
-  python3 "$here/generate.py" "$savepoint" "$entries"
+  python3 "$here/generate.py" "$folder" "$entries"
   for mode in decode encode; do
     echo "$mode ${TIMES:-5} times: $entries entries, $(wc -c <"$savepoint") bytes"
     words="$mode ${TIMES:-5} $savepoint"
@@ -25,4 +26,7 @@ for entries in ${@:-1000000}; do
   echo "decode once, and show: $entries entries"
   python3 "$here/../job/compare.py" "${RUNS:-3}" decode "$codec decode 1 $savepoint"
   python3 "$here/../job/compare.py" "${RUNS:-3}" plain "$folder/plain show 1 $savepoint" streamjob "$program show $savepoint"
+  echo "decode, fire and print: $entries entries"
+  leg="leg $folder/plan.json $folder/input.json $folder/scale.json --from $savepoint"
+  python3 "$here/../job/compare.py" "${RUNS:-3}" plain "$folder/plain fire 1 $savepoint" streamjob "$program $leg"
 done

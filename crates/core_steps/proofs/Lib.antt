@@ -12,4 +12,5 @@ pub mod Beginning
 pub mod Enabled
 pub mod Ready
 pub mod Sound
+pub mod Ending
 pub mod Legs

@@ -1,7 +1,8 @@
 -- A world: all tasks of a leg and the rings between them. Its type says that it is the end of a consistent history.
 use Rattle.std.specs.Prelude.{◌≡◌, ℕ, suc, ◌<◌, ◌≤◌, List, ◌++◌, map, reverse, length, slice_index, slice_index_or, Bool, true, false}
-use Rattle.plan_model.specs.PlanData.{PlanData}
-use Rattle.stream_model.specs.InputData.{InputData}
+use Rattle.plan_model.specs.PlanData.{PlanData, IsPlan}
+use Rattle.stream_model.specs.InputData.{InputData, IsInput, BelongsTo}
+use Rattle.stream_model.specs.Watermarks.{IsOrderly}
 use Rattle.dataflow_model.specs.declared.message.Message.{Message}
 use Rattle.dataflow_model.specs.Role.{is_source}
 use Rattle.dataflow_model.specs.AbstractTask.{AbstractTask}
@@ -12,6 +13,10 @@ use Rattle.dataflow_laws.specs.World as flow
 use Rattle.dataflow_laws.specs.World.{with_task, with_ring, Reached}
 use Rattle.dataflow_laws.specs.Admission.{IsAdmittedInput}
 use Rattle.layout_rules.specs.Stages.{task_count, outputs_of}
+use Rattle.plan_compiler.specs.LayoutData.{IsLayoutOf}
+use Rattle.redistribute.specs.StartData.{offsets_of}
+use Rattle.redistribute.specs.Begins.{IsStartIn}
+use Rattle.redistribute.specs.Stopping.{CanStop}
 use Rattle.task_steps.specs.TaskData.{TaskData, Stands}
 use Rattle.task_steps.specs.Reading.{HasPartitions, ReadsFrom}
 use Rattle.core_steps.specs.Given.{GivenData, given_data, layout_in, start_in}
@@ -39,8 +44,19 @@ held r s t = reverse (queue_at r s t).messages
 abbrev pub world_in : WorldData → flow.World
 world_in w = record { tasks = state_at w.given w.tasks; rings = held w.rings }
 
+-- a plan and an input that were read, of which the layout and the start are, and the leg can stop as it is to
+pub record IsGiven (g : GivenData) : Type 0 where
+  pub plan : IsPlan g.plan
+  pub input : IsInput g.input
+  pub orderly : IsOrderly g.input.time g.input.sources
+  pub belongs : BelongsTo g.plan g.input
+  pub laid_out : IsLayoutOf g.plan g.layout
+  pub starts : IsStartIn g.plan g.input g.start
+  pub stops : CanStop g.input.sources (offsets_of g.start) g.stop
+
 -- the layout is one, its tasks begin one leg in opening states, and they admit the input
 pub record IsSound (g : GivenData) : Type 0 where
+  pub given : IsGiven g
   pub layout : IsLayout (layout_in g)
   pub count : task_count g.layout.stages ≡ suc (layout_in g).sink
   pub start : IsLegStart g.plan (layout_in g) (start_in g)

@@ -12,3 +12,6 @@ mod world;
 pub use finish::Finish;
 pub use given::Given;
 pub use world::World;
+
+#[cfg(test)]
+mod tests;

@@ -3,15 +3,16 @@
 ghost use Rattle.std.specs.Prelude.{◌≡◌, ◌↔◌, true, false, IsTrue, MatchOption, IfErr, IfOk, OnOk};
 ghost use Rattle.core_steps.specs.Answers.{is_memory};
 
-use crate::finish::{Finish, finished};
+use crate::finish::Finish;
 use crate::given::Given;
 use crate::rings::Rings;
 use dataflow_laws::Step;
 use leg_lists::{LegFault, Stop};
-use leg_tasks::tasks;
+use leg_tasks::{save, tasks};
 use plain_data::Items;
 use plan_model::Row;
-use std::alloc::Global;
+use savepoint_codec::Savepoint;
+use std::alloc::{AllocError, Global};
 use std::marker::Model;
 use task_setups::Leg;
 use task_steps::{StepFault, Task};
@@ -62,7 +63,7 @@ impl<'a> World<'a> {
     ghost use Rattle.core_steps.specs.Given.{given_data, layout_in};
     ghost use Rattle.core_steps.specs.World.{world_in, IsWorld};
     ghost use Rattle.core_steps.specs.Beginning.{IsNewWorld};
-    ghost use Rattle.core_steps.specs.Finishing.{finish_of, rows_in, HasFinished};
+    ghost use Rattle.core_steps.specs.Finishing.{finish_of, rows_in, savepoint_in, HasFinished};
     ghost use Rattle.core_steps.specs.Answers.{LeadsTo, CanMake, StepAnswers};
     ghost use Rattle.core_steps.specs.RingSteps.{IsPuttable, IsTakeable};
 
@@ -359,25 +360,52 @@ impl<'a> World<'a> {
         *has_failed
     }
 
-    /// Where the leg was to stop, and the rows that the sink has collected, in the order in which they came.
-    fn into_parts(self) -> (Stop, Vec<Row>)
-        ensures stop { result.0 ≡ self.entry.given.stop }
-        ensures rows { result.1.items ≡ rows_in self.entry }
+    /// The rows that the sink has collected, in the order in which they came.
+    fn into_rows(self) -> Items<Row>
+        ensures { result ≡ rows_in self.entry }
     {
-        let stop = self.leg.stop;
         let mut tasks = self.tasks;
-        (stop, tasks.pop().unwrap().into_rows())
+        Items::from_vec(tasks.pop().unwrap().into_rows())
     }
 
-    /// How the leg ended, with the rows that it has delivered; `None` where not every task is done, or the world has failed.
-    pub fn finish(self) -> Option<Finish>
-        ensures { MatchOption result (HasFinished self.entry → ⊥) (λ finish. HasFinished self.entry × (finish ≡ finish_of self.entry.given.stop (rows_in self.entry))) }
+    /// The savepoint that the tasks leave: the one after that which the leg went on from.
+    ///
+    /// # Errors
+    ///
+    /// Only where memory runs out.
+    fn savepoint(&self, alloc: Global) -> Result<Savepoint, AllocError>
+        requires { HasFinished self.now }
+        ensures { IfOk result (λ savepoint. savepoint ≡ savepoint_in self.now) }
+    {
+        let Given {
+            plan,
+            start,
+            layout,
+            ..
+        } = self.given;
+        let number = start.number() + 1;
+        save(alloc, plan, layout, self.tasks.as_slice(), number)
+    }
+
+    /// How the leg ended, with the rows that it has delivered and the savepoint that it leaves where it stopped; `None` where
+    /// not every task is done, or the world has failed.
+    ///
+    /// # Errors
+    ///
+    /// Only where memory runs out.
+    pub fn finish(self, alloc: Global) -> Result<Option<Finish>, AllocError>
+        ensures { IfOk result (λ answer. MatchOption answer (HasFinished self.entry → ⊥) (λ finish. HasFinished self.entry × (finish ≡ finish_of self.entry))) }
     {
         if self.has_failed() || !self.is_finished() {
-            return None;
+            return Ok(None);
         }
-        let (stop, rows) = self.into_parts();
-        Some(finished(&stop, Items::from_vec(rows)))
+        match self.leg.stop {
+            Stop::Never => Ok(Some(Finish::Ended(self.into_rows()))),
+            Stop::At(_) => {
+                let savepoint = self.savepoint(alloc)?;
+                Ok(Some(Finish::Stopped(self.into_rows(), savepoint)))
+            }
+        }
     }
 
     /// Whether every task is done. Where not, and the world has not failed, there is a step.

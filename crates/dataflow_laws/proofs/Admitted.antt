@@ -1,5 +1,5 @@
 -- The entries of an input are admitted.
-use Rattle.std.proofs.Common.{◌≡◌, ℕ, zero, suc, ◌^◌, ◌≤◌, true, cond, List, [], ◌∷◌, ◌++◌, length, map, refl, sym, ap, subst, ◌∙◌, inl, inr, arith}
+use Rattle.std.proofs.Common.{◌≡◌, ℕ, zero, suc, ◌^◌, ◌≤◌, true, cond, List, [], ◌∷◌, ◌++◌, length, map, take, refl, sym, ap, subst, ◌∙◌, inl, inr, arith}
 use Rattle.std.specs.List.{All, filter}
 use Rattle.std.proofs.lemmas.Bool.{cases_Bool}
 use Rattle.std.proofs.lemmas.List.{length-append, take_all}
@@ -8,10 +8,11 @@ use Rattle.plain_data.specs.Record.{Record, at}
 use Rattle.plain_data.specs.Times.{lowest}
 use Rattle.plan_model.specs.PlanData.{PlanData}
 use Rattle.plan_model.specs.Windows.{IsTime}
+use Rattle.plan_model.specs.declared.limits.TheConstants.{MOST_RECORDS}
 use Rattle.stream_model.specs.declared.entry.Entry.{Entry}
 use Rattle.stream_model.specs.declared.entry.Entry.TheVariants as entry
-use Rattle.stream_model.specs.InputData.{InputData, IsEntry, IsInput, BelongsTo, partition_at, records_in, records_in_source, all_records}
-use Rattle.stream_model.specs.Watermarks.{records_before, records_before_in, full_cut}
+use Rattle.stream_model.specs.InputData.{InputData, IsEntry, IsInput, BelongsTo, partition_at, records_of_entry, records_in, records_in_source, all_records}
+use Rattle.stream_model.specs.Watermarks.{IsCut, records_before, records_before_in, full_cut}
 use Rattle.dataflow_model.specs.declared.role.Role.{Role}
 use Rattle.dataflow_model.specs.declared.role.Role.TheVariants.{Source, Chain, Window, Sink}
 use Rattle.dataflow_model.specs.Message.{records_of}
@@ -25,7 +26,7 @@ use Rattle.dataflow_laws.proofs.Dealing.{total_dealt}
 use Rattle.dataflow_laws.specs.Count.{record_count}
 use Rattle.dataflow_laws.specs.Admission.{FitsPlan}
 use Rattle.layout_rules.specs.Layouts.{source_at, number_at}
-use Rattle.input_flow.specs.InputEntries.{message_of, entry_at, input_of}
+use Rattle.input_flow.specs.InputEntries.{message_of, entry_at, input_of, counts_at}
 use Rattle.dataflow_laws.specs.Inputs.{InputIsAdmitted}
 use Rattle.input_flow.proofs.Facts.{at_or, partition_has, records_dealt, full_is_cut, full_counts}
 
@@ -62,16 +63,56 @@ whole (s ∷ ss) = λ j. whole_source s j ++ whole ss j
 records_at : PlanData → InputData → ℕ → ℕ
 records_at p i q = total ((input_of p i).size q) (λ n. length (records_of ((input_of p i).entry q n)))
 
+-- the records before a cut, partition by partition
+pub partitions_before : (p : PlanData) (i : InputData) (cut : List (List ℕ)) → BelongsTo p i → IsCut i.sources cut
+    → total (input_of p i).partitions (λ q. total (counts_at p cut q) (λ n. length (records_of ((input_of p i).entry q n)))) ≡ length (records_before i.sources cut)
+partitions_before p i cut belongs is_cut =
+    let kept : ℕ → ℕ → List Record = λ q n. filter (λ r. true) (records_of ((input_of p i).entry q n)) in
+    total_same (input_of p i).partitions _ (λ q. length (joined (counts_at p cut q) (kept q))) (λ q l.
+    total_same (counts_at p cut q) _ (λ n. length (kept q n)) (λ n m. ap (length {A = Record}) (sym (all_kept (records_of ((input_of p i).entry q n)))))
+    ∙ lengths (counts_at p cut q) (kept q))
+    ∙ lengths (input_of p i).partitions (λ q. joined (counts_at p cut q) (kept q))
+    ∙ ap (length {A = Record}) (records_dealt p i cut (λ r. true) belongs is_cut ∙ all_kept (records_before i.sources cut))
+
 partitions_have : (p : PlanData) (i : InputData) → BelongsTo p i → total (input_of p i).partitions (records_at p i) ≡ length (all_records i.sources)
 unfolding records_at
 partitions_have p i belongs =
-    let kept : ℕ → ℕ → List Record = λ q n. filter (λ r. true) (records_of ((input_of p i).entry q n)) in
-    total_same (input_of p i).partitions _ (λ q. length (joined ((input_of p i).size q) (kept q))) (λ q l.
-    total_same ((input_of p i).size q) _ (λ n. length (kept q n)) (λ n m. ap (length {A = Record}) (sym (all_kept (records_of ((input_of p i).entry q n)))))
-    ∙ lengths ((input_of p i).size q) (kept q))
-    ∙ lengths (input_of p i).partitions (λ q. joined ((input_of p i).size q) (kept q))
-    ∙ ap (λ c. length (joined (input_of p i).partitions (λ q. joined (c q) (kept q)))) (sym (full_counts p i))
-    ∙ ap (length {A = Record}) (records_dealt p i (full_cut i.sources) (λ r. true) belongs (full_is_cut i.sources) ∙ all_kept (records_before i.sources (full_cut i.sources)) ∙ whole i.sources)
+    ap (λ c. total (input_of p i).partitions (λ q. total (c q) (λ n. length (records_of ((input_of p i).entry q n))))) (sym (full_counts p i))
+    ∙ partitions_before p i (full_cut i.sources) belongs (full_is_cut i.sources)
+    ∙ ap (length {A = Record}) (whole i.sources)
+
+-- before a cut there are no more records than in all
+few_taken : (n : ℕ) (es : List Entry) → length (records_in (take n es)) ≤ length (records_in es)
+few_taken zero es = omega arith
+few_taken (suc n) [] = omega arith
+few_taken (suc n) (e ∷ es) =
+    let h = few_taken n es in
+    let a = length-append (records_of_entry e) (records_in (take n es)) in
+    let b = length-append (records_of_entry e) (records_in es) in
+    omega (arith, h, a, b)
+
+few_in : (ps : List (List Entry)) (ns : List ℕ) → length (records_before_in ps ns) ≤ length (records_in_source ps)
+few_in [] ns = omega arith
+few_in (p ∷ ps) [] = omega arith
+few_in (p ∷ ps) (n ∷ ns) =
+    let h = few_in ps ns in
+    let t = few_taken n p in
+    let a = length-append (records_in (take n p)) (records_before_in ps ns) in
+    let b = length-append (records_in p) (records_in_source ps) in
+    omega (arith, h, t, a, b)
+
+few_of : (ss : List (List (List Entry))) (cut : List (List ℕ)) → length (records_before ss cut) ≤ length (all_records ss)
+few_of [] cut = omega arith
+few_of (s ∷ ss) [] = omega arith
+few_of (s ∷ ss) (c ∷ cs) =
+    let h = few_of ss cs in
+    let t = few_in s c in
+    let a = length-append (records_before_in s c) (records_before ss cs) in
+    let b = length-append (records_in_source s) (all_records ss) in
+    omega (arith, h, t, a, b)
+
+pub few_before : (i : InputData) (cut : List (List ℕ)) → IsInput i → length (records_before i.sources cut) ≤ MOST_RECORDS
+few_before i cut input = let f = input.few in let h = few_of i.sources cut in omega (arith, f, h)
 
 reads : (r : Role) → is_source r ≡ true → r ≡ Source
 reads Source e = refl

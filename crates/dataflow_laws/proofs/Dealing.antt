@@ -22,6 +22,12 @@ use Rattle.dataflow_laws.proofs.Reader.{below}
 use Rattle.dataflow_laws.proofs.Same.{same_aggregate}
 use Rattle.dataflow_laws.proofs.Graph.{weigh_joined, input_weight, read_weight}
 
+-- what the records up to a cut weigh, partition by partition
+pub weight_up_to : (i : AbstractInput) (h : Record → ℕ) (cut : ℕ → ℕ) → weigh h (records_up_to i cut) ≡ total i.partitions (λ q. below (λ r. cond (i.pass r) (h r) 0) (i.entry q) (cut q))
+weight_up_to i h cut =
+    weigh_joined h i.partitions _
+    ∙ total_same i.partitions _ (λ q. below (λ r. cond (i.pass r) (h r) 0) (i.entry q) (cut q)) (λ q k. weigh_joined h (cut q) _ ∙ total_same (cut q) _ _ (λ n z. weigh_filter h i.pass (records_of (i.entry q n)) ∙ weigh_of (λ r. cond (i.pass r) (h r) 0) (i.entry q n)))
+
 module _ (i : AbstractInput) (leg : Leg) (l : AbstractLayout) (d : Deals i leg l) where
   -- a cut of the input, as the tasks have it
   abbrev pub IsSame : (ℕ → ℕ → ℕ) → (ℕ → ℕ) → Type 0
@@ -66,13 +72,13 @@ module _ (i : AbstractInput) (leg : Leg) (l : AbstractLayout) (d : Deals i leg l
             ∙ weigh_same (λ r. cond (l.pass r) (h r) 0) (λ r. cond (i.pass r) (h r) 0) (λ r. ap (λ y. cond y (h r) 0) (d.pass r)) (records_of (i.entry (partition_read i l t p) n)) ∙ weigh_of (λ r. cond (i.pass r) (h r) 0) (i.entry (partition_read i l t p) n))))
       ]
 
-  weights : (h : Record → ℕ) (mine : ℕ → ℕ → ℕ) (cut : ℕ → ℕ) → IsSame mine cut → weigh h (records_until l mine) ≡ weigh h (records_up_to i cut)
+  pub weights : (h : Record → ℕ) (mine : ℕ → ℕ → ℕ) (cut : ℕ → ℕ) → IsSame mine cut → weigh h (records_until l mine) ≡ weigh h (records_up_to i cut)
   weights h mine cut same =
       let f : ℕ → ℕ = λ q. below (λ r. cond (i.pass r) (h r) 0) (i.entry q) (cut q) in
       input_weight l h mine
       ∙ total_same l.before (read_weight l h mine) (λ t. cond (is_source (l.task t).role) (total (l.task t).inputs (λ p. f (partition_read i l t p))) 0) (task_weight h mine cut same)
       ∙ total_dealt f
-      ∙ sym (weigh_joined h i.partitions _ ∙ total_same i.partitions _ f (λ q k. weigh_joined h (cut q) _ ∙ total_same (cut q) _ _ (λ n z. weigh_filter h i.pass (records_of (i.entry q n)) ∙ weigh_of (λ r. cond (i.pass r) (h r) 0) (i.entry q n))))
+      ∙ sym (weight_up_to i h cut)
 
   pub same_up_to : (p : PlanData) (mine : ℕ → ℕ → ℕ) (cut : ℕ → ℕ) → IsSame mine cut → (q : Pane) → aggregate_until p l mine q ≡ aggregate_up_to p i cut q
   same_up_to p mine cut same q = same_aggregate p.window q (records_until l mine) (records_up_to i cut) (λ h s. weights h mine cut same)

@@ -40,4 +40,5 @@ mod Examples
 mod Admitted
 mod Delivered
 mod Compiled
+mod Owned
 pub mod Facts

@@ -13,11 +13,12 @@ use Rattle.dataflow_model.specs.State.{Windows, State}
 use Rattle.dataflow_model.specs.Opening.{opening, IsOpening, IsSourceOpening}
 use Rattle.dataflow_model.specs.OneLeg.{IsOneLeg}
 use Rattle.dataflow_model.specs.Cuts.{AreOrderlySources}
-use Rattle.dataflow_model.specs.Start.{IsStart}
+use Rattle.dataflow_model.specs.Start.{AreOpenings, IsStart}
 use Rattle.dataflow_laws.proofs.Streams.{Reaches}
 use Rattle.dataflow_laws.proofs.Relay.{IsFresh}
 use Rattle.dataflow_laws.proofs.Reader.{IsReady}
 use Rattle.dataflow_laws.proofs.Windows.{IsRestored}
+use Rattle.dataflow_laws.proofs.Graph.{IsOpened}
 use Rattle.dataflow_laws.proofs.Legs.{IsBegun}
 
 -- whatever a task does, it opens so
@@ -48,14 +49,14 @@ limits_rise l start leg t b a q k (suc n) m e =
     let i = limits_rise l start leg t b a q k n (suc m) (omega arith) in
     omega (arith, r, i)
 
-module _ (p : PlanData) (l : AbstractLayout) (start : ℕ → State) (w : ℤ) (ok : IsLayout l) (orderly : AreOrderlySources p l) (leg : IsOneLeg l start) (st : IsStart p l start w) where
+module _ (p : PlanData) (l : AbstractLayout) (start : ℕ → State) (ok : IsLayout l) (orderly : AreOrderlySources p l) (leg : IsOneLeg l start) (opens : AreOpenings p l start) where
   pub limits_of : (t : ℕ) → t < l.before → (l.task t).role ≡ Source → (m q : ℕ) → q < (l.task t).inputs → m ≤ (l.task t).saves → ((l.task t).limit m q ≤ (l.task t).limit (l.task t).saves q) × ((l.task t).limit (l.task t).saves q ≤ (l.task t).size q)
   limits_of t b a m q k le = (limits_rise l start leg t b a q k ((l.task t).saves - m) m (omega arith), leg.within t q b a k)
 
   opens_source : (t : ℕ) → t < l.before → (l.task t).role ≡ Source → IsReady (l.task t) (start t)
   opens_source t b a =
       let some = ok.some_windows in
-      let o : IsSourceOpening (l.task t) (start t) = subst (λ r. IsOpening p r (l.task t) (start t)) a (st.opens t (omega arith)) in
+      let o : IsSourceOpening (l.task t) (start t) = subst (λ r. IsOpening p r (l.task t) (start t)) a (opens t (omega arith)) in
       record {
         pending = ap (λ s. s.pending) o.is;
         opened = ap (λ s. s.opened) o.is;
@@ -70,7 +71,7 @@ module _ (p : PlanData) (l : AbstractLayout) (start : ℕ → State) (w : ℤ) (
   opens_chain : (t : ℕ) → t < l.before → (l.task t).role ≡ Chain → IsFresh (l.task t) (start t)
   opens_chain t b a =
       let some = ok.some_windows in
-      let o : start t ≡ opening (l.task t).inputs [] (replicate (l.task t).inputs lowest) empty = subst (λ r. IsOpening p r (l.task t) (start t)) a (st.opens t (omega arith)) in
+      let o : start t ≡ opening (l.task t).inputs [] (replicate (l.task t).inputs lowest) empty = subst (λ r. IsOpening p r (l.task t) (start t)) a (opens t (omega arith)) in
       record {
         pending = ap (λ s. s.pending) o;
         marks = ap (λ s. s.inputs.marks) o;
@@ -81,7 +82,7 @@ module _ (p : PlanData) (l : AbstractLayout) (start : ℕ → State) (w : ℤ) (
   opens_window : (u : ℕ) → l.before ≤ u → u < l.sink → IsRestored p (l.task u) (start u)
   opens_window u b m =
       let a = ok.roles_window u b m in
-      let o : (windows : Windows) × (start u ≡ opening (l.task u).inputs [] (replicate (l.task u).inputs lowest) windows) × ((q : Pane) → is_due p.window lowest q.start ≡ true → get windows q ≡ None) = subst (λ r. IsOpening p r (l.task u) (start u)) a (st.opens u (omega arith)) in
+      let o : (windows : Windows) × (start u ≡ opening (l.task u).inputs [] (replicate (l.task u).inputs lowest) windows) × ((q : Pane) → is_due p.window lowest q.start ≡ true → get windows q ≡ None) = subst (λ r. IsOpening p r (l.task u) (start u)) a (opens u (omega arith)) in
       record {
         pending = ap (λ s. s.pending) o.1;
         marks = ap (λ s. s.inputs.marks) o.1;
@@ -89,9 +90,8 @@ module _ (p : PlanData) (l : AbstractLayout) (start : ℕ → State) (w : ℤ) (
         windows = λ q d. ap (λ s. get s.windows q) o.1 ∙ o.2 q d;
       }
 
-  pub begun : IsBegun p l start w
-  begun = record {
-    opened = record { ready = opens_source; orderly = orderly; limits = limits_of; chain = opens_chain; window = opens_window };
-    merged = st.merged;
-    windows = st.windows;
-  }
+  pub opened : IsOpened p l start
+  opened = record { ready = opens_source; orderly = orderly; limits = limits_of; chain = opens_chain; window = opens_window }
+
+pub begun : (p : PlanData) (l : AbstractLayout) (start : ℕ → State) (w : ℤ) → IsLayout l → AreOrderlySources p l → IsOneLeg l start → IsStart p l start w → IsBegun p l start w
+begun p l start w ok orderly leg st = record { opened = opened p l start ok orderly leg st.opens; merged = st.merged; windows = st.windows }

@@ -1,5 +1,5 @@
 -- What stands on a ring is admitted by its receiver.
-use Rattle.std.specs.Prelude.{◌≡◌, ℕ, ◌^◌, ◌<◌, ◌≤◌, List, [], ◌∷◌, ◌++◌, true}
+use Rattle.std.specs.Prelude.{◌≡◌, ℕ, ◌<◌, ◌≤◌, List, [], ◌∷◌, ◌++◌, true}
 use Rattle.std.specs.List.{All}
 use Rattle.plain_data.specs.Record.{at}
 use Rattle.plan_model.specs.PlanData.{PlanData}

@@ -13,3 +13,4 @@ pub mod Legs
 pub mod Savepoints
 pub mod Inputs
 pub mod Compiled
+pub mod Owned

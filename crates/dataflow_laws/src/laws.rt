@@ -13,6 +13,7 @@ ghost use Rattle.dataflow_laws.specs.Legs.{LegBetweenIsExact, LegsAreExact};
 ghost use Rattle.dataflow_laws.specs.Savepoints.{SavepointIsExact};
 ghost use Rattle.dataflow_laws.specs.Inputs.{InputIsAdmitted, LegDelivers, SoFarDelivers, LegsDeliverDue, LegsDeliverAll};
 ghost use Rattle.dataflow_laws.specs.Compiled.{CompiledLegDelivers, CompiledLegDeliversAll};
+ghost use Rattle.dataflow_laws.specs.Owned.{CompiledLegKeepsPanes};
 
 /// A task makes a step only where the step's conditions hold.
 pub fn step_needs()
@@ -163,4 +164,11 @@ pub fn compiled_leg_delivers()
 /// One that starts from nothing and runs to the end has delivered all rows of the plan, each once, and nothing else.
 pub fn compiled_leg_delivers_all()
     ensures { CompiledLegDeliversAll }
+{}
+
+/// Whatever a leg on the compiled layout of a plan begins with: where each of the window's tasks has its own panes alone, of
+/// no more records than stand before the cut that the leg begins at, so it is when all tasks are done, at the cut that the
+/// leg was to come to; there are its sources, with the watermarks of that cut.
+pub fn compiled_leg_keeps_panes()
+    ensures { CompiledLegKeepsPanes }
 {}

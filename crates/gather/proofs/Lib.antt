@@ -8,3 +8,4 @@ mod RecordLength
 mod Whole
 mod Spread
 mod Started
+pub mod Facts

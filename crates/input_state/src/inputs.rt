@@ -93,6 +93,13 @@ impl Inputs {
         self.marks.len()
     }
 
+    /// The watermark of each input.
+    pub fn marks(&self) -> &[i64]
+        ensures { result.now ≡ self.now.marks }
+    {
+        self.marks.as_slice()
+    }
+
     /// The least of the watermarks; without inputs the greatest i64.
     pub fn least(&self) -> i64
         ensures { result ≡ inputs.least self.now.marks }

@@ -16,6 +16,7 @@ fn the_least_rises_only_with_the_input_that_holds_it(rt: HostRuntime) -> Result<
     assert_eq!(rt; inputs.rise(2, 9), Some(5));
     assert_eq!(rt; inputs.least(), 3);
     assert_eq!(rt; inputs.watermark(2, 9), Some(5));
+    assert_eq!(rt; inputs.marks(), [5, 7, 9].as_slice());
     Ok(())
 }
 

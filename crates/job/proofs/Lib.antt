@@ -7,3 +7,4 @@ mod LayoutAnswers
 mod ShowAnswers
 mod Parts
 mod LegAnswers
+mod LegEnds

@@ -72,8 +72,10 @@ fn leg_rows(
     requires starts { IsStartIn plan.now input.now start.now }
     ensures { GivesLeg (λ rows. AreLegRows (record { plan = plan.now; input = input.now; start = start.now; stop = stop }) rows.items) (record { plan = plan.now; input = input.now; start = start.now; stop = stop }) result }
 {
-    match run_leg_by(alloc, keys, plan, input, start, scale, stop)? {
-        Finish::Ended(rows) | Finish::Stopped(rows) => Ok(rows.into_vec()),
+    let finish = run_leg_by(alloc, keys, plan, input, start, scale, stop)?;
+    match finish {
+        Finish::Ended(rows) => Ok(rows.into_vec()),
+        Finish::Stopped(rows, _) => Ok(rows.into_vec()),
     }
 }
 

@@ -25,7 +25,7 @@ use stream_input::Input;
 use window_state::HashKeys;
 
 /// Runs a leg that begins at a start, on the layout of the plan at a scale, to the end of its input or to the cut where it
-/// stops: steps are made until there is none. The panes of the windows are hashed by the keys.
+/// stops and leaves a savepoint: steps are made until there is none. The panes of the windows are hashed by the keys.
 ///
 /// The input and the scale were read by the plan, and the start is one of the input.
 ///
@@ -62,7 +62,8 @@ pub fn run_leg_by(
     let mut world = World::new(alloc, keys, given, stop)?;
     run(alloc, &mut world, &layout)?;
     let _failed = world.has_failed();
-    match world.finish() {
+    let finished = world.finish(alloc)?;
+    match finished {
         Some(finish) => Ok(finish),
         None => unreachable!(),
     }
@@ -90,6 +91,6 @@ pub fn run_leg(
     let start = Start::empty(alloc, plan, input)?;
     match run_leg_by(alloc, keys, plan, input, &start, scale, Stop::Never)? {
         Finish::Ended(rows) => Ok(rows),
-        Finish::Stopped(_) => unreachable!(),
+        Finish::Stopped(..) => unreachable!(),
     }
 }

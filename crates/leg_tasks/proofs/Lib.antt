@@ -1,3 +1,7 @@
+mod Snapshot
+mod Saving
+mod Known
 mod Suiting
 mod Starting
 mod Readable
+pub mod Facts

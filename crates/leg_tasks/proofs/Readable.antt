@@ -1,5 +1,5 @@
 -- Tasks that begin a leg can read its input.
-use Rattle.std.proofs.Common.{ℕ, ◌≤◌, List, sym, ap, ◌∙◌, arith}
+use Rattle.std.proofs.Common.{◌≤◌, List, sym, ap, ◌∙◌, arith}
 use Rattle.std.specs.List.{All}
 use Rattle.plan_model.specs.PlanData.{PlanData}
 use Rattle.stream_model.specs.InputData.{InputData, BelongsTo}

@@ -1,2 +1,4 @@
 pub mod Beginning
+pub mod Leaving
+pub mod Saved
 pub mod Reading

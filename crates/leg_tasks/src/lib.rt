@@ -6,9 +6,12 @@
 #![tactic(auto)]
 
 mod beginning;
+pub mod laws;
+mod leaving;
 mod opening;
 
 pub use beginning::{begin, tasks};
+pub use leaving::save;
 pub use opening::Opening;
 
 #[cfg(test)]

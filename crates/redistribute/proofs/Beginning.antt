@@ -1,5 +1,6 @@
 -- Starts at cuts of an input.
 use Rattle.std.proofs.Common.{◌≡◌, ℕ, ◌≤◌, ◌^◌, List, [], ◌∷◌, length, map, refl, sym, ap, subst, ◌∙◌, arith}
+use Rattle.std.specs.Prelude.{Some, None}
 use Rattle.std.specs.List.{AllZip}
 use Rattle.std.specs.FinMap.{get-empty}
 use Rattle.plan_model.specs.PlanData.{PlanData}
@@ -34,6 +35,7 @@ starts_in p i cut n is_cut few =
       cut = subst (IsCut i.sources) (sym same) is_cut;
       partitions = ap (saved_sources i.sources) (sym same);
       windows = λ k d l. absurd (omega (arith, l));
+      counts = λ q a e. absurd (let z : None ≡ Some a = sym (get-empty pane_cmp q) ∙ e in cc);
       number = few;
     }
 

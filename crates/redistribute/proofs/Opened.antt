@@ -1,14 +1,16 @@
 -- Tasks that begin with what a cut leaves are in opening states.
-use Rattle.std.proofs.Common.{◌≡◌, ℕ, zero, suc, ◌<◌, ◌≤◌, ℤ, List, [], ◌∷◌, length, map, get_or, slice_index, refl, sym, ap, subst, ◌∙◌, arith}
-use Rattle.std.specs.Prelude.{slice_index_or, None, ◌==◌, if◌then◌else◌}
+use Rattle.std.proofs.Common.{◌≡◌, ℕ, zero, suc, ◌<◌, ◌≤◌, ℤ, List, [], ◌∷◌, length, map, get_or, slice_index, refl, sym, ap, subst, ◌∙◌, inl, inr, arith}
+use Rattle.std.specs.Prelude.{slice_index_or, Option, Some, None, ◌==◌, if◌then◌else◌}
+use Rattle.std.proofs.lemmas.Bool.{cases_Bool, eqb-true}
 use Rattle.std.specs.List.{All, AllZip}
 use Rattle.std.specs.FinMap.{get, from_entries, get-from_entries}
 use Rattle.std.proofs.lemmas.List.{length-map}
+use Rattle.plan_model.specs.Aggregates.{Aggregated}
 use Rattle.plan_model.specs.PlanData.{PlanData, IsPlan}
 use Rattle.plan_model.proofs.Facts.{pane_cmp_total}
 use Rattle.stream_model.specs.declared.entry.Entry.{Entry}
 use Rattle.stream_model.specs.InputData.{InputData, BelongsTo, partition_at}
-use Rattle.stream_model.specs.Watermarks.{partition_watermark, IsCut, IsBefore}
+use Rattle.stream_model.specs.Watermarks.{partition_watermark, records_before, IsCut, IsBefore}
 use Rattle.dataflow_model.specs.declared.role.Role.{Role}
 use Rattle.dataflow_model.specs.AbstractTask.{AbstractTask}
 use Rattle.dataflow_model.specs.AbstractLayout.{AbstractLayout, partition_read}
@@ -29,6 +31,7 @@ use Rattle.input_flow.specs.InputEntries.{entries_of, input_of, counts_at}
 use Rattle.input_flow.proofs.Facts.{there, cut_in}
 use Rattle.dataflow_laws.specs.Legs.{AreAt, HaveMarks}
 use Rattle.dataflow_laws.specs.Inputs.{HaveCut}
+use Rattle.dataflow_laws.specs.Owned.{HaveOwnPanes}
 use Rattle.dataflow_laws.specs.Compiled.{layout_to}
 use Rattle.leg_lists.specs.declared.stop.Stop.{Stop}
 use Rattle.leg_lists.specs.declared.stop.Stop.TheVariants.{Never, At}
@@ -41,7 +44,7 @@ use Rattle.redistribute.specs.Begins.{IsStartIn, HasSnapshot}
 use Rattle.redistribute.specs.Snapshots.{saved_partition, saved_source, saved_sources}
 use Rattle.redistribute.specs.Stopping.{CanStop}
 use Rattle.redistribute.specs.Parts.{at_first, saved_at, partition_start, start_of_role, with_windows, parts_within, parts_of, windows_of, IsOpenPart}
-use Rattle.redistribute.specs.Laws.{opening_of, opening_states, TasksOpen, TasksHaveSnapshot}
+use Rattle.redistribute.specs.Laws.{opening_of, opening_states, TasksOpen, TasksHaveSnapshot, TasksHaveOwnPanes}
 use Rattle.redistribute.proofs.Dealt.{known, early, places}
 use Rattle.redistribute.proofs.Grouped.{total_within, open_within, none_due}
 use Rattle.redistribute.proofs.Owned.{owns}
@@ -54,7 +57,7 @@ saved_in (p ∷ ps) [] k cut l = absurd cut
 saved_in (p ∷ ps) (n ∷ ns) zero cut l = refl
 saved_in (p ∷ ps) (n ∷ ns) (suc k) cut l = saved_in ps ns k cut.1 (omega (arith, l))
 
-saved_there : (ss : List (List (List Entry))) (cs : List (List ℕ)) (x k : ℕ) → IsCut ss cs → x < length ss → k < length (get_or ss x [])
+pub saved_there : (ss : List (List (List Entry))) (cs : List (List ℕ)) (x k : ℕ) → IsCut ss cs → x < length ss → k < length (get_or ss x [])
     → slice_index_or (slice_index_or (saved_sources ss cs) x []) k at_first ≡ saved_partition (partition_at ss x k) (count_at cs x k)
 saved_there [] cs x k cut l m = absurd (omega (arith, l))
 saved_there (s ∷ ss) [] x k cut l m = absurd cut
@@ -114,6 +117,14 @@ opens_as p role.Source k starts parts h early = let m = h refl in record {
 opens_as p role.Chain k starts parts h early = refl
 opens_as p role.Window k starts parts h early = (from_entries (entries_of_parts parts), refl, λ q d. get-from_entries pane_cmp_total (entries_of_parts parts) q ∙ none_due p q d parts early)
 opens_as p role.Sink k starts parts h early = refl
+
+-- what stands at a task if the task is the owner
+owned_by : (o u : ℕ) (x : Option Aggregated) (a : Aggregated) (n : ℕ) → ((b : Aggregated) → x ≡ Some b → b.count ≤ n) → (if o == u then x else None) ≡ Some a → (o ≡ u) × (a.count ≤ n)
+owned_by o u x a n few e =
+    elim (cases_Bool (o == u)) [
+      | inl y ↦ (eqb-true o u y, few a (sym (λ j. if y j then x else None) ∙ e))
+      | inr y ↦ absurd (let z : None ≡ Some a = sym (λ j. if y j then x else None) ∙ e in cc)
+    ]
 
 module _ (p : PlanData) (c : ScaleData) (i : InputData) (s : StartData) (leg : Leg) (ip : IsPlan p) (sc : IsScale p c) (belongs : BelongsTo p i) (starts : IsStartIn p i s) where
   abbrev ok : IsCompiled p c (stages_of p c)
@@ -200,6 +211,10 @@ module _ (p : PlanData) (c : ScaleData) (i : InputData) (s : StartData) (leg : L
   have_snapshot : HasSnapshot p i s → HaveCut p i L states cut × HaveMarks (input_of p i) L states (counts_at p cut)
   have_snapshot has = (record { offsets = are_at; windows = λ u l m q. have_windows u l m q ∙ ap (λ z. if L.owner q.key == u then z else None) (has q) }, have_marks)
 
+  -- and of no more records than stand before the cut
+  have_own : HaveOwnPanes L states (length (records_before i.sources cut))
+  have_own u l m q a e = owned_by (L.owner q.key) u (get (windows_of s) q) a (length (records_before i.sources cut)) (starts.counts q) (sym (have_windows u l m q) ∙ e)
+
 leg_start : (p : PlanData) (c : ScaleData) (i : InputData) (s : StartData) (stop : Stop) → IsPlan p → IsScale p c → BelongsTo p i → IsStartIn p i s → CanStop i.sources (offsets_of s) stop
     → let a = layout_to p i s.number (until_of stop) (stages_of p c) in IsLegStart p a (opening_states p s a (stages_of p c))
 leg_start p c i s stop ip sc belongs starts can =
@@ -219,3 +234,10 @@ tasks_have_snapshot p l i s stop ip lo belongs starts has =
     let cut = offsets_of s in
     let R : LayoutData → Type 0 = λ m. let a = layout_to p i s.number (until_of stop) m.stages in let states = opening_states p s a m.stages in HaveCut p i a states cut × HaveMarks (input_of p i) a states (counts_at p cut) in
     subst R (sym lo.is) (have_snapshot p lo.scale i s (leg_of s.number [] (until_of stop) (entries_of i).size) ip lo.fits belongs starts has)
+
+pub tasks_have_own_panes : TasksHaveOwnPanes
+tasks_have_own_panes p l i s stop ip lo belongs starts =
+    let cut = offsets_of s in
+    let leg : Leg = leg_of s.number [] (until_of stop) (entries_of i).size in
+    let R : LayoutData → Type 0 = λ m. let a = layout_to p i s.number (until_of stop) m.stages in let states = opening_states p s a m.stages in AreAt (input_of p i) a states (counts_at p cut) × HaveOwnPanes a states (length (records_before i.sources cut)) in
+    subst R (sym lo.is) (are_at p lo.scale i s leg ip lo.fits belongs starts, have_own p lo.scale i s leg ip lo.fits belongs starts)

@@ -33,7 +33,7 @@ same_bool true false f g = sym (f refl)
 same_bool false true f g = g refl
 same_bool false false f g = refl
 
-has : (r : GroupRange) (g : ℕ) → is_group_of r g ≡ true → Has r g
+pub has : (r : GroupRange) (g : ℕ) → is_group_of r g ≡ true → Has r g
 has r g e = let h = both_are (leb r.first g) (leb g r.last) e in (leb-true r.first g h.0, leb-true g r.last h.1)
 
 is_had : (r : GroupRange) (g : ℕ) → Has r g → is_group_of r g ≡ true

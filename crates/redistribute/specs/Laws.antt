@@ -4,6 +4,7 @@ use Rattle.std.specs.FinMap.{empty, from_entries}
 use Rattle.plain_data.specs.Times.{lowest}
 use Rattle.plan_model.specs.PlanData.{PlanData, IsPlan}
 use Rattle.stream_model.specs.InputData.{InputData, BelongsTo}
+use Rattle.stream_model.specs.Watermarks.{records_before}
 use Rattle.dataflow_model.specs.AbstractLayout.{AbstractLayout}
 use Rattle.dataflow_model.specs.Opening.{opening}
 use Rattle.dataflow_model.specs.Start.{IsLegStart}
@@ -13,7 +14,8 @@ use Rattle.layout_rules.specs.declared.stage.Stage.{Stage}
 use Rattle.layout_rules.specs.Stages.{source_of, task_stage, task_count}
 use Rattle.plan_compiler.specs.LayoutData.{LayoutData, IsLayoutOf}
 use Rattle.input_flow.specs.InputEntries.{input_of, counts_at}
-use Rattle.dataflow_laws.specs.Legs.{HaveMarks}
+use Rattle.dataflow_laws.specs.Legs.{AreAt, HaveMarks}
+use Rattle.dataflow_laws.specs.Owned.{HaveOwnPanes}
 use Rattle.dataflow_laws.specs.Inputs.{HaveCut}
 use Rattle.dataflow_laws.specs.Compiled.{layout_to}
 use Rattle.leg_lists.specs.declared.stop.Stop.{Stop}
@@ -70,3 +72,9 @@ abbrev pub TasksHaveSnapshot : Type 0
 TasksHaveSnapshot = (p : PlanData) (l : LayoutData) (i : InputData) (s : StartData) (stop : Stop) → IsPlan p → IsLayoutOf p l → BelongsTo p i → IsStartIn p i s → HasSnapshot p i s
     → let a = layout_to p i s.number (until_of stop) l.stages in let states = opening_states p s a l.stages in
     HaveCut p i a states (offsets_of s) × HaveMarks (input_of p i) a states (counts_at p (offsets_of s))
+
+-- and each of the window's tasks has its own panes alone, of no more records than stand before the start's cut, where the sources are
+abbrev pub TasksHaveOwnPanes : Type 0
+TasksHaveOwnPanes = (p : PlanData) (l : LayoutData) (i : InputData) (s : StartData) (stop : Stop) → IsPlan p → IsLayoutOf p l → BelongsTo p i → IsStartIn p i s
+    → let a = layout_to p i s.number (until_of stop) l.stages in let states = opening_states p s a l.stages in
+    AreAt (input_of p i) a states (counts_at p (offsets_of s)) × HaveOwnPanes a states (length (records_before i.sources (offsets_of s)))

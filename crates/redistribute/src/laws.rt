@@ -1,6 +1,12 @@
 //! Laws of the definitions, each the contract of a function that does nothing.
 
-ghost use Rattle.redistribute.specs.Laws.{EachPartitionOnce, NothingElse, TasksOpen, TasksHaveSnapshot};
+ghost use Rattle.redistribute.specs.Laws.{
+  EachPartitionOnce,
+  NothingElse,
+  TasksHaveOwnPanes,
+  TasksHaveSnapshot,
+  TasksOpen,
+};
 
 /// Each partition of each source stands in what just one task of the layout begins with, at one place, with the offset
 /// and the watermark that the start has for it.
@@ -23,4 +29,10 @@ pub fn tasks_open()
 /// Where the start has the snapshot of the cut that it begins at, the tasks have it, with the watermarks there.
 pub fn tasks_have_snapshot()
     ensures { TasksHaveSnapshot }
+{}
+
+/// Each of the window's tasks has its own panes alone, of no more records than stand before the cut that the start begins
+/// at, where the sources are.
+pub fn tasks_have_own_panes()
+    ensures { TasksHaveOwnPanes }
 {}

@@ -24,7 +24,7 @@ use Rattle.savepoint_codec.specs.declared.savepoint.SavedGroup.{SavedGroup}
 use Rattle.savepoint_codec.specs.declared.savepoint.SavedPartition.{SavedPartition}
 use Rattle.stream_model.specs.declared.entry.Entry.{Entry}
 use Rattle.stream_model.specs.InputData.{InputData, BelongsTo}
-use Rattle.stream_model.specs.Watermarks.{IsCut, partition_watermark, merged_watermark}
+use Rattle.stream_model.specs.Watermarks.{IsCut, partition_watermark, merged_watermark, records_before}
 use Rattle.redistribute.specs.Begins.{IsStartIn, IsOpenEntry, AreOpenGroups}
 use Rattle.redistribute.specs.Snapshots.{saved_source, saved_sources}
 use Rattle.restore.specs.declared.fault.RestoreFault.TheVariants.{MaxParallelism, UnknownUid, MissingUid, PlanChanged, Offset, Watermark, WrongGroup, ClosedWindow, Count as TooMany, Number}
@@ -32,6 +32,7 @@ use Rattle.restore.specs.Answer.{start_of, met_or_fault}
 use Rattle.restore.specs.Requirements.{has_max, has_known_uids, has_all_uids, has_plan, has_offsets, has_watermarks, has_groups, has_open_windows, has_counts, has_number, plan_requirements, input_requirements, are_kinds, every_partition, every_entry, is_within, is_watermark, is_in_group, is_reached, is_open}
 use Rattle.restore.specs.Saved.{saved_sources as saved_of, cut_of}
 use Rattle.restore.specs.Sound.{IsSoundEntry, IsSoundGroup}
+use Rattle.restore.proofs.Few.{few_in_panes}
 use Rattle.restore.proofs.Shape.{none_of, start_shaped}
 use Rattle.restore.proofs.Windows.{starts_within}
 
@@ -96,7 +97,7 @@ same_kind Greatest Sum h = absurd cc
 same_kind Greatest Least h = absurd cc
 same_kind Greatest Greatest h = refl
 
-kinds_in : (ks : List Kind) (xs : List Aggregate) → length ks ≡ length xs → list_all (λ x. kind_code x.0 == kind_code (kind_of x.1)) (zip ks xs) ≡ true → ks ≡ map kind_of xs
+pub kinds_in : (ks : List Kind) (xs : List Aggregate) → length ks ≡ length xs → list_all (λ x. kind_code x.0 == kind_code (kind_of x.1)) (zip ks xs) ≡ true → ks ≡ map kind_of xs
 kinds_in [] [] l h = refl
 kinds_in [] (a ∷ xs) l h = absurd (omega (arith, l))
 kinds_in (k ∷ ks) [] l h = absurd (omega (arith, l))
@@ -106,7 +107,7 @@ kinds_in (k ∷ ks) (a ∷ xs) l h =
     let rest = kinds_in ks xs (omega (arith, l)) parts.1 in
     λ j. first j ∷ rest j
 
-not_due_first : (w : WindowSpec) (s : ℤ) → is_reached w s ≡ true → is_due w lowest s ≡ false
+pub not_due_first : (w : WindowSpec) (s : ℤ) → is_reached w s ≡ true → is_due w lowest s ≡ false
 not_due_first w s h = grind (arith, ints)
 
 open_entry : (p : PlanData) (kinds : List Kind) (n : ℕ) (t : ℤ) (e : EntryData) → IsPlan p → kinds ≡ map kind_of p.window.aggregates → is_in_group p.max n e ≡ true → is_open p.window t e ≡ true → IsSoundEntry kinds e → IsOpenEntry p kinds n e
@@ -144,7 +145,7 @@ known_kinds p s h =
     kinds_in s.kinds p.window.aggregates (eqb-true _ _ kinds.0) kinds.1
 
 pub is_start_in : (p : PlanData) (i : InputData) (s : Contents) → IsPlan p → BelongsTo p i → All (IsSoundGroup s.kinds) s.groups → met_or_fault (plan_requirements p) s ≡ Ok tt → met_or_fault (input_requirements p i) s ≡ Ok tt → IsStartIn p i (start_of p s)
-unfolding input_requirements has_offsets has_watermarks has_groups has_open_windows has_number
+unfolding input_requirements has_offsets has_watermarks has_groups has_open_windows has_counts has_number
 is_start_in p i s ip belongs sound planned h =
     let a = none_of _ h in
     let offsets = met_first Offset (has_offsets p i s) _ a in
@@ -158,5 +159,6 @@ is_start_in p i s ip belongs sound planned h =
       cut = cut_fits (saved_of p s) i.sources shaped offsets.0;
       partitions = marks_fit (saved_of p s) i.sources shaped marks.0;
       windows = open_groups p s.kinds (merged_watermark i.sources (cut_of (saved_of p s))) s.groups ip (known_kinds p s planned) grouped.0 windows.0 sound;
+      counts = λ q e. few_in_panes (length (records_before i.sources (cut_of (saved_of p s)))) (start_of p s) q e counts.0;
       number = leb-true s.number (2 ^ 63) number.0;
     }

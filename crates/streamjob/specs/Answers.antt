@@ -1,6 +1,6 @@
 -- What the program's commands answer. Nothing can be said of what files hold and of what standard output takes, and so
 -- these say which answers the texts of files allow, whatever they are.
-use Rattle.std.specs.Prelude.{◌≡◌, ◌⊎◌, ℕ, List, [], None, Result, Err, unwrap_or}
+use Rattle.std.specs.Prelude.{◌≡◌, ◌⊎◌, ℕ, List, [], Bool, Option, None, is_some, Result, Err, unwrap_or}
 use Rattle.std.specs.declared.io.ErrorKind.{ErrorKind}
 use Rattle.std.specs.declared.io.ErrorKind.TheVariants.{OutOfMemory}
 use Rattle.clap.specs.Words.{found_of, first_value}
@@ -9,8 +9,11 @@ use Rattle.job.specs.declared.fault.JobFault.{JobFault}
 use Rattle.job.specs.declared.fault.JobFault.TheVariants.{Read, Memory}
 use Rattle.job.specs.Group.{TellsGroup, group_said}
 use Rattle.job.specs.Layout.{TellsLayout, layout_said}
+use Rattle.job.specs.Leg.{TellsLeg, leg_said}
 use Rattle.job.specs.Run.{Answers, run_said}
 use Rattle.job.specs.Show.{TellsSavepoint, show_said}
+use Rattle.user_texts.specs.Pages.{TellsPage, explained}
+use Rattle.user_texts.specs.declared.writing.TextFault.{TextFault}
 
 -- the word of the command line under a name
 abbrev pub word : ArgMatches → List ℕ → List ℕ
@@ -29,6 +32,12 @@ CannotRead result = (result ≡ Err Read) ⊎ (result ≡ Err Memory)
 abbrev pub AnswersRun : Result (Unit {0}) JobFault → Type 0
 AnswersRun result = CannotRead result ⊎ ((plan : List ℕ) × (input : List ℕ) × Answers (run_said plan input) result None None)
 
+-- what `job_leg` answers of some plan, input and scale, with a savepoint just where one is named, and of the word of a cut, or that one of them was not read
+abbrev pub AnswersLeg : Bool → Option (List ℕ) → Result (Unit {0}) JobFault → Type 0
+AnswersLeg names_savepoint stop result =
+    CannotRead result
+    ⊎ ((plan : List ℕ) × (input : List ℕ) × (scale : List ℕ) × (from : Option (List ℕ)) × (is_some from ≡ names_savepoint) × TellsLeg (leg_said plan input scale from stop) result None None)
+
 -- what `job_layout` answers of some plan and scale, or that one of them was not read
 abbrev pub AnswersLayout : Result (Unit {0}) JobFault → Type 0
 AnswersLayout result = CannotRead result ⊎ ((plan : List ℕ) × (scale : List ℕ) × TellsLayout (layout_said plan scale) result None None)
@@ -40,3 +49,7 @@ AnswersShow result = CannotRead result ⊎ ((savepoint : List ℕ) × TellsSavep
 -- what `job_group` answers of three words
 abbrev pub AnswersGroup : List ℕ → List ℕ → List ℕ → Result (Unit {0}) JobFault → Type 0
 AnswersGroup key max par result = TellsGroup (group_said key max par) result None None
+
+-- what `explain` answers of a code
+abbrev pub AnswersExplain : List ℕ → Result (Unit {0}) TextFault → Type 0
+AnswersExplain code result = TellsPage (explained code) result None None

@@ -8,7 +8,7 @@ use Rattle.clap.specs.declared.error.kind.ErrorKind.{ErrorKind as Mistake}
 use Rattle.clap.specs.declared.error.kind.ErrorKind.TheVariants as clap
 use Rattle.job.specs.FaultText.{status as fault_status}
 use Rattle.streamjob.specs.declared.run.Refusal.{Refusal}
-use Rattle.streamjob.specs.declared.run.Refusal.TheVariants.{Unread, Words, Fault}
+use Rattle.streamjob.specs.declared.run.Refusal.TheVariants.{Unread, Words, Fault, NoPage}
 
 -- of words that are no text
 abbrev pub unread_status : ErrorKind → ℕ
@@ -24,6 +24,7 @@ abbrev pub refusal_status : Refusal → ℕ
 refusal_status (Unread error) = unread_status (error_kind error)
 refusal_status (Words error) = words_status (kind_of error)
 refusal_status (Fault fault) = fault_status fault
+refusal_status NoPage = 2
 
 -- 0 for a command that is done, and else the refusal's
 abbrev pub status : Result (Unit {0}) Refusal → ℕ

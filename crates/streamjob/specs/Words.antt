@@ -1,5 +1,5 @@
 -- The words that the program takes.
-use Rattle.std.specs.Prelude.{◌≡◌, ℕ, List, [], ◌∷◌, map, codes, true, false}
+use Rattle.std.specs.Prelude.{◌≡◌, ℕ, List, [], ◌∷◌, ◌++◌, Some, map, codes, true, false}
 use Rattle.clap.specs.Words.{Rule, App, Shape, app_of, new_rule}
 use Rattle.clap.specs.Simple.{new_shape}
 use Rattle.clap.specs.declared.builder.command.Command.TheViews.{out-Command as fields_of}
@@ -9,12 +9,23 @@ use Rattle.clap.specs.declared.builder.command.Command.{Command}
 abbrev pub required_rule : List ℕ → Rule
 required_rule name = record (new_rule name) { required = true }
 
+-- an option of a long name, with one value
+abbrev pub option_rule : List ℕ → Rule
+option_rule name = record (new_rule name) { long = Some name; value_names = 1 }
+
 -- a command by its name and the names of its words, in order
 abbrev pub command_shape : List ℕ → List (List ℕ) → Shape
 command_shape name words = record (new_shape name) { rules = map required_rule words }
 
 abbrev pub run_shape : Shape
 run_shape = command_shape (codes "run") (codes "PLAN" ∷ codes "INPUT" ∷ [])
+
+abbrev pub leg_files_shape : Shape
+leg_files_shape = command_shape (codes "leg") (codes "PLAN" ∷ codes "INPUT" ∷ codes "SCALE" ∷ [])
+
+-- a leg's files, and its two options
+abbrev pub leg_shape : Shape
+leg_shape = record leg_files_shape { rules = leg_files_shape.rules ++ option_rule (codes "from") ∷ option_rule (codes "stop") ∷ [] }
 
 abbrev pub layout_shape : Shape
 layout_shape = command_shape (codes "layout") (codes "PLAN" ∷ codes "SCALE" ∷ [])
@@ -25,11 +36,21 @@ show_shape = command_shape (codes "show") (codes "SAVEPOINT" ∷ [])
 abbrev pub group_shape : Shape
 group_shape = command_shape (codes "group") (codes "KEY" ∷ codes "MAX" ∷ codes "PAR" ∷ [])
 
--- the program takes one of four commands
+abbrev pub explain_shape : Shape
+explain_shape = command_shape (codes "explain") (codes "CODE" ∷ [])
+
+abbrev pub version_shape : Shape
+version_shape = command_shape (codes "version") []
+
+-- the program takes a command
+abbrev pub top : App
+top = record { top = record (new_shape (codes "streamjob")) { subcommand_required = true }; subs = [] }
+
+-- and that is one of seven
 abbrev pub program : App
 program = record {
-  top = record (new_shape (codes "streamjob")) { subcommand_required = true; is_leaf = false };
-  subs = run_shape ∷ layout_shape ∷ show_shape ∷ group_shape ∷ [];
+  top = record top.top { is_leaf = false };
+  subs = run_shape ∷ leg_shape ∷ layout_shape ∷ show_shape ∷ group_shape ∷ explain_shape ∷ version_shape ∷ [];
 }
 
 -- a command of such a shape, without commands below it

@@ -1,6 +1,6 @@
 //! Files read whole.
 
-ghost use Rattle.std.specs.Prelude.{◌≡◌, ◌⊎◌, IfErr};
+ghost use Rattle.std.specs.Prelude.{◌≡◌, ◌⊎◌, is_some, IfErr, IfOk};
 ghost use Rattle.std.specs.IoError.{error_kind};
 ghost use Rattle.streamjob.specs.Answers as answers;
 
@@ -20,6 +20,24 @@ pub fn file<R: Files + AllocGlobal>(rt: &R, path: &str) -> Result<Vec<u8>, JobFa
     match fs::read(rt, path) {
         Ok(bytes) => Ok(bytes),
         Err(error) => Err(read_fault(&error)),
+    }
+}
+
+/// All bytes of the file at a path, where there is a path.
+///
+/// # Errors
+///
+/// Those of [`file`].
+pub fn optional_file<R: Files + AllocGlobal>(
+    rt: &R,
+    path: Option<&str>,
+) -> Result<Option<Vec<u8>>, JobFault>
+    ensures given { IfOk result (λ bytes. is_some bytes ≡ is_some path.entry) }
+    ensures err { IfErr result (λ fault. (fault ≡ JobFault.Read) ⊎ (fault ≡ JobFault.Memory)) }
+{
+    match path {
+        Some(path) => Ok(Some(file(rt, path)?)),
+        None => Ok(None),
     }
 }
 

@@ -1,11 +1,11 @@
 //! From the words to the status.
 
-ghost use Rattle.std.specs.Prelude.{◌≡◌};
+ghost use Rattle.std.specs.Prelude.{◌≡◌, map, string_bytes};
 ghost use Rattle.std.specs.IoError.{error_kind};
-ghost use Rattle.clap.specs.Words.{kind_of};
+ghost use Rattle.clap.specs.Words.{kind_of, subcommand_name_of};
 ghost use Rattle.job.specs.FaultText as fault_text;
 ghost use Rattle.job.specs.declared.fault.JobFault.TheVariants.{Memory};
-ghost use Rattle.streamjob.specs.Outcome.{AnswersCommand, AnswersProgram};
+ghost use Rattle.streamjob.specs.Outcome.{after_command, after_text, AnswersNamed, AnswersWords, AnswersProgram};
 ghost use Rattle.streamjob.specs.Status as statuses;
 ghost use Rattle.streamjob.specs.declared.run.Refusal.TheVariants.{Words, Fault};
 
@@ -17,6 +17,7 @@ use std::alloc::AllocError;
 use std::random::RandomSource;
 use std::rt::{Env, Files};
 use std::{env, io};
+use user_texts::TextFault;
 
 /// Why the program ends with no command done.
 #[derive(Drop)]
@@ -27,6 +28,8 @@ pub enum Refusal {
     Words(clap::Error),
     /// The command has no answer.
     Fault(JobFault),
+    /// No refusal has the code that was to be explained.
+    NoPage,
 }
 
 impl From<clap::Error> for Refusal {
@@ -53,19 +56,43 @@ impl From<AllocError> for Refusal {
     }
 }
 
+/// What comes of a command on a job.
+fn done(answer: Result<(), JobFault>) -> Result<(), Refusal>
+    ensures { result ≡ after_command answer }
+{
+    match answer {
+        Ok(()) => Ok(()),
+        Err(fault) => Err(Refusal::Fault(fault)),
+    }
+}
+
+/// What comes of a command on a text of the program's own.
+fn told(answer: Result<(), TextFault>) -> Result<(), Refusal>
+    ensures { result ≡ after_text answer }
+{
+    match answer {
+        Ok(()) => Ok(()),
+        Err(TextFault::NoPage) => Err(Refusal::NoPage),
+        Err(TextFault::Write) => Err(Refusal::Fault(JobFault::Write)),
+    }
+}
+
 /// Runs the command that the words name; clap lets no others through.
 fn chosen<R: Files + Print + RandomSource + AllocGlobal>(
     rt: &R,
     matches: &ArgMatches<'_>,
-) -> Result<(), JobFault>
-    ensures { AnswersCommand result }
+) -> Result<(), Refusal>
+    ensures { AnswersNamed (subcommand_name_of matches.now) result }
 {
     match matches.subcommand() {
-        Some(("run", words)) => commands::run(rt, words),
-        Some(("layout", words)) => commands::layout(rt, words),
-        Some(("show", words)) => commands::show(rt, words),
-        Some(("group", words)) => commands::group(rt, words),
-        _ => Err(JobFault::Number),
+        Some(("run", words)) => done(commands::run(rt, words)),
+        Some(("leg", words)) => done(commands::leg(rt, words)),
+        Some(("layout", words)) => done(commands::layout(rt, words)),
+        Some(("show", words)) => done(commands::show(rt, words)),
+        Some(("group", words)) => done(commands::group(rt, words)),
+        Some(("explain", words)) => told(commands::explain(rt, words)),
+        Some(("version", _)) => told(commands::version(rt)),
+        _ => Err(Refusal::Fault(JobFault::Number)),
     }
 }
 
@@ -73,6 +100,18 @@ fn chosen<R: Files + Print + RandomSource + AllocGlobal>(
 fn words_of<R: Env + AllocGlobal>(rt: &R) -> io::Result<Vec<String>> {
     let words = env::args(rt)?.collect::<Vec<String>>(rt.alloc())?;
     Ok(words)
+}
+
+/// Runs the command that words name, the program's own name first.
+fn obeyed<R: Files + Print + RandomSource + AllocGlobal>(
+    rt: &R,
+    words: &[String],
+) -> Result<(), Refusal>
+    ensures { AnswersWords (map string_bytes words.now) result }
+{
+    let command = command(rt.alloc())?;
+    let matches = command.try_get_matches_from(words)?;
+    chosen(rt, &matches)
 }
 
 /// Runs the command that the program's words name.
@@ -83,11 +122,10 @@ fn words_of<R: Env + AllocGlobal>(rt: &R) -> io::Result<Vec<String>> {
 pub fn outcome<R: Files + Print + Env + RandomSource + AllocGlobal>(rt: &R) -> Result<(), Refusal>
     ensures { AnswersProgram result }
 {
-    let words = words_of(rt).map_err(Refusal::Unread)?;
-    let command = command(rt.alloc())?;
-    let matches = command.try_get_matches_from(words.as_slice())?;
-    chosen(rt, &matches)?;
-    Ok(())
+    match words_of(rt) {
+        Ok(words) => obeyed(rt, words.as_slice()),
+        Err(error) => Err(Refusal::Unread(error)),
+    }
 }
 
 /// Says what is wrong with the words. Help counts as that, so that standard output has rows alone.
@@ -120,6 +158,14 @@ fn failed<R: Eprint>(rt: &R, fault: &JobFault) -> u8
     status_of(fault)
 }
 
+/// Says that a code is none.
+fn no_page<R: Eprint>(rt: &R) -> u8
+    ensures { result ≡ 2 }
+{
+    let _ = rt.eprintln("error: no refusal has this code");
+    2
+}
+
 /// Says why no command is done, and answers the status to end with.
 pub fn status<R: Eprint>(rt: &R, outcome: &Result<(), Refusal>) -> u8
     ensures { result ≡ statuses.status outcome.now }
@@ -129,5 +175,6 @@ pub fn status<R: Eprint>(rt: &R, outcome: &Result<(), Refusal>) -> u8
         Err(Refusal::Unread(error)) => unread(rt, error),
         Err(Refusal::Words(error)) => refused(rt, error),
         Err(Refusal::Fault(fault)) => failed(rt, fault),
+        Err(Refusal::NoPage) => no_page(rt),
     }
 }

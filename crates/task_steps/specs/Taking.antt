@@ -1,5 +1,5 @@
 -- What Take needs, as the code tests it.
-use Rattle.std.specs.Prelude.{◌≡◌, ℕ, ◌+◌, ◌^◌, ◌≤◌, ◌<◌, [], length, true, false}
+use Rattle.std.specs.Prelude.{◌≡◌, ℕ, ◌+◌, ◌≤◌, ◌<◌, [], length, true, false}
 use Rattle.std.specs.List.{All}
 use Rattle.plain_data.specs.Record.{at}
 use Rattle.columns.specs.Table.{Table}

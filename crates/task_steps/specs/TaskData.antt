@@ -1,5 +1,5 @@
 -- A task as contracts see it.
-use Rattle.std.specs.Prelude.{◌≡◌, ℕ, ◌+◌, ◌*◌, ◌^◌, ◌≤◌, ◌<◌, ℤ, [], length, Option, Some, None, option_map, slice_index, Bool, true, false}
+use Rattle.std.specs.Prelude.{◌≡◌, ℕ, ◌+◌, ◌*◌, ◌≤◌, ◌<◌, ℤ, List, [], length, Option, Some, None, option_map, slice_index, Bool, true, false}
 use Rattle.std.specs.List.{All}
 use Rattle.std.specs.FinMap.{get, empty}
 use Rattle.std.specs.VecDeque.{deque_capacity}
@@ -11,6 +11,8 @@ use Rattle.plan_model.specs.Windows.{passes}
 use Rattle.plan_model.specs.Aggregates.{Aggregated}
 use Rattle.plan_model.specs.declared.limits.TheConstants.{MOST_RECORDS}
 use Rattle.window_state.specs.State.{StateData}
+use Rattle.window_state.specs.Parts.{IsPartOf}
+use Rattle.window_state.specs.declared.parts.Part.{Part}
 use Rattle.window_state.specs.Windows.{CanAggregate}
 use Rattle.input_state.specs.Inputs.{all_shut, any_held}
 use Rattle.dataflow_model.specs.declared.role.Role.{Role}
@@ -60,6 +62,11 @@ task_view t = record {
 -- no window has more than n records
 abbrev pub HasCounts : ℕ → Windows → Type 0
 HasCounts n windows = (q : Pane) (a : Aggregated) → get windows q ≡ Some a → a.count ≤ n
+
+-- parts of the windows of a task that has this operator; without one it has none
+abbrev pub ArePartsOf : Option WindowSpec → List Part → Type 0
+ArePartsOf None parts = parts ≡ []
+ArePartsOf (Some w) parts = All (IsPartOf w) parts
 
 -- whether the next batch has an output to go to
 abbrev pub IsTurn : Role → ℕ → ℕ → Type 0

@@ -1,10 +1,10 @@
 //! The page of a fault.
 
-ghost use Rattle.std.specs.Prelude.{◌≡◌, option_copied, map};
+ghost use Rattle.std.specs.Prelude.{◌≡◌, option_copied, option_map, map};
 ghost use Rattle.std.specs.List.{find};
 ghost use Rattle.user_texts.specs.Pages.{explained, same_code, page_said, TellsPage};
 
-use crate::pages::PAGES;
+use crate::pages::{OTHER_PAGES, PAGES_OF_TEXTS};
 use crate::writing::{TextFault, write_text};
 use std::io::Write;
 
@@ -25,12 +25,24 @@ fn page_with<'a>(pages: &'a [FaultPage<'a>], code: &str) -> Option<&'a FaultPage
     pages.iter().find(|page| is_same_code(page.0, code))
 }
 
-fn write_page<W: Write>(pages: &[FaultPage<'_>], code: &str, out: &mut W) -> Result<(), TextFault>
-    ensures { TellsPage (page_said (map (λ page. (page.0.now, page.1.now)) pages.now) code.now) result (W.contents out.old) (W.contents out.new) }
+/// The text of the first page with a code.
+fn text_with<'a>(pages: &'a [FaultPage<'a>], code: &str) -> Option<&'a str>
+    ensures { option_map (λ text. text.now) result ≡ page_said (map (λ page. (page.0.now, page.1.now)) pages.now) code.now }
 {
     match page_with(pages, code) {
-        Some((_, text)) => write_text(out, text),
-        None => Err(TextFault::NoPage),
+        Some((_, text)) => Some(text),
+        None => None,
+    }
+}
+
+/// The text of the page with a code: that of a plan's or an input's fault, or another.
+#[tactic(auto, unfolding(crate::specs::Pages::explained))]
+fn page_of(code: &str) -> Option<&'static str>
+    ensures { option_map (λ text. text.now) result ≡ explained code.now }
+{
+    match text_with(&PAGES_OF_TEXTS, code) {
+        Some(text) => Some(text),
+        None => text_with(&OTHER_PAGES, code),
     }
 }
 
@@ -39,9 +51,11 @@ fn write_page<W: Write>(pages: &[FaultPage<'_>], code: &str, out: &mut W) -> Res
 /// # Errors
 ///
 /// `NoPage` where no page has the code; `Write` where the writer refuses the page.
-#[tactic(auto, unfolding(crate::specs::Pages::explained))]
 pub fn explain<W: Write>(code: &str, out: &mut W) -> Result<(), TextFault>
     ensures { TellsPage (explained code.now) result (W.contents out.old) (W.contents out.new) }
 {
-    write_page(&PAGES, code, out)
+    match page_of(code) {
+        Some(text) => write_text(out, text),
+        None => Err(TextFault::NoPage),
+    }
 }

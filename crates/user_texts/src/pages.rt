@@ -2,52 +2,8 @@
 
 use crate::page::FaultPage;
 
-/// A page for each code of a fault, in the order of docs/FAULTS.md.
-pub const PAGES: [FaultPage<'static>; 41] = [
-    (
-        "C2",
-        r#"C2 Number (status 2)
-
-A word of `group` is no number in its range: KEY is a hyphen or none and 1 to 19 digits, of 64 bits; MAX has 1 to 5 digits, from 1 to 32768;
-PAR has 1 to 5 digits, from 1 to 64 and at most MAX. A `+`, a space, a point or an empty word is none.
-
-```console
-$ streamjob group 7 128 65
-C2 Number
-```
-
-Take a number in the range.
-"#,
-    ),
-    (
-        "F1",
-        r#"F1 Read (status 3)
-
-A file is missing, is a folder, or may not be read; `-` is a file of that name and not standard input. All files are read first, so this
-comes before any fault of a plan. `run` also says it where the system gives no random bytes.
-
-```console
-$ streamjob run plan.json no-such-file.json
-F1 Read
-```
-
-`ls -l` each file that the command names. For standard input write `/dev/stdin`.
-"#,
-    ),
-    (
-        "F2",
-        r#"F2 Write (status 3)
-
-Standard output took no more: the disk is full, or the other end of a pipe is closed. How much of the answer was taken is not known.
-
-```console
-$ streamjob group 7 128 4 > /dev/full
-F2 Write
-```
-
-Throw away what was written, make room and run again. After `| head` it may be ignored.
-"#,
-    ),
+/// The pages of the faults of a plan and of an input, in the order of docs/FAULTS.md.
+pub const PAGES_OF_TEXTS: [FaultPage<'static>; 25] = [
     (
         "P1",
         r#"P1 NotJson (status 3)
@@ -413,6 +369,69 @@ The input has over 2^40 records, all sources together. Such a text has more than
 Split the input by keys, as under `memory`.
 "#,
     ),
+];
+
+/// The pages of all other faults, in the order of docs/FAULTS.md.
+pub const OTHER_PAGES: [FaultPage<'static>; 29] = [
+    (
+        "C1",
+        r#"C1 Cut (status 2)
+
+The word after `--stop` is no cut: counts of 1 to 20 digits, each below 2^64, with commas between the partitions of a source, and slashes
+between sources. A sign, a space, a point or an empty count is none.
+
+```console
+$ streamjob leg plan.json input.json scale.json --stop 1,x
+C1 Cut
+```
+
+Write it as `2,2/5`, for two partitions of the first source and one of the second. See the [cut](FORMATS.md#cut).
+"#,
+    ),
+    (
+        "C2",
+        r#"C2 Number (status 2)
+
+A word of `group` is no number in its range: KEY is a hyphen or none and 1 to 19 digits, of 64 bits; MAX has 1 to 5 digits, from 1 to 32768;
+PAR has 1 to 5 digits, from 1 to 64 and at most MAX. A `+`, a space, a point or an empty word is none.
+
+```console
+$ streamjob group 7 128 65
+C2 Number
+```
+
+Take a number in the range.
+"#,
+    ),
+    (
+        "F1",
+        r#"F1 Read (status 3)
+
+A file is missing, is a folder, or may not be read; `-` is a file of that name and not standard input. All files are read first, so this
+comes before any fault of a plan. `run` and `leg` also say it where the system gives no random bytes.
+
+```console
+$ streamjob run plan.json no-such-file.json
+F1 Read
+```
+
+`ls -l` each file that the command names. For standard input write `/dev/stdin`.
+"#,
+    ),
+    (
+        "F2",
+        r#"F2 Write (status 3)
+
+Standard output took no more: the disk is full, or the other end of a pipe is closed. How much of the answer was taken is not known.
+
+```console
+$ streamjob group 7 128 4 > /dev/full
+F2 Write
+```
+
+Throw away what was written, make room and run again. After `| head` it may be ignored.
+"#,
+    ),
     (
         "S1",
         r#"S1 NotJson (status 3)
@@ -595,6 +614,195 @@ A field has a value that it cannot have, as a number of 0, a character that no u
 ```
 
 The file was not written by a job, or it was damaged.
+"#,
+    ),
+    (
+        "Q1",
+        r#"Q1 MaxParallelism (status 3)
+
+The plan's `maxParallelism` is not the savepoint's: the key groups would be others.
+
+```json plan.json
+{"columns": 2, "maxParallelism": 64, "time": 0, "key": 1, "sources": [{"uid": "calls", "partitions": 1}],
+ "window": {"uid": "usage", "size": 10, "aggregates": [{"fn": "count"}]}}
+```
+
+Write the number of `streamjob show savepoint` after `max` into the plan. It cannot be changed while a job goes on.
+"#,
+    ),
+    (
+        "Q2",
+        r#"Q2 UnknownUid (status 3)
+
+The savepoint has a source, or a window, whose uid is none of the plan's.
+
+```json plan.json
+{"columns": 2, "maxParallelism": 128, "time": 0, "key": 1, "sources": [{"uid": "calls", "partitions": 1}],
+ "window": {"uid": "hourly", "size": 10, "aggregates": [{"fn": "count"}]}}
+```
+
+```json scale.json
+{"ring": 16, "operators": {"calls": {"parallelism": 1}, "hourly": {"parallelism": 2}}}
+```
+
+Give the operators of the plan, the input and the scale the uids that `streamjob show savepoint` prints.
+"#,
+    ),
+    (
+        "Q3",
+        r#"Q3 MissingUid (status 3)
+
+The plan has a source that the savepoint has not.
+
+```json plan.json
+{"columns": 2, "maxParallelism": 128, "time": 0, "key": 1,
+ "sources": [{"uid": "calls", "partitions": 1}, {"uid": "mails", "partitions": 1}],
+ "window": {"uid": "usage", "size": 10, "aggregates": [{"fn": "count"}]}}
+```
+
+```json input.json
+{"calls": [[{"rows": [[1, 7]]}, {"rows": [[2, 7]]}]], "mails": [[]]}
+```
+
+```json scale.json
+{"ring": 16, "operators": {"calls": {"parallelism": 1}, "mails": {"parallelism": 1}, "usage": {"parallelism": 2}}}
+```
+
+A source cannot be added while a job goes on. Begin from nothing, or run the new source as a job of its own.
+"#,
+    ),
+    (
+        "Q4",
+        r#"Q4 PlanChanged (status 3)
+
+The plan counts otherwise than the one that the savepoint is of: another column of time or key, window, filter condition, aggregate or having
+condition. [FORMATS.md](FORMATS.md#savepoint) has what a plan record has, and what it has not.
+
+```json plan.json
+{"columns": 2, "maxParallelism": 128, "time": 0, "key": 1, "sources": [{"uid": "calls", "partitions": 1}],
+ "window": {"uid": "usage", "size": 20, "aggregates": [{"fn": "count"}]}}
+```
+
+Go on with the plan that the job began with. A new plan begins from nothing.
+"#,
+    ),
+    (
+        "Q5",
+        r#"Q5 Partitions (status 3)
+
+A source has another number of partitions in the plan than in the savepoint.
+
+```json plan.json
+{"columns": 2, "maxParallelism": 128, "time": 0, "key": 1, "sources": [{"uid": "calls", "partitions": 2}],
+ "window": {"uid": "usage", "size": 10, "aggregates": [{"fn": "count"}]}}
+```
+
+```json input.json
+{"calls": [[{"rows": [[1, 7]]}, {"rows": [[2, 7]]}], []]}
+```
+
+The number of partitions cannot be changed while a job goes on; a scale can.
+"#,
+    ),
+    (
+        "Q6",
+        r#"Q6 Offset (status 3)
+
+The savepoint has read more entries of a partition than the input has.
+
+```json input.json
+{"calls": [[]]}
+```
+
+Go on with the same input, or with one that has the same entries and more after them. The entries that were read have to be there, too.
+"#,
+    ),
+    (
+        "Q7",
+        r#"Q7 Watermark (status 3)
+
+A partition's watermark in the savepoint is not the one that the input has after as many entries: the input is another one, or entries were
+added to a partition that had been read to its end.
+
+```json input.json
+{"calls": [[{"watermark": 0}, {"rows": [[2, 7]]}]]}
+```
+
+Go on with the input that the job began with. `streamjob show savepoint` prints each offset and watermark. A partition that is to get more
+entries later must not be read to its end before: stop an entry before it.
+"#,
+    ),
+    (
+        "Q8",
+        r#"Q8 WrongGroup (status 3)
+
+An entry of the savepoint stands under a key group that is not its key's.
+
+```console
+$ printf '\x72' | dd of=savepoint bs=1 seek=92 conv=notrunc status=none && streamjob leg plan.json input.json scale.json --from savepoint
+Q8 WrongGroup
+```
+
+The file was not written by a job, or it was damaged: take a whole copy.
+"#,
+    ),
+    (
+        "Q9",
+        r#"Q9 ClosedWindow (status 3)
+
+An entry of the savepoint is of a window that has fired before its cut, or of one that the plan does not have.
+
+```console
+$ printf '\x05' | dd of=savepoint bs=1 seek=108 conv=notrunc status=none && streamjob leg plan.json input.json scale.json --from savepoint
+Q9 ClosedWindow
+```
+
+The file was not written by a job, or it was damaged: take a whole copy.
+"#,
+    ),
+    (
+        "Q11",
+        r#"Q11 Count (status 3)
+
+An entry of the savepoint has more records than the input has before the offsets.
+
+```console
+$ for at in 124 140; do printf '\x02' | dd of=savepoint bs=1 seek=$at conv=notrunc status=none; done; streamjob leg plan.json input.json scale.json --from savepoint
+Q11 Count
+```
+
+Compare the input with the one that the job began with; else the file was not written by a job, or it was damaged.
+"#,
+    ),
+    (
+        "Q12",
+        r#"Q12 Number (status 3)
+
+The savepoint's number is over 2^63, so that the legs after it would run out of numbers.
+
+```console
+$ printf '\x80' | dd of=savepoint bs=1 seek=4 conv=notrunc status=none && streamjob leg plan.json input.json scale.json --from savepoint
+Q12 Number
+```
+
+The file was not written by a job, or it was damaged: take a whole copy.
+"#,
+    ),
+    (
+        "L1",
+        r#"L1 StopRange (status 3)
+
+A leg cannot stop at the cut of `--stop`: it has another number of sources or of partitions than the plan, a count is over the number of
+entries of its partition, or it is below what the savepoint of `--from` has read.
+
+```console
+$ streamjob leg plan.json input.json scale.json --stop 3
+L1 StopRange
+$ streamjob leg plan.json input.json scale.json --from savepoint --stop 0
+L1 StopRange
+```
+
+`streamjob show savepoint` prints what was read of each partition. Without `--stop` a leg goes to the end of the input.
 "#,
     ),
     (

@@ -18,16 +18,39 @@ fn a_page_in_either_case(rt: HostRuntime) -> Result<(), Fail> {
     let mut small = Vec::new(rt.alloc());
     explain("p3", &mut small)?;
     assert_eq!(rt; small.as_slice(), large.as_slice());
-    let mut memory = Vec::new(rt.alloc());
-    explain("MEMORY", &mut memory)?;
-    assert!(rt; memory.starts_with(b"memory (status 4)\n"));
+    Ok(())
+}
+
+#[test]
+fn pages_of_both_tables(rt: HostRuntime) -> Result<(), Fail> {
+    for (code, line) in [
+        ("P1", "P1 NotJson (status 3)\n"),
+        ("I10", "I10 TooMany (status 3)\n"),
+        ("C1", "C1 Cut (status 2)\n"),
+        ("q8", "Q8 WrongGroup (status 3)\n"),
+        ("MEMORY", "memory (status 4)\n"),
+    ] {
+        let mut out = Vec::new(rt.alloc());
+        explain(code, &mut out)?;
+        assert!(rt; out.starts_with(line.as_bytes()), "{code}");
+    }
     Ok(())
 }
 
 #[test]
 fn codes_without_a_page(rt: HostRuntime) {
     let mut out = Vec::new(rt.alloc());
-    for code in ["", "P", "P0", "P16", "P3 ", "P3 Columns", "C1"] {
+    for code in [
+        "",
+        "P",
+        "P0",
+        "P16",
+        "P3 ",
+        "P3 Columns",
+        "Q10",
+        "L2",
+        "mem",
+    ] {
         assert_eq!(rt; explain(code, &mut out), Err(TextFault::NoPage), "{code}");
     }
     assert!(rt; out.is_empty());

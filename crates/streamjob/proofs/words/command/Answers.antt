@@ -1,7 +1,7 @@
-use Rattle.std.proofs.Common.{◌≡◌, ◌∙◌, ap, codes, rules, Result, Ok, Err, IfOk, true}
-use Rattle.clap.specs.Words.{App, Shape, AddsSubcommand, app_of, shape_of, new_app, with_subcommand}
+use Rattle.std.proofs.Common.{◌≡◌, ◌∙◌, ap, Result, Ok, Err, IfOk}
+use Rattle.clap.specs.Words.{App, Shape, AddsSubcommand, app_of, shape_of, with_subcommand}
 use Rattle.clap.specs.declared.builder.command.Command.{Command}
-use Rattle.streamjob.specs.Words.{IsCommand, run_shape, layout_shape, show_shape, group_shape}
+use Rattle.streamjob.specs.Words.{IsCommand, run_shape, leg_shape, layout_shape, show_shape, group_shape, explain_shape, version_shape}
 use Rattle.streamjob.proofs.words.command.Goals as goal
 
 -- a command added to one whose shape is known
@@ -16,8 +16,10 @@ added_last old sub (Err e) app shape adds is command = tt
 
 pub returns : goal.returns
 returns c =
-    let head : app_of c.subcommand_required.result ≡ record (new_app (codes "streamjob")) { top = record (new_app (codes "streamjob")).top { subcommand_required = true } } = search rules in
-    let first = added _ _ _ _ run_shape c.in_ok-subcommand.ensures head c.in_ok-run_words.ensures in
-    let second = added _ _ _ _ layout_shape c.in_ok-subcommand-2.ensures first c.in_ok-layout_words.ensures in
-    let third = added _ _ _ _ show_shape c.in_ok-subcommand-3.ensures second c.in_ok-show_words.ensures in
-    added_last _ _ _ _ group_shape c.subcommand-4.ensures third c.in_ok-group_words.ensures
+    let first = added _ _ _ _ run_shape c.in_ok-subcommand.ensures c.program_words.ensures c.in_ok-run_words.ensures in
+    let second = added _ _ _ _ leg_shape c.in_ok-subcommand-2.ensures first c.in_ok-leg_words.ensures in
+    let third = added _ _ _ _ layout_shape c.in_ok-subcommand-3.ensures second c.in_ok-layout_words.ensures in
+    let fourth = added _ _ _ _ show_shape c.in_ok-subcommand-4.ensures third c.in_ok-show_words.ensures in
+    let fifth = added _ _ _ _ group_shape c.in_ok-subcommand-5.ensures fourth c.in_ok-group_words.ensures in
+    let sixth = added _ _ _ _ explain_shape c.in_ok-subcommand-6.ensures fifth c.in_ok-explain_words.ensures in
+    added_last _ _ _ _ version_shape c.subcommand-7.ensures sixth c.version_words.ensures

@@ -4,6 +4,12 @@ use Rattle.core_steps.proofs.Local.{answers_of, no_task, read_goes}
 use Rattle.core_steps.proofs.Worlds.{placed_at}
 use Rattle.core_steps.proofs.world.World.read.Goals as goal
 
+pub read-answer-requires-clause-columns : goal.read-answer-requires-clause-columns
+read-answer-requires-clause-columns c = (placed_at (world_view c.self.inside) c.args.task c.in-Some.source.now c.self.invariant c.in-Some.ensures.item.3.0 c.in-Some.ensures.value).columns
+
+pub read-answer-requires-clause-time : goal.read-answer-requires-clause-time
+read-answer-requires-clause-time c = (placed_at (world_view c.self.inside) c.args.task c.in-Some.source.now c.self.invariant c.in-Some.ensures.item.3.0 c.in-Some.ensures.value).time
+
 pub read-answer-requires-clause-input : goal.read-answer-requires-clause-input
 read-answer-requires-clause-input c = (placed_at (world_view c.self.inside) c.args.task c.in-Some.source.now c.self.invariant c.in-Some.ensures.item.3.0 c.in-Some.ensures.value).has
 

@@ -1,0 +1,485 @@
+ghost use Rattle.std.specs.Prelude.{◌≡◌, IfOk};
+ghost use Rattle.stream_model.specs.InputData.{BelongsTo};
+ghost use Rattle.redistribute.specs.Begins.{IsStartIn};
+ghost use Rattle.task_setups.specs.Legs.{IsLayoutOf};
+
+use crate::{Finish, Given, World};
+use dataflow_laws::Step;
+use leg_lists::{Cut, LegFault, Stop};
+use logical_plan::Plan;
+use plain_data::Items;
+use plan_compiler::{Layout, compile};
+use plan_model::Row;
+use plan_scale::Scale;
+use redistribute::Start;
+use std::alloc::{AllocError, Global};
+use std::process::Abort;
+use std::random::RandomSource;
+use std::test::Fail;
+use stream_input::Input;
+use task_steps::StepFault;
+use window_state::HashKeys;
+
+const USAGE: &str =
+    r#"{"columns":3,"maxParallelism":128,"time":0,"key":1,"sources":[{"uid":"s","partitions":2}],"window":{"uid":"w","size":10,"aggregates":[{"fn":"count"},{"fn":"sum","column":2}]}}"#;
+
+const ONE_ONE: &str = r#"{"ring":4,"operators":{"s":{"parallelism":1},"w":{"parallelism":1}}}"#;
+
+const TWO_THREE: &str = r#"{"ring":4,"operators":{"s":{"parallelism":2},"w":{"parallelism":3}}}"#;
+
+const TWO_THREE_SHORT: &str =
+    r#"{"ring":1,"operators":{"s":{"parallelism":2},"w":{"parallelism":3}}}"#;
+
+/// Both keys are of the last of three subtasks of the window.
+const THREE_AND_THREE: &str =
+    r#"{"s":[[{"rows":[[1,1,5],[12,1,7]]},{"watermark":9},{"rows":[[15,0,-3]]}],[{"rows":[[3,0,4]]},{"watermark":11},{"rows":[[13,1,2]]}]]}"#;
+
+/// A plan, its input, the start from nothing, and the plan's layout at a scale.
+#[derive(Drop)]
+struct Job {
+    plan: Plan,
+    input: Input,
+    start: Start,
+    layout: Layout,
+}
+
+fn layout_at(alloc: Global, plan: &Plan, scale: &str) -> Result<Layout, Fail>
+    ensures { IfOk result (λ layout. IsLayoutOf plan.now layout) }
+{
+    let scale = Scale::read(alloc, plan, scale.as_bytes())?;
+    Ok(compile(alloc, plan, &scale)?)
+}
+
+/// The job of the plan and the input at a scale.
+fn job_at(alloc: Global, scale: &str) -> Result<Job, Fail>
+    ensures belongs { IfOk result (λ job. BelongsTo job.plan job.input) }
+    ensures starts { IfOk result (λ job. IsStartIn job.plan job.input job.start) }
+    ensures laid_out { IfOk result (λ job. IsLayoutOf job.plan job.layout) }
+{
+    let plan = Plan::read(alloc, USAGE.as_bytes())?;
+    let layout = layout_at(alloc, &plan, scale)?;
+    let input = Input::read(alloc, &plan, THREE_AND_THREE.as_bytes())?;
+    let start = Start::empty(alloc, &plan, &input)?;
+    Ok(Job {
+        plan,
+        input,
+        start,
+        layout,
+    })
+}
+
+/// The world of a job as it opens.
+fn world_of(alloc: Global, keys: HashKeys, job: &Job, stop: Stop) -> Result<World, LegFault>
+    requires belongs { BelongsTo job.now.plan job.now.input }
+    requires starts { IsStartIn job.now.plan job.now.input job.now.start }
+    requires laid_out { IsLayoutOf job.now.plan job.now.layout }
+{
+    let Job {
+        plan,
+        input,
+        start,
+        layout,
+    } = job;
+    let given = Given {
+        plan,
+        input,
+        start,
+        layout,
+    };
+    World::new(alloc, keys, given, stop)
+}
+
+/// A stop where so many entries of each partition were read.
+fn stop_at(alloc: Global, counts: &[u64]) -> Result<Stop, AllocError> {
+    let source = Items::from_vec(Vec::from_slice(alloc, counts)?);
+    let counts = Items::from_vec(vec![in alloc; source]?);
+    Ok(Stop::At(Cut { counts }))
+}
+
+/// Each step can be made now, or cannot, as it is said.
+fn check_enabled<R: Abort>(rt: &R, world: &World, listed: &[(Step, bool)]) {
+    for (step, can) in listed {
+        assert_eq!(rt; world.enabled(*step), *can, "{step:?}");
+    }
+}
+
+/// What comes of a step.
+fn answer_of(world: &mut World, step: Step) -> Option<StepFault> {
+    match world.apply(step) {
+        Ok(()) => None,
+        Err(fault) => Some(fault),
+    }
+}
+
+const DONE: Option<StepFault> = None;
+
+const REFUSED: Option<StepFault> = Some(StepFault::NotEnabled);
+
+/// Each step in turn is made, or refused, as it is said.
+fn play<R: Abort>(rt: &R, world: &mut World, steps: &[(Step, Option<StepFault>)]) {
+    for (step, wanted) in steps {
+        let can = world.enabled(*step);
+        let answer = answer_of(world, *step);
+        assert_eq!(rt; answer, *wanted, "{step:?}");
+        assert_eq!(rt; can, answer.is_none(), "{step:?}");
+    }
+    assert!(rt; !world.has_failed());
+}
+
+/// None of the steps that cannot be made is made, and what can be made is the same after each.
+fn check_refused<R: Abort>(rt: &R, world: &mut World, listed: &[(Step, bool)]) {
+    check_enabled(rt, world, listed);
+    for (step, can) in listed {
+        if !*can {
+            assert_eq!(rt; answer_of(world, *step), REFUSED, "{step:?}");
+            check_enabled(rt, world, listed);
+        }
+    }
+}
+
+/// Whether a step of these, in turn, finds no memory.
+fn finds_no_memory(world: &mut World, steps: &[(Step, Option<StepFault>)]) -> bool {
+    for (step, _) in steps {
+        if answer_of(world, *step) == Some(StepFault::Memory) {
+            return true;
+        }
+    }
+    false
+}
+
+/// A world that has failed makes no step.
+fn check_failed<R: Abort>(rt: &R, world: &mut World, listed: &[(Step, bool)]) {
+    assert!(rt; world.has_failed());
+    for (step, _) in listed {
+        assert!(rt; !world.enabled(*step));
+        assert_eq!(rt;
+            answer_of(world, *step),
+            Some(StepFault::Failed),
+            "{step:?}"
+        );
+    }
+}
+
+/// What is done to a world, and what comes of it.
+#[derive(Clone, Copy)]
+enum Part {
+    /// Steps in turn, each made or refused.
+    Steps(&'static [(Step, Option<StepFault>)]),
+    /// Steps that can be made now, or cannot.
+    Listed(&'static [(Step, bool)]),
+    /// Steps in turn until one finds no memory, and steps that cannot be made after that.
+    Failing(&'static [(Step, Option<StepFault>)], &'static [(Step, bool)]),
+}
+
+fn play_part<R: Abort>(rt: &R, world: &mut World, part: &Part) {
+    match part {
+        Part::Steps(steps) => play(rt, world, steps),
+        Part::Listed(listed) => check_refused(rt, world, listed),
+        Part::Failing(steps, listed) => {
+            if finds_no_memory(world, steps) {
+                check_failed(rt, world, listed);
+            }
+        }
+    }
+}
+
+/// The start, the key and the numbers of a row.
+type Shown = (i64, i64, [i128; 2]);
+
+/// How a world has ended.
+#[derive(Clone, Copy)]
+enum Ending {
+    GoesOn,
+    Ended(&'static [Shown]),
+    Stopped(&'static [Shown]),
+}
+
+fn is_shown(row: &Row, shown: &Shown) -> bool {
+    (row.start, row.key) == (shown.0, shown.1) && row.values.as_slice() == shown.2.as_slice()
+}
+
+fn are_shown(rows: &[Row], shown: &[Shown]) -> bool {
+    rows.len() == shown.len() && rows.iter().zip(shown).all(|(row, one)| is_shown(row, one))
+}
+
+fn has_ended_so(finish: &Option<Finish>, ending: &Ending) -> bool {
+    match (finish, ending) {
+        (None, Ending::GoesOn) => true,
+        (Some(Finish::Ended(rows)), Ending::Ended(shown)) => are_shown(rows.as_slice(), shown),
+        (Some(Finish::Stopped(rows, savepoint)), Ending::Stopped(shown)) => {
+            are_shown(rows.as_slice(), shown) && savepoint.contents().number == 1
+        }
+        _ => false,
+    }
+}
+
+/// The world is finished or not, and has ended so.
+fn check_end<R: AllocGlobal + Abort>(
+    rt: &R,
+    world: World,
+    ending: &Ending,
+) -> Result<(), AllocError> {
+    let is_over = !matches!(ending, Ending::GoesOn);
+    assert_eq!(rt; world.is_finished(), is_over);
+    let finish = world.finish(rt.alloc())?;
+    assert!(rt; has_ended_so(&finish, ending));
+    Ok(())
+}
+
+/// What is done to the world of a job, from its opening on, and how it has ended then.
+fn check_world<R: AllocGlobal + Abort>(
+    rt: &R,
+    keys: HashKeys,
+    job: &Job,
+    stop: Stop,
+    parts: &[Part],
+    ending: &Ending,
+) -> Result<(), LegFault>
+    requires belongs { BelongsTo job.now.plan job.now.input }
+    requires starts { IsStartIn job.now.plan job.now.input job.now.start }
+    requires laid_out { IsLayoutOf job.now.plan job.now.layout }
+{
+    let mut world = world_of(rt.alloc(), keys, job, stop)?;
+    for part in parts {
+        play_part(rt, &mut world, part);
+    }
+    check_end(rt, world, ending)?;
+    Ok(())
+}
+
+/// The same of the job at a scale.
+fn check<R: AllocGlobal + Abort + RandomSource>(
+    rt: &R,
+    scale: &str,
+    stop: Stop,
+    parts: &[Part],
+    ending: &Ending,
+) -> Result<Result<(), LegFault>, Fail> {
+    let job = job_at(rt.alloc(), scale)?;
+    let keys = HashKeys::random(rt)?;
+    Ok(check_world(rt, keys, &job, stop, parts, ending))
+}
+
+const OPENS: &[(Step, bool)] = &[
+    (Step::Open(0), true),
+    (Step::Open(1), true),
+    (Step::Open(2), false),
+    (Step::Open(5), false),
+    (Step::Open(6), false),
+    (Step::Read(0, 0), false),
+    (Step::Read(1, 1), false),
+    (Step::Read(1, 0), false),
+    (Step::Read(6, 0), false),
+    (Step::Stop(0), false),
+    (Step::Stop(5), false),
+    (Step::Stop(6), false),
+    (Step::Close(0), false),
+    (Step::Close(5), false),
+    (Step::Close(6), false),
+    (Step::Take(0, 0), false),
+    (Step::Take(2, 0), false),
+    (Step::Take(4, 1), false),
+    (Step::Take(5, 2), false),
+    (Step::Take(5, 3), false),
+    (Step::Take(6, 0), false),
+    (Step::Put(0), false),
+    (Step::Put(2), false),
+    (Step::Put(5), false),
+    (Step::Put(6), false),
+];
+
+#[test]
+fn only_sources_can_do_something_as_it_opens(rt: HostRuntime) -> Result<(), Fail> {
+    let parts = [Part::Listed(OPENS)];
+    assert_eq!(rt;
+        check(&rt, TWO_THREE, Stop::Never, &parts, &Ending::GoesOn)?,
+        Ok(())
+    );
+    Ok(())
+}
+
+const READS: &[(Step, Option<StepFault>)] = &[
+    (Step::Read(1, 1), REFUSED),
+    (Step::Open(1), DONE),
+    (Step::Open(1), REFUSED),
+    (Step::Read(1, 0), REFUSED),
+    (Step::Read(1, 2), REFUSED),
+    (Step::Close(1), REFUSED),
+    (Step::Read(0, 0), REFUSED),
+    (Step::Read(1, 1), DONE),
+    (Step::Read(1, 1), REFUSED),
+    (Step::Open(0), DONE),
+    (Step::Read(0, 1), REFUSED),
+    (Step::Read(0, 0), DONE),
+];
+
+#[test]
+fn a_subtask_reads_its_own_partitions(rt: HostRuntime) -> Result<(), Fail> {
+    let parts = [Part::Steps(READS)];
+    assert_eq!(rt;
+        check(&rt, TWO_THREE, Stop::Never, &parts, &Ending::GoesOn)?,
+        Ok(())
+    );
+    Ok(())
+}
+
+const MOVES: &[(Step, Option<StepFault>)] = &[
+    (Step::Open(0), DONE),
+    (Step::Put(0), REFUSED),
+    (Step::Read(0, 0), DONE),
+    (Step::Take(4, 0), REFUSED),
+    (Step::Put(0), DONE),
+    (Step::Put(0), REFUSED),
+    (Step::Take(4, 1), REFUSED),
+    (Step::Take(3, 0), REFUSED),
+    (Step::Take(4, 0), DONE),
+    (Step::Take(4, 0), REFUSED),
+    (Step::Put(4), REFUSED),
+];
+
+#[test]
+fn a_record_is_put_and_taken(rt: HostRuntime) -> Result<(), Fail> {
+    let parts = [Part::Steps(MOVES)];
+    assert_eq!(rt;
+        check(&rt, TWO_THREE, Stop::Never, &parts, &Ending::GoesOn)?,
+        Ok(())
+    );
+    Ok(())
+}
+
+const FILLS: &[(Step, Option<StepFault>)] = &[
+    (Step::Open(0), DONE),
+    (Step::Read(0, 0), DONE),
+    (Step::Put(0), DONE),
+    (Step::Read(0, 0), DONE),
+    (Step::Put(0), DONE),
+    (Step::Put(0), DONE),
+    (Step::Put(0), REFUSED),
+    (Step::Read(0, 0), REFUSED),
+    (Step::Take(4, 0), DONE),
+    (Step::Put(0), DONE),
+    (Step::Put(0), REFUSED),
+    (Step::Read(0, 0), DONE),
+];
+
+#[test]
+fn a_full_ring_takes_no_more(rt: HostRuntime) -> Result<(), Fail> {
+    let parts = [Part::Steps(FILLS)];
+    assert_eq!(rt;
+        check(&rt, TWO_THREE_SHORT, Stop::Never, &parts, &Ending::GoesOn)?,
+        Ok(())
+    );
+    Ok(())
+}
+
+const TO_THE_CUT: &[(Step, Option<StepFault>)] = &[
+    (Step::Open(0), DONE),
+    (Step::Read(0, 0), DONE),
+    (Step::Put(0), DONE),
+    (Step::Read(0, 1), DONE),
+    (Step::Put(0), DONE),
+    (Step::Read(0, 0), DONE),
+    (Step::Put(0), REFUSED),
+    (Step::Stop(0), REFUSED),
+    (Step::Read(0, 1), DONE),
+    (Step::Put(0), DONE),
+    (Step::Take(1, 0), DONE),
+    (Step::Take(1, 0), DONE),
+    (Step::Put(1), REFUSED),
+    (Step::Take(1, 0), DONE),
+    (Step::Put(1), DONE),
+    (Step::Take(2, 0), DONE),
+    (Step::Put(1), DONE),
+    (Step::Take(2, 0), DONE),
+];
+
+const TO_THE_END: &[(Step, Option<StepFault>)] = &[
+    (Step::Stop(0), REFUSED),
+    (Step::Read(0, 0), DONE),
+    (Step::Put(0), DONE),
+    (Step::Put(0), DONE),
+    (Step::Close(0), REFUSED),
+    (Step::Read(0, 1), DONE),
+    (Step::Close(0), REFUSED),
+    (Step::Put(0), DONE),
+    (Step::Put(0), DONE),
+    (Step::Close(0), DONE),
+    (Step::Take(1, 0), DONE),
+    (Step::Put(0), DONE),
+    (Step::Take(1, 0), DONE),
+    (Step::Put(1), DONE),
+    (Step::Take(1, 0), DONE),
+    (Step::Take(1, 0), DONE),
+    (Step::Put(1), DONE),
+    (Step::Put(1), DONE),
+    (Step::Take(1, 0), DONE),
+    (Step::Put(1), DONE),
+    (Step::Take(2, 0), DONE),
+    (Step::Take(2, 0), DONE),
+    (Step::Take(2, 0), DONE),
+    (Step::Take(2, 0), DONE),
+    (Step::Take(2, 0), REFUSED),
+];
+
+const ROWS: &[Shown] = &[
+    (0, 0, [1, 4]),
+    (0, 1, [1, 5]),
+    (10, 0, [1, -3]),
+    (10, 1, [2, 9]),
+];
+
+#[test]
+fn it_ends_with_all_rows(rt: HostRuntime) -> Result<(), Fail> {
+    let parts = [Part::Steps(TO_THE_CUT), Part::Steps(TO_THE_END)];
+    assert_eq!(rt;
+        check(&rt, ONE_ONE, Stop::Never, &parts, &Ending::Ended(ROWS))?,
+        Ok(())
+    );
+    Ok(())
+}
+
+const AT_THE_CUT: &[(Step, Option<StepFault>)] = &[
+    (Step::Read(0, 0), REFUSED),
+    (Step::Close(0), REFUSED),
+    (Step::Stop(0), DONE),
+    (Step::Stop(0), REFUSED),
+    (Step::Put(0), DONE),
+    (Step::Take(1, 0), DONE),
+    (Step::Put(1), DONE),
+    (Step::Take(2, 0), DONE),
+    (Step::Take(2, 0), REFUSED),
+];
+
+const FIRST_ROWS: &[Shown] = &[(0, 0, [1, 4]), (0, 1, [1, 5])];
+
+#[test]
+fn it_stops_at_its_cut(rt: HostRuntime) -> Result<(), Fail> {
+    let stop = stop_at(rt.alloc(), &[2, 2])?;
+    let parts = [Part::Steps(TO_THE_CUT), Part::Steps(AT_THE_CUT)];
+    assert_eq!(rt;
+        check(&rt, ONE_ONE, stop, &parts, &Ending::Stopped(FIRST_ROWS))?,
+        Ok(())
+    );
+    Ok(())
+}
+
+const OUT_OF_RANGE: &[&[u64]] = &[&[4, 3], &[3, 4], &[3], &[3, 3, 0], &[]];
+
+#[test]
+fn it_stops_only_at_a_cut_of_the_input(rt: HostRuntime) -> Result<(), Fail> {
+    for counts in OUT_OF_RANGE {
+        let stop = stop_at(rt.alloc(), counts)?;
+        let answer = check(&rt, ONE_ONE, stop, &[], &Ending::GoesOn)?;
+        assert_eq!(rt; answer, Err(LegFault::StopRange), "{counts:?}");
+    }
+    Ok(())
+}
+
+// Where no allocation is made to fail there is memory.
+#[test]
+fn a_world_that_found_no_memory_has_failed(rt: HostRuntime) -> Result<(), Fail> {
+    let parts = [Part::Failing(TO_THE_CUT, OPENS)];
+    let answer = check(&rt, ONE_ONE, Stop::Never, &parts, &Ending::GoesOn)?;
+    assert!(rt; matches!(answer, Ok(()) | Err(LegFault::Memory)));
+    Ok(())
+}

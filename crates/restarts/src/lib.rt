@@ -1,0 +1,6 @@
+//! What a job leaves that is stopped at a cut can be gone on from.
+#![tactic(auto)]
+
+pub mod laws;
+#[cfg(test)]
+mod tests;

@@ -1,0 +1,80 @@
+"""What each command of streamjob has to answer: its status, standard output and standard error."""
+import collections
+import itertools
+
+from .jobs import (
+    Refusal, SINK, ends_of, leg, nothing_of, read_cut, read_input, read_plan, read_scale, require_stop, text_of,
+)
+from .savepoints import check, decode
+
+
+def answer(command, files, *words):
+    """The answer of a command, whose files are named by words."""
+    try:
+        return 0, command(files, *words), ""
+    except Refusal as refusal:
+        return refusal.status(), "", f"{refusal}\n"
+
+
+def run(files, plan, input_):
+    plan = read_plan(files[plan])
+    sources = read_input(plan, files[input_])
+    rows, _ = leg(plan, sources, nothing_of(sources), ends_of(sources))
+    return text_of(plan, rows)
+
+
+def run_leg(files, plan, input_, scale, *options):
+    """The answer of `leg`, whose options are `--from FILE` and `--stop CUT`."""
+    options = dict(zip(options[::2], options[1::2]))
+    plan = read_plan(files[plan])
+    sources = read_input(plan, files[input_])
+    read_scale(plan, files[scale])
+    start, cut = nothing_of(sources), ends_of(sources)
+    if "--from" in options:
+        start = check(plan, sources, decode(files[options["--from"]]))
+    if "--stop" in options:
+        cut = read_cut(options["--stop"])
+        require_stop(sources, start, cut)
+    rows, _ = leg(plan, sources, start, cut)
+    return text_of(plan, rows)
+
+
+def show(files, savepoint):
+    saved = decode(files[savepoint])
+    lines = [["number", saved.number], ["max", saved.max]]
+    for uid, partitions in saved.sources:
+        lines += [["source", uid, p, *partition] for p, partition in enumerate(partitions)]
+    lines += [["window", saved.uid]]
+    lines += [["entry", group, start, key, count, *numbers] for group, start, key, count, numbers in saved.entries()]
+    return lines_of(lines)
+
+
+def layout(files, plan, scale):
+    plan = read_plan(files[plan])
+    stages = read_scale(plan, files[scale])
+    last, sources = len(stages) - 1, len(plan.sources)
+    lines = [["stage", s, stage.parallelism, *stage.uids] for s, stage in enumerate(stages)] + [["stage", len(stages), 1, SINK]]
+    for s, stage in enumerate(stages):
+        to = max(s + 1, sources)
+        after = stages[to].parallelism if to <= last else 1
+        kind = "group" if to == last else "forward" if stage.parallelism == after else "rebalance"
+        lines += [["edge", s, to, kind]]
+    for s, stage in enumerate(stages[:sources]):
+        partitions = range(plan.sources[s][1])
+        lines += [["partitions", s, i, *partitions[i::stage.parallelism]] for i in range(stage.parallelism)]
+    lines += [["groups", last, i, *ends] for i, ends in enumerate(group_ranges(plan.max, stages[last].parallelism))]
+    return lines_of(lines)
+
+
+def group_ranges(groups, parallelism):
+    """The first and the last key group of each subtask of the window: group g is of subtask g * parallelism / groups."""
+    sizes = collections.Counter(group * parallelism // groups for group in range(groups))
+    ends = list(itertools.accumulate(sizes[subtask] for subtask in range(parallelism)))
+    return [(end - sizes[subtask], end - 1) for subtask, end in enumerate(ends)]
+
+
+def lines_of(lines):
+    return "".join(" ".join(map(str, line)) + "\n" for line in lines)
+
+
+COMMANDS = {"run": run, "leg": run_leg, "layout": layout, "show": show}

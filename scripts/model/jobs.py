@@ -1,0 +1,340 @@
+"""What streamjob has to answer, worked out from the rules of docs/FORMATS.md and docs/FAULTS.md in the plainest way.
+
+Each command is a function of the bytes of its files and of its words. It gives the text of standard output, or raises the Refusal that
+standard error has. Nothing here is made as the program makes it: there are no subtasks, no messages and no order of steps.
+"""
+import dataclasses
+import functools
+import json
+import re
+import struct
+
+LEAST, GREATEST = -(2**63), 2**63 - 1
+LEAST_TIME, GREATEST_TIME = -(2**62), 2**62 - 1
+OPS = {
+    "eq": lambda a, b: a == b, "ne": lambda a, b: a != b, "lt": lambda a, b: a < b,
+    "le": lambda a, b: a <= b, "gt": lambda a, b: a > b, "ge": lambda a, b: a >= b,
+}
+KINDS = ["count", "sum", "least", "greatest"]
+SINK = "(sink)"
+
+
+class Refusal(Exception):
+    """A fault, by the line that standard error has."""
+
+    def status(self):
+        return 2 if str(self).startswith("C") else 3
+
+
+def require(holds, line):
+    if not holds:
+        raise Refusal(line)
+
+
+# JSON texts and their shapes.
+
+def json_of(data, line):
+    """The value of a JSON text; a number that is no whole one, as `3.0` or `-0`, is a float."""
+    def refuse(text):
+        raise ValueError(text)
+
+    def real(text):
+        return float(text) if abs(float(text)) != float("inf") else refuse(text)
+
+    def whole(text):
+        number = real(text)
+        return number if text == "-0" else int(text)
+
+    try:
+        return json.loads(data.decode(), parse_constant=refuse, parse_float=real, parse_int=whole)
+    except ValueError:
+        raise Refusal(line) from None
+
+
+def is_number(value):
+    return type(value) is int and LEAST <= value <= GREATEST
+
+
+def is_text(value):
+    return type(value) is str
+
+
+def is_flag(value):
+    return type(value) is bool
+
+
+def is_list(value):
+    return type(value) is list
+
+
+def word_of(words):
+    return lambda value: is_text(value) and value in words
+
+
+def list_of(is_part):
+    return lambda value: is_list(value) and all(map(is_part, value))
+
+
+def members(needed, other=None):
+    """An object with just these members, of which the other ones may be left out."""
+    other = other or {}
+    kinds = needed | other
+
+    def is_so(value):
+        if type(value) is not dict or not needed.keys() <= value.keys() <= kinds.keys():
+            return False
+        return all(kinds[name](part) for name, part in value.items())
+
+    return is_so
+
+
+def either(one, other):
+    return lambda value: one(value) or other(value)
+
+
+def members_alike(is_part):
+    return lambda value: type(value) is dict and all(map(is_part, value.values()))
+
+
+IS_FILTER = members({"uid": is_text, "column": is_number, "op": word_of(OPS), "value": is_number})
+IS_AGGREGATE = either(members({"fn": word_of(KINDS[:1])}), members({"fn": word_of(KINDS[1:]), "column": is_number}))
+IS_HAVING = members({"aggregate": is_number, "op": word_of(OPS), "value": is_number})
+IS_WINDOW = members(
+    {"uid": is_text, "size": is_number, "aggregates": list_of(IS_AGGREGATE)},
+    {"slide": is_number, "offset": is_number, "having": list_of(IS_HAVING)},
+)
+IS_PLAN = members(
+    {
+        "columns": is_number, "maxParallelism": is_number, "time": is_number, "key": is_number, "window": IS_WINDOW,
+        "sources": list_of(members({"uid": is_text, "partitions": is_number})),
+    },
+    {"filters": list_of(IS_FILTER)},
+)
+# Elements of records and watermarks that are no numbers have a fault of their own.
+IS_ENTRY = either(members({"rows": list_of(is_list)}), members({"watermark": lambda value: True}))
+IS_INPUT = members_alike(list_of(list_of(IS_ENTRY)))
+IS_SCALE = members({"ring": is_number, "operators": members_alike(members({"parallelism": is_number}, {"chain": is_flag}))})
+
+
+# Plan, input, scale.
+
+@dataclasses.dataclass(eq=False)
+class Plan:
+    columns: int
+    max: int
+    time: int
+    key: int
+    sources: list  # of (uid, number of partitions)
+    filters: list  # of (uid, column, op, value)
+    uid: str  # the window's
+    size: int
+    slide: int
+    offset: int
+    aggregates: list  # of (kind, column)
+    having: list  # of (aggregate, op, value)
+
+    def passes(self, record):
+        return all(OPS[op](record[column], value) for _, column, op, value in self.filters)
+
+    def starts(self, time):
+        """The starts of the windows of a time."""
+        start = time - (time - self.offset) % self.slide
+        while start > time - self.size:
+            yield start
+            start -= self.slide
+
+    def first(self, record):
+        """The count, and the numbers of a window that has this record alone."""
+        return 1, [1 if kind == "count" else record[column] for kind, column in self.aggregates]
+
+    def merged(self, one, other):
+        merge = {"count": lambda a, b: a + b, "sum": lambda a, b: a + b, "least": min, "greatest": max}
+        numbers = zip(self.aggregates, one[1], other[1])
+        return one[0] + other[0], [merge[kind](a, b) for (kind, _), a, b in numbers]
+
+    def keeps(self, numbers):
+        return all(OPS[op](numbers[aggregate], value) for aggregate, op, value in self.having)
+
+    def record(self):
+        """The plan in short, as a savepoint has it."""
+        ops = list(OPS)
+        filters = sorted({(column, ops.index(op), value) for _, column, op, value in self.filters})
+        having = sorted({(aggregate, ops.index(op), value) for aggregate, op, value in self.having})
+        uids = sorted(uid.encode() for uid, _ in self.sources)
+        parts = [struct.pack(">BHBBqqq", self.columns, self.max, self.time, self.key, self.size, self.slide, self.offset % self.slide)]
+        parts += [bytes([len(uids)])] + [bytes([len(uid)]) + uid for uid in uids]
+        parts += [bytes([len(filters)])] + [struct.pack(">BBq", *condition) for condition in filters]
+        parts += [bytes([len(self.aggregates)])] + [bytes([KINDS.index(kind), column]) for kind, column in self.aggregates]
+        parts += [bytes([len(having)])] + [struct.pack(">BBq", *condition) for condition in having]
+        return b"".join(parts)
+
+
+def is_uid(text):
+    return re.fullmatch(r"[a-z0-9-]{1,64}", text, re.ASCII) is not None
+
+
+@functools.lru_cache(maxsize=8)
+def read_plan(data):
+    value = json_of(data, "P1 NotJson")
+    require(IS_PLAN(value), "P2 Member")
+    window = value["window"]
+    columns, size, slide = value["columns"], window["size"], window.get("slide", window["size"])
+    offset, aggregates, having = window.get("offset", 0), window["aggregates"], window.get("having", [])
+    sources, filters = value["sources"], value.get("filters", [])
+    named = [value["time"], value["key"]] + [part["column"] for part in filters + aggregates if "column" in part]
+    uids = [part["uid"] for part in sources + filters + [window]]
+    require(1 <= columns <= 16, "P3 Columns")
+    require(all(0 <= column < columns for column in named), "P4 ColumnIndex")
+    require(1 <= value["maxParallelism"] <= 32768, "P5 MaxParallelism")
+    require(1 <= len(sources) <= 8, "P6 Sources")
+    require(all(1 <= source["partitions"] <= 64 for source in sources), "P7 Partitions")
+    require(all(map(is_uid, uids)), "P8 Uid")
+    require(len(set(uids)) == len(uids), "P9 UidTwice")
+    require(len(filters) <= 32 and len(having) <= 32, "P10 Filters")
+    require(1 <= size <= 2**40, "P11 WindowSize")
+    require(1 <= slide <= 2**40, "P12 WindowSlide")
+    require(-slide < offset < slide, "P13 WindowOffset")
+    require(size <= 256 * slide, "P14 Panes")
+    require(1 <= len(aggregates) <= 8, "P15 Aggregates")
+    require(all(0 <= part["aggregate"] < len(aggregates) for part in having), "P15 Aggregates")
+    return Plan(
+        columns, value["maxParallelism"], value["time"], value["key"],
+        [(source["uid"], source["partitions"]) for source in sources],
+        [(part["uid"], part["column"], part["op"], part["value"]) for part in filters],
+        window["uid"], size, slide, offset,
+        [(part["fn"], part.get("column", 0)) for part in aggregates],
+        [(part["aggregate"], part["op"], part["value"]) for part in having],
+    )
+
+
+def entries_of(sources):
+    """Each entry of the sources, with its source, partition and place."""
+    for x, partitions in enumerate(sources):
+        for p, entries in enumerate(partitions):
+            for n, entry in enumerate(entries):
+                yield x, p, n, entry
+
+
+def watermark_at(entries, count):
+    """A partition's watermark after so many of its entries."""
+    if count == len(entries):
+        return GREATEST
+    return max((entry["watermark"] for entry in entries[:count] if "watermark" in entry), default=LEAST)
+
+
+@functools.lru_cache(maxsize=8)
+def read_input(plan, data):
+    """For each source in the plan's order its partitions, each a list of entries."""
+    value = json_of(data, "I1 NotJson")
+    require(IS_INPUT(value), "I2 Member")
+    require(value.keys() == {uid for uid, _ in plan.sources}, "I3 Source")
+    require(all(len(value[uid]) == partitions for uid, partitions in plan.sources), "I4 Partitions")
+    sources = [value[uid] for uid, _ in plan.sources]
+    entries = [entry for *_, entry in entries_of(sources)]
+    records = [record for entry in entries for record in entry.get("rows", [])]
+    watermarks = [entry["watermark"] for entry in entries if "watermark" in entry]
+    require(all(len(record) == plan.columns for record in records), "I5 Width")
+    require(all(map(is_number, watermarks)) and all(is_number(x) for record in records for x in record), "I6 Number")
+    require(all(1 <= len(entry.get("rows", [0])) <= 4096 for entry in entries), "I7 Rows")
+    times = watermarks + [record[plan.time] for record in records]
+    require(all(LEAST_TIME <= time <= GREATEST_TIME for time in times), "I8 TimeRange")
+    before = LEAST
+    for x, p, n, entry in entries_of(sources):
+        before = before if n > 0 else LEAST
+        is_late = any(record[plan.time] <= before for record in entry.get("rows", []))
+        require(not is_late, f"I9 LateRecord {x} {p} {n}")
+        before = max(before, entry.get("watermark", LEAST))
+    return sources
+
+
+@dataclasses.dataclass
+class Stage:
+    uids: list
+    parallelism: int
+    source: int = None  # the place of a source in the plan
+
+
+def stages_of(plan, operators):
+    """The stages of a plan, the sink's left out."""
+    stages = [Stage([uid], operators[uid]["parallelism"], x) for x, (uid, _) in enumerate(plan.sources)]
+    for uid, *_ in plan.filters:
+        parallelism, last = operators[uid]["parallelism"], stages[-1]
+        is_one_of_sources = len(plan.sources) > 1 and last.source is not None
+        if operators[uid].get("chain", True) and parallelism == last.parallelism and not is_one_of_sources:
+            last.uids.append(uid)
+        else:
+            stages.append(Stage([uid], parallelism))
+    return stages + [Stage([plan.uid], operators[plan.uid]["parallelism"])]
+
+
+def read_scale(plan, data):
+    """The stages of the plan at a scale."""
+    value = json_of(data, "S1 NotJson")
+    require(IS_SCALE(value), "S2 Member")
+    operators = value["operators"]
+    uids = {uid for uid, *_ in plan.sources + plan.filters} | {plan.uid}
+    require(operators.keys() <= uids, "S3 UnknownUid")
+    require(operators.keys() == uids, "S4 MissingUid")
+    require(all(1 <= part["parallelism"] <= min(64, plan.max) for part in operators.values()), "S5 Parallelism")
+    require(1 <= value["ring"] <= 1024, "S6 Ring")
+    stages = stages_of(plan, operators)
+    require(sum(stage.parallelism for stage in stages) < 256, "S7 Tasks")
+    return stages
+
+
+# Legs.
+
+@dataclasses.dataclass
+class Start:
+    number: int
+    cut: list  # for each source how many entries of each partition were read
+    windows: dict  # from (start, key) to a count and numbers
+
+
+def nothing_of(sources):
+    return Start(0, [[0 for _ in partitions] for partitions in sources], {})
+
+
+def watermark_of(sources, cut):
+    """The least of the watermarks of all partitions at a cut."""
+    return min(watermark_at(entries, n) for partitions, counts in zip(sources, cut) for entries, n in zip(partitions, counts))
+
+
+def leg(plan, sources, start, cut):
+    """The rows of a leg from a start to a cut, in order, and what it leaves: a start for the next leg."""
+    windows = dict(start.windows)
+    for x, p, n, entry in entries_of(sources):
+        if not start.cut[x][p] <= n < cut[x][p]:
+            continue
+        for record in filter(plan.passes, entry.get("rows", [])):
+            for begin in plan.starts(record[plan.time]):
+                pane, one = (begin, record[plan.key]), plan.first(record)
+                windows[pane] = plan.merged(windows[pane], one) if pane in windows else one
+    watermark = watermark_of(sources, cut)
+    due = sorted(pane for pane in windows if pane[0] + plan.size - 1 <= watermark)
+    rows = [(pane, windows.pop(pane)[1]) for pane in due]
+    return [row for row in rows if plan.keeps(row[1])], Start(start.number + 1, cut, windows)
+
+
+def text_of(plan, rows):
+    words = ([start, start + plan.size, key, *numbers] for (start, key), numbers in rows)
+    return "".join(" ".join(map(str, row)) + "\n" for row in words)
+
+
+def ends_of(sources):
+    return [[len(entries) for entries in partitions] for partitions in sources]
+
+
+def read_cut(word):
+    counts = [text.split(",") for text in word.split("/")]
+    require(all(re.fullmatch(r"[0-9]{1,20}", count, re.ASCII) for source in counts for count in source), "C1 Cut")
+    cut = [[int(count) for count in source] for source in counts]
+    require(all(count < 2**64 for source in cut for count in source), "C1 Cut")
+    return cut
+
+
+def require_stop(sources, start, cut):
+    ends = ends_of(sources)
+    require(list(map(len, cut)) == list(map(len, ends)), "L1 StopRange")
+    bounds = zip(sum(start.cut, []), sum(cut, []), sum(ends, []))
+    require(all(before <= count <= end for before, count, end in bounds), "L1 StopRange")
