@@ -4,7 +4,8 @@ use Rattle.std.specs.Option.{option_or}
 use Rattle.std.specs.List.{find}
 use Rattle.std.specs.Char.{to_ascii_lowercase}
 use Rattle.std.specs.Io.KnownBytes.{Appends}
-use Rattle.user_texts.specs.declared.pages.TheConstants.{PAGES_OF_TEXTS, OTHER_PAGES}
+use Rattle.user_texts.specs.declared.text_pages.TheConstants.{TEXT_PAGES}
+use Rattle.user_texts.specs.declared.other_pages.TheConstants.{OTHER_PAGES}
 use Rattle.user_texts.specs.declared.writing.TextFault.{TextFault}
 use Rattle.user_texts.specs.declared.writing.TextFault.TheVariants.{NoPage, Write}
 
@@ -18,7 +19,7 @@ page_said pages code = option_map (λ page. page.1) (find (λ page. same_code pa
 
 -- the text of the page of a code in docs/FAULTS.md: a plan's or an input's fault, or another
 unfoldable pub explained : List ℕ → Option (List ℕ)
-explained code = option_or (page_said (map (λ page. (page.0.now, page.1.now)) PAGES_OF_TEXTS) code) (page_said (map (λ page. (page.0.now, page.1.now)) OTHER_PAGES) code)
+explained code = option_or (page_said (map (λ page. (page.0.now, page.1.now)) TEXT_PAGES) code) (page_said (map (λ page. (page.0.now, page.1.now)) OTHER_PAGES) code)
 
 -- Ok and the page written, no page with the code, or a page that could not be written
 abbrev pub TellsPage : Option (List ℕ) → Result (Unit {0}) TextFault → Option (List ℕ) → Option (List ℕ) → Type 0

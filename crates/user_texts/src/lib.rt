@@ -1,10 +1,11 @@
 //! What the program says of itself: its version, and the page of each fault.
 #![tactic(auto)]
 
+mod other_pages;
 mod page;
-mod pages;
 #[cfg(test)]
 mod tests;
+mod text_pages;
 mod version;
 mod writing;
 

@@ -4,7 +4,8 @@ ghost use Rattle.std.specs.Prelude.{◌≡◌, option_copied, option_map, map};
 ghost use Rattle.std.specs.List.{find};
 ghost use Rattle.user_texts.specs.Pages.{explained, same_code, page_said, TellsPage};
 
-use crate::pages::{OTHER_PAGES, PAGES_OF_TEXTS};
+use crate::other_pages::OTHER_PAGES;
+use crate::text_pages::TEXT_PAGES;
 use crate::writing::{TextFault, write_text};
 use std::io::Write;
 
@@ -40,7 +41,7 @@ fn text_with<'a>(pages: &'a [FaultPage<'a>], code: &str) -> Option<&'a str>
 fn page_of(code: &str) -> Option<&'static str>
     ensures { option_map (λ text. text.now) result ≡ explained code.now }
 {
-    match text_with(&PAGES_OF_TEXTS, code) {
+    match text_with(&TEXT_PAGES, code) {
         Some(text) => Some(text),
         None => text_with(&OTHER_PAGES, code),
     }
