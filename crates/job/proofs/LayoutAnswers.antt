@@ -10,11 +10,11 @@ use Rattle.plan_scale.specs.Answer.{scale_of_bytes}
 use Rattle.plan_scale.specs.Answer as scales
 use Rattle.plan_scale.specs.declared.fault.ScaleFault.{ScaleFault}
 use Rattle.plan_compiler.specs.LayoutData.{LayoutData, layout_of}
-use Rattle.job.specs.declared.fault.JobFault.{JobFault}
-use Rattle.job.specs.declared.fault.JobFault.TheVariants.{Write}
-use Rattle.job.specs.Fault.{plan_fault, scale_fault}
-use Rattle.job.specs.Tells.{KeepsWriter}
-use Rattle.job.specs.LayoutText.{layout_text}
+use Rattle.job_texts.specs.declared.fault.JobFault.{JobFault}
+use Rattle.job_texts.specs.declared.fault.JobFault.TheVariants.{Write}
+use Rattle.job_texts.specs.Fault.{plan_fault, scale_fault}
+use Rattle.job_texts.specs.Tells.{KeepsWriter}
+use Rattle.job_texts.specs.LayoutText.{layout_text}
 use Rattle.job.specs.Layout.{plan_said, scale_said, layout_said, TellsLayout}
 use Rattle.job.proofs.Refusals.{tells_err, tells_plan, tells_scale, tells_written}
 

@@ -1,10 +1,5 @@
-mod Sorts
-mod Unique
 mod Refusals
-mod Numerals
-mod Lines
 mod LayoutAnswers
 mod ShowAnswers
-mod Parts
 mod LegAnswers
 mod LegEnds

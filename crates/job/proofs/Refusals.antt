@@ -10,17 +10,17 @@ use Rattle.stream_model.specs.InputData.{InputData}
 use Rattle.stream_input.specs.Answer.{input_of_bytes}
 use Rattle.stream_input.specs.Answer as inputs
 use Rattle.stream_model.specs.PlanRows.{plan_rows}
-use Rattle.job.specs.Text.{IsTextOf}
+use Rattle.job_texts.specs.Text.{IsTextOf}
 use Rattle.stream_input.specs.declared.fault.InputFault.{InputFault}
 use Rattle.stream_input.specs.declared.fault.InputFault.TheVariants as input
 use Rattle.layout_rules.specs.ScaleData.{ScaleData}
 use Rattle.plan_scale.specs.Answer as scales
 use Rattle.plan_scale.specs.declared.fault.ScaleFault.{ScaleFault}
 use Rattle.plan_scale.specs.declared.fault.ScaleFault.TheVariants as scale
-use Rattle.job.specs.declared.fault.JobFault.{JobFault}
-use Rattle.job.specs.declared.fault.JobFault.TheVariants.{Plan, Input, Scale, Write}
-use Rattle.job.specs.Fault.{plan_fault, input_fault, scale_fault}
-use Rattle.job.specs.Tells.{Tells}
+use Rattle.job_texts.specs.declared.fault.JobFault.{JobFault}
+use Rattle.job_texts.specs.declared.fault.JobFault.TheVariants.{Plan, Input, Scale, Write}
+use Rattle.job_texts.specs.Fault.{plan_fault, input_fault, scale_fault}
+use Rattle.job_texts.specs.Tells.{Tells}
 use Rattle.job.specs.Run.{Answers, WritesRows, input_said, plan_said, run_said}
 
 err_is : {T E : Type 0} (r : Result T E) (e : E) → IsErr r → IsErrAnd r (λ y. y ≡ e) → r ≡ Err e

@@ -6,11 +6,11 @@ use Rattle.savepoint_codec.specs.Answer.{savepoint_of_bytes}
 use Rattle.savepoint_codec.specs.declared.fault.SaveFault.{SaveFault}
 use Rattle.savepoint_codec.specs.declared.fault.SaveFault.TheVariants as save
 use Rattle.savepoint_codec.specs.declared.savepoint.Contents.{Contents}
-use Rattle.job.specs.declared.fault.JobFault.{JobFault}
-use Rattle.job.specs.declared.fault.JobFault.TheVariants.{Save, Write, Memory}
-use Rattle.job.specs.Fault.{save_fault}
-use Rattle.job.specs.Tells.{Tells}
-use Rattle.job.specs.ShowText.{savepoint_text}
+use Rattle.job_texts.specs.declared.fault.JobFault.{JobFault}
+use Rattle.job_texts.specs.declared.fault.JobFault.TheVariants.{Save, Write, Memory}
+use Rattle.job_texts.specs.Fault.{save_fault}
+use Rattle.job_texts.specs.Tells.{Tells}
+use Rattle.job_texts.specs.ShowText.{savepoint_text}
 use Rattle.job.specs.Show.{text_said, show_said, TellsSavepoint}
 use Rattle.job.proofs.Refusals.{tells_err, tells_written}
 

@@ -8,10 +8,10 @@ use Rattle.layout_rules.specs.ScaleData.{ScaleData}
 use Rattle.plan_compiler.specs.LayoutData.{layout_of}
 use Rattle.plan_scale.specs.Answer.{scale_of_bytes}
 use Rattle.plan_scale.specs.declared.fault.ScaleFault.{ScaleFault}
-use Rattle.job.specs.declared.fault.JobFault.{JobFault}
-use Rattle.job.specs.declared.fault.JobFault.TheVariants.{Plan, Scale}
-use Rattle.job.specs.LayoutText.{layout_text}
-use Rattle.job.specs.Tells.{Tells}
+use Rattle.job_texts.specs.declared.fault.JobFault.{JobFault}
+use Rattle.job_texts.specs.declared.fault.JobFault.TheVariants.{Plan, Scale}
+use Rattle.job_texts.specs.LayoutText.{layout_text}
+use Rattle.job_texts.specs.Tells.{Tells}
 
 abbrev pub scale_said : PlanData → Result ScaleData ScaleFault → Result (List ℕ) JobFault
 scale_said plan (Ok scale) = Ok (layout_text plan (layout_of plan scale))

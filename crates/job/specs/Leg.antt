@@ -1,5 +1,5 @@
 -- What running a leg answers.
-use Rattle.std.specs.Prelude.{◌≡◌, ◌⊎◌, ℕ, List, Option, Some, None, Result, Ok, Err}
+use Rattle.std.specs.Prelude.{◌≡◌, ◌⊎◌, ◌+◌, ℕ, List, Option, Some, None, Result, Ok, Err, option_map, string_bytes}
 use Rattle.std.specs.Io.KnownBytes.{Appends}
 use Rattle.std.specs.Option.{option_map_or}
 use Rattle.std.specs.Result.{result_map_both}
@@ -15,6 +15,8 @@ use Rattle.dataflow_laws.specs.Inputs.{due_between}
 use Rattle.dataflow_laws.specs.Compiled.{cut_to}
 use Rattle.plan_scale.specs.Answer.{scale_of_bytes}
 use Rattle.savepoint_codec.specs.Answer.{savepoint_of_bytes}
+use Rattle.savepoint_codec.specs.Layout.{IsSavepoint, savepoint_bytes}
+use Rattle.savepoint_codec.specs.declared.savepoint.Contents.{Contents}
 use Rattle.leg_lists.specs.declared.fault.LegFault.TheVariants.{StopRange}
 use Rattle.leg_lists.specs.declared.stop.Stop.{Stop}
 use Rattle.leg_lists.specs.declared.stop.Stop.TheVariants.{Never, At}
@@ -24,11 +26,13 @@ use Rattle.redistribute.specs.Snapshots.{start_at}
 use Rattle.redistribute.specs.Begins.{HasSnapshot}
 use Rattle.redistribute.specs.Stopping.{CanStop}
 use Rattle.restore.specs.Answer.{start_or_fault}
-use Rattle.job.specs.declared.fault.JobFault.{JobFault}
-use Rattle.job.specs.declared.fault.JobFault.TheVariants.{Plan, Input, Scale, Save, Restore, Leg, Cut, Write}
-use Rattle.job.specs.Cut.{cut_said}
-use Rattle.job.specs.Fault.{is_memory}
-use Rattle.job.specs.Text.{IsTextOf}
+use Rattle.leg_tasks.specs.Saved.{IsSavedAt}
+use Rattle.job.specs.declared.leg.LegEnd.{LegEnd}
+use Rattle.job_texts.specs.declared.fault.JobFault.{JobFault}
+use Rattle.job_texts.specs.declared.fault.JobFault.TheVariants.{Plan, Input, Scale, Save, Restore, Leg, Cut, Write}
+use Rattle.job_texts.specs.Cut.{cut_said}
+use Rattle.job_texts.specs.Fault.{is_memory}
+use Rattle.job_texts.specs.Text.{IsTextOf}
 
 -- what the texts of a leg say, but for its scale, which changes no row
 pub record LegJob : Type 0 where
@@ -36,6 +40,9 @@ pub record LegJob : Type 0 where
   pub input : InputData
   pub start : StartData
   pub stop : Stop
+
+abbrev pub leg_job : PlanData → InputData → StartData → Stop → LegJob
+leg_job p i s t = record { plan = p; input = i; start = s; stop = t }
 
 -- an answer that goes on with another, unless it is a fault
 abbrev pub and_then : {X Y : Type 0} → (X → Result Y JobFault) → Result X JobFault → Result Y JobFault
@@ -56,10 +63,11 @@ unfoldable pub stop_said : Option (List ℕ) → Result Stop JobFault
 stop_said None = Ok Never
 stop_said (Some word) = option_map_or (λ cut. Ok (At cut)) (cut_said word) (Err Cut)
 
-abbrev pub job_with : PlanData → InputData → Option (List ℕ) → Option (List ℕ) → Result LegJob JobFault
-job_with p i from stop = and_then (λ s. and_then (λ t. Ok (record { plan = p; input = i; start = s; stop = t })) (stop_said stop)) (start_said p i from)
+-- with a plan and an input that were read
+unfoldable pub job_with : PlanData → InputData → Option (List ℕ) → Option (List ℕ) → Result LegJob JobFault
+job_with p i from stop = and_then (λ s. and_then (λ t. Ok (leg_job p i s t)) (stop_said stop)) (start_said p i from)
 
--- with a plan and an input that were read, and with a plan
+-- and with a scale, and with a plan
 unfoldable pub leg_on : PlanData → InputData → List ℕ → Option (List ℕ) → Option (List ℕ) → Result LegJob JobFault
 leg_on p i scale from stop = and_then (λ c. job_with p i from stop) (as_job Scale (scale_of_bytes p scale))
 
@@ -82,16 +90,47 @@ AreLegRows job rows = HasSnapshot job.plan job.input job.start → AreRowsOf (du
 abbrev pub IsLegText : LegJob → List ℕ → Type 0
 IsLegText job text = HasSnapshot job.plan job.input job.start → IsTextOf (due_between job.plan job.input.sources (offsets_of job.start) (cut_to job.input (until_of job.stop))) text
 
+-- a savepoint that the leg leaves at a cut: where it starts with the snapshot of its cut, that of the cut where it stops, with the next number
+pub record IsLegSavepoint (job : LegJob) (cut : List (List ℕ)) (s : Contents) : Type 0 where
+  pub sound : IsSavepoint s
+  pub saved : HasSnapshot job.plan job.input job.start → IsSavedAt job.plan job.input cut (job.start.number + 1) s
+
+-- a leg that runs to the end leaves none, and one that stops at a cut leaves that of the cut
+abbrev pub IsSavedBy : LegJob → Stop → Option Contents → Type 0
+IsSavedBy job Never saved = saved ≡ None
+IsSavedBy job (At cut) None = ⊥
+IsSavedBy job (At cut) (Some s) = IsLegSavepoint job cut.counts s
+
+abbrev pub IsLegSaved : LegJob → Option Contents → Type 0
+IsLegSaved job saved = IsSavedBy job job.stop saved
+
+-- the spelling of what the leg leaves
+abbrev pub AreLegBytes : LegJob → Option (List ℕ) → Type 0
+AreLegBytes job bytes = (saved : Option Contents) × (bytes ≡ option_map savepoint_bytes saved) × IsLegSaved job saved
+
+-- what a leg gives: the text of its rows, and the spelling of what it leaves
+abbrev pub IsLegEnd : LegJob → LegEnd → Type 0
+IsLegEnd job end = IsLegText job (string_bytes end.text) × AreLegBytes job (option_map (λ bytes. bytes.items) end.saved)
+
+-- a leg gives such a thing, or why it gives nothing
+abbrev pub GivesLeg : {X : Type 0} → (X → Type 0) → LegJob → Result X JobFault → Type 0
+GivesLeg is job (Ok x) = CanStopSo job × is x
+GivesLeg is job (Err fault) = unless (is_memory fault) ((fault ≡ Leg StopRange) × ¬ CanStopSo job)
+
+-- where the answer is Ok, it is of the leg that texts say; else the refusal is the first that they give, or that of their leg
+abbrev pub EndsLeg : Result LegJob JobFault → Result LegEnd JobFault → Type 0
+EndsLeg said (Ok end) = (job : LegJob) × (said ≡ Ok job) × CanStopSo job × IsLegEnd job end
+EndsLeg said (Err fault) = unless (is_memory fault) ((said ≡ Err fault) ⊎ ((job : LegJob) × (said ≡ Ok job) × (fault ≡ Leg StopRange) × ¬ CanStopSo job))
+
 -- why a job that was read is not done: the leg cannot stop so, or what it gives cannot be written
 abbrev pub IsLate : LegJob → JobFault → Type 0
 IsLate job fault = ((fault ≡ Leg StopRange) × ¬ CanStopSo job) ⊎ ((fault ≡ Write) × CanStopSo job)
 
--- where the answer is Ok, the leg's text is written; else the refusal is the first that the texts give, or one of the job that they say
-abbrev pub TellsLeg : Result LegJob JobFault → Result (Unit {0}) JobFault → Option (List ℕ) → Option (List ℕ) → Type 0
-TellsLeg said (Ok _) old new = (job : LegJob) × (said ≡ Ok job) × CanStopSo job × ((text : List ℕ) × IsLegText job text × Appends old new text)
-TellsLeg said (Err fault) old new = unless (is_memory fault) ((said ≡ Err fault) ⊎ ((job : LegJob) × (said ≡ Ok job) × IsLate job fault))
+-- the leg's text is written, and the bytes are those that it leaves
+abbrev pub IsLegDone : LegJob → Option (List ℕ) → Option (List ℕ) → Option (List ℕ) → Type 0
+IsLegDone job saved old new = CanStopSo job × AreLegBytes job saved × ((text : List ℕ) × IsLegText job text × Appends old new text)
 
--- what a leg gives, or why it gives nothing
-abbrev pub GivesLeg : {X : Type 0} → (X → Type 0) → LegJob → Result X JobFault → Type 0
-GivesLeg is job (Ok x) = CanStopSo job × is x
-GivesLeg is job (Err fault) = unless (is_memory fault) ((fault ≡ Leg StopRange) × ¬ CanStopSo job)
+-- where the answer is Ok, the leg is done; else the refusal is the first that the texts give, or one of the job that they say
+abbrev pub TellsLeg : {X : Type 0} → (X → Option (List ℕ)) → Result LegJob JobFault → Result X JobFault → Option (List ℕ) → Option (List ℕ) → Type 0
+TellsLeg view said (Ok saved) old new = (job : LegJob) × (said ≡ Ok job) × IsLegDone job (view saved) old new
+TellsLeg view said (Err fault) old new = unless (is_memory fault) ((said ≡ Err fault) ⊎ ((job : LegJob) × (said ≡ Ok job) × IsLate job fault))

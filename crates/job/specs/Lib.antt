@@ -1,12 +1,4 @@
-pub mod Fault
-pub mod FaultText
-pub mod Text
-pub mod Group
-pub mod Cut
 pub mod Layout
-pub mod LayoutText
 pub mod Run
-pub mod Tells
-pub mod ShowText
 pub mod Show
 pub mod Leg

@@ -6,12 +6,12 @@ use Rattle.logical_plan.specs.Answer.{plan_of_bytes}
 use Rattle.stream_model.specs.InputData.{InputData}
 use Rattle.stream_input.specs.Answer.{input_of_bytes}
 use Rattle.stream_model.specs.PlanRows.{plan_rows}
-use Rattle.job.specs.Text.{IsTextOf}
+use Rattle.job_texts.specs.Text.{IsTextOf}
 use Rattle.logical_plan.specs.declared.fault.PlanFault.{PlanFault}
 use Rattle.stream_input.specs.declared.fault.InputFault.{InputFault}
-use Rattle.job.specs.declared.fault.JobFault.{JobFault}
-use Rattle.job.specs.declared.fault.JobFault.TheVariants.{Plan, Input}
-use Rattle.job.specs.Tells.{Tells}
+use Rattle.job_texts.specs.declared.fault.JobFault.{JobFault}
+use Rattle.job_texts.specs.declared.fault.JobFault.TheVariants.{Plan, Input}
+use Rattle.job_texts.specs.Tells.{Tells}
 
 -- a plan and an input for it
 abbrev pub Job : Type 0

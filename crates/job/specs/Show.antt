@@ -4,10 +4,10 @@ use Rattle.std.specs.Io.KnownBytes.{Appends}
 use Rattle.savepoint_codec.specs.declared.fault.SaveFault.{SaveFault}
 use Rattle.savepoint_codec.specs.declared.savepoint.Contents.{Contents}
 use Rattle.savepoint_codec.specs.Answer.{savepoint_of_bytes}
-use Rattle.job.specs.declared.fault.JobFault.{JobFault}
-use Rattle.job.specs.declared.fault.JobFault.TheVariants.{Save}
-use Rattle.job.specs.ShowText.{savepoint_text}
-use Rattle.job.specs.Tells.{Tells}
+use Rattle.job_texts.specs.declared.fault.JobFault.{JobFault}
+use Rattle.job_texts.specs.declared.fault.JobFault.TheVariants.{Save}
+use Rattle.job_texts.specs.ShowText.{savepoint_text}
+use Rattle.job_texts.specs.Tells.{Tells}
 
 abbrev pub text_said : Result Contents SaveFault → Result (List ℕ) JobFault
 text_said (Ok contents) = Ok (savepoint_text contents)

@@ -1,11 +1,9 @@
 //! The layout of a plan at a scale.
 
 ghost use Rattle.job.specs.Layout.{TellsLayout, layout_said};
-ghost use Rattle.job.specs.Tells.{KeepsWriter};
+ghost use Rattle.job_texts.specs.Tells.{KeepsWriter};
 
-use crate::fault::JobFault;
-use crate::layout_text::text_of;
-use crate::run::write_text;
+use job_texts::{JobFault, text_of_layout, write_text};
 use logical_plan::Plan;
 use plan_compiler::{Scale, compile};
 use std::alloc::Global;
@@ -30,7 +28,7 @@ pub fn job_layout<W: Write>(
     let plan = Plan::read(alloc, plan)?;
     let scale = Scale::read(alloc, &plan, scale)?;
     let layout = compile(alloc, &plan, &scale)?;
-    let text = text_of(alloc, &plan, &layout)?;
+    let text = text_of_layout(alloc, &plan, &layout)?;
     write_text(out, text.as_str())
 }
 

@@ -1,19 +1,16 @@
 //! One leg of a job, from bytes to bytes.
 
-ghost use Rattle.std.specs.Prelude.{IfOk, option_map, string_bytes};
+ghost use Rattle.std.specs.Prelude.{◌≡◌, IfOk, option_map};
 ghost use Rattle.json_parts.specs.Answer.{Gives};
 ghost use Rattle.layout_rules.specs.Scale.{IsScale};
 ghost use Rattle.redistribute.specs.Begins.{IsStartIn};
+ghost use Rattle.savepoint_codec.specs.Layout.{savepoint_bytes};
 ghost use Rattle.stream_model.specs.InputData.{BelongsTo};
-ghost use Rattle.job.specs.Fault.{is_memory};
-ghost use Rattle.job.specs.Leg.{AreLegRows, GivesLeg, IsLegText, TellsLeg, leg_said, start_said, stop_said};
-ghost use Rattle.job.specs.Tells.{KeepsWriter};
+ghost use Rattle.job_texts.specs.Fault.{is_memory};
+ghost use Rattle.job_texts.specs.Tells.{KeepsWriter};
+ghost use Rattle.job.specs.Leg.{AreLegRows, EndsLeg, GivesLeg, IsLegEnd, IsLegSaved, TellsLeg, job_with, leg_by, leg_job, leg_on, leg_said, start_said, stop_said};
 
-use crate::cut::read_cut;
-use crate::fault::JobFault;
-use crate::run::write_text;
-use crate::sorting::sort_rows;
-use crate::text::text_of;
+use job_texts::{JobFault, read_cut, sort_rows, text_of_rows, write_text};
 use leg_lists::Stop;
 use leg_runs::{Finish, run_leg_by};
 use logical_plan::Plan;
@@ -21,8 +18,8 @@ use plan_compiler::Scale;
 use plan_model::Row;
 use redistribute::Start;
 use restore::check;
-use savepoint_codec::decode;
-use std::alloc::Global;
+use savepoint_codec::{Savepoint, decode, encode};
+use std::alloc::{AllocError, Global};
 use std::io::Write;
 use stream_input::Input;
 use window_state::HashKeys;
@@ -57,7 +54,14 @@ fn stop_of(alloc: Global, stop: Option<&str>) -> Result<Stop, JobFault>
     Ok(Stop::At(read_cut(alloc, word)?))
 }
 
-/// The rows of a leg, in the order in which they came.
+/// The rows that a leg delivers, in the order in which they came, and the savepoint that it leaves where it stops.
+#[derive(Drop)]
+struct LegRows {
+    rows: Vec<Row>,
+    savepoint: Option<Savepoint>,
+}
+
+/// Runs a leg.
 fn leg_rows(
     alloc: Global,
     keys: HashKeys,
@@ -66,21 +70,47 @@ fn leg_rows(
     scale: &Scale,
     start: &Start,
     stop: Stop,
-) -> Result<Vec<Row>, JobFault>
+) -> Result<LegRows, JobFault>
     requires belongs { BelongsTo plan.now input.now }
     requires scale { IsScale plan.now scale.now }
     requires starts { IsStartIn plan.now input.now start.now }
-    ensures { GivesLeg (λ rows. AreLegRows (record { plan = plan.now; input = input.now; start = start.now; stop = stop }) rows.items) (record { plan = plan.now; input = input.now; start = start.now; stop = stop }) result }
+    ensures { let job = leg_job plan.now input.now start.now stop in GivesLeg (λ given. AreLegRows job given.rows.items × IsLegSaved job given.savepoint) job result }
 {
     let finish = run_leg_by(alloc, keys, plan, input, start, scale, stop)?;
     match finish {
-        Finish::Ended(rows) => Ok(rows.into_vec()),
-        Finish::Stopped(rows, _) => Ok(rows.into_vec()),
+        Finish::Ended(rows) => Ok(LegRows {
+            rows: rows.into_vec(),
+            savepoint: None,
+        }),
+        Finish::Stopped(rows, savepoint) => {
+            let _contents = savepoint.contents();
+            Ok(LegRows {
+                rows: rows.into_vec(),
+                savepoint: Some(savepoint),
+            })
+        }
     }
 }
 
-/// The text of a leg's rows.
-fn leg_text(
+/// The spelling of a savepoint, if there is one.
+fn saved_bytes(alloc: Global, savepoint: &Option<Savepoint>) -> Result<Option<Vec<u8>>, AllocError>
+    ensures { IfOk result (λ bytes. option_map (λ b. b.items) bytes ≡ option_map savepoint_bytes savepoint.now) }
+{
+    match savepoint {
+        None => Ok(None),
+        Some(savepoint) => Ok(Some(encode(alloc, savepoint)?)),
+    }
+}
+
+/// What a leg writes, and the bytes of the savepoint that it leaves where it stops.
+#[derive(Drop)]
+struct LegEnd {
+    text: String,
+    saved: Option<Vec<u8>>,
+}
+
+/// Runs a leg, and spells what it gives.
+fn leg_end(
     alloc: Global,
     keys: HashKeys,
     plan: &Plan,
@@ -88,20 +118,90 @@ fn leg_text(
     scale: &Scale,
     start: &Start,
     stop: Stop,
-) -> Result<String, JobFault>
+) -> Result<LegEnd, JobFault>
     requires belongs { BelongsTo plan.now input.now }
     requires scale { IsScale plan.now scale.now }
     requires starts { IsStartIn plan.now input.now start.now }
-    ensures { GivesLeg (λ text. IsLegText (record { plan = plan.now; input = input.now; start = start.now; stop = stop }) (string_bytes text)) (record { plan = plan.now; input = input.now; start = start.now; stop = stop }) result }
+    ensures { let job = leg_job plan.now input.now start.now stop in GivesLeg (IsLegEnd job) job result }
 {
-    let mut rows = leg_rows(alloc, keys, plan, input, scale, start, stop)?;
-    sort_rows(&mut rows)?;
-    Ok(text_of(alloc, &rows)?)
+    let mut given = leg_rows(alloc, keys, plan, input, scale, start, stop)?;
+    sort_rows(&mut given.rows)?;
+    let text = text_of_rows(alloc, &given.rows)?;
+    let saved = saved_bytes(alloc, &given.savepoint)?;
+    Ok(LegEnd { text, saved })
+}
+
+/// The leg of a plan, an input and a scale.
+fn leg_at_scale(
+    alloc: Global,
+    keys: HashKeys,
+    plan: &Plan,
+    input: &Input,
+    scale: &Scale,
+    from: Option<&[u8]>,
+    stop: Option<&str>,
+) -> Result<LegEnd, JobFault>
+    requires belongs { BelongsTo plan.now input.now }
+    requires scale { IsScale plan.now scale.now }
+    ensures { EndsLeg (job_with plan.now input.now (option_map (λ bytes. bytes.now) from.entry) (option_map (λ word. word.now) stop.entry)) result }
+{
+    let start = start_of(alloc, plan, input, from)?;
+    let stop = stop_of(alloc, stop)?;
+    leg_end(alloc, keys, plan, input, scale, &start, stop)
+}
+
+/// The leg of a plan and an input.
+fn leg_on_input(
+    alloc: Global,
+    keys: HashKeys,
+    plan: &Plan,
+    input: &Input,
+    scale: &[u8],
+    from: Option<&[u8]>,
+    stop: Option<&str>,
+) -> Result<LegEnd, JobFault>
+    requires { BelongsTo plan.now input.now }
+    ensures { EndsLeg (leg_on plan.now input.now scale.now (option_map (λ bytes. bytes.now) from.entry) (option_map (λ word. word.now) stop.entry)) result }
+{
+    let scale = Scale::read(alloc, plan, scale)?;
+    leg_at_scale(alloc, keys, plan, input, &scale, from, stop)
+}
+
+/// The leg of a plan.
+fn leg_of_plan(
+    alloc: Global,
+    keys: HashKeys,
+    plan: &Plan,
+    input: &[u8],
+    scale: &[u8],
+    from: Option<&[u8]>,
+    stop: Option<&str>,
+) -> Result<LegEnd, JobFault>
+    ensures { EndsLeg (leg_by plan.now input.now scale.now (option_map (λ bytes. bytes.now) from.entry) (option_map (λ word. word.now) stop.entry)) result }
+{
+    let input = Input::read(alloc, plan, input)?;
+    leg_on_input(alloc, keys, plan, &input, scale, from, stop)
+}
+
+/// The leg that texts tell.
+fn leg_of_texts(
+    alloc: Global,
+    keys: HashKeys,
+    plan: &[u8],
+    input: &[u8],
+    scale: &[u8],
+    from: Option<&[u8]>,
+    stop: Option<&str>,
+) -> Result<LegEnd, JobFault>
+    ensures { EndsLeg (leg_said plan.now input.now scale.now (option_map (λ bytes. bytes.now) from.entry) (option_map (λ word. word.now) stop.entry)) result }
+{
+    let plan = Plan::read(alloc, plan)?;
+    leg_of_plan(alloc, keys, &plan, input, scale, from, stop)
 }
 
 /// Runs one leg of a job at a scale, from nothing or from the savepoint that `from` has the bytes of, to the end of the input
 /// or to the cut that the word `stop` spells, and writes the text of its rows: those that become due on the way, one line
-/// each, in the order of start and key.
+/// each, in the order of start and key. Where it stops it gives the bytes of the savepoint that it leaves there.
 ///
 /// # Errors
 ///
@@ -116,17 +216,13 @@ pub fn job_leg<W: Write>(
     from: Option<&[u8]>,
     stop: Option<&str>,
     out: &mut W,
-) -> Result<(), JobFault>
-    ensures answers { TellsLeg (leg_said plan.now input.now scale.now (option_map (λ bytes. bytes.now) from.entry) (option_map (λ word. word.now) stop.entry)) result (W.contents out.old) (W.contents out.new) }
+) -> Result<Option<Vec<u8>>, JobFault>
+    ensures answers { TellsLeg (λ saved. option_map (λ bytes. bytes.items) saved) (leg_said plan.now input.now scale.now (option_map (λ bytes. bytes.now) from.entry) (option_map (λ word. word.now) stop.entry)) result (W.contents out.old) (W.contents out.new) }
     ensures kept { KeepsWriter result (W.contents out.old) (W.contents out.new) }
 {
-    let plan = Plan::read(alloc, plan)?;
-    let input = Input::read(alloc, &plan, input)?;
-    let scale = Scale::read(alloc, &plan, scale)?;
-    let start = start_of(alloc, &plan, &input, from)?;
-    let stop = stop_of(alloc, stop)?;
-    let text = leg_text(alloc, keys, &plan, &input, &scale, &start, stop)?;
-    write_text(out, text.as_str())
+    let LegEnd { text, saved } = leg_of_texts(alloc, keys, plan, input, scale, from, stop)?;
+    write_text(out, text.as_str())?;
+    Ok(saved)
 }
 
 #[cfg(test)]

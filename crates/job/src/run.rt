@@ -4,14 +4,11 @@ ghost use Rattle.std.specs.Prelude.{◌≡◌, MatchResult, string_bytes};
 ghost use Rattle.stream_model.specs.InputData.{BelongsTo};
 ghost use Rattle.stream_model.specs.PlanRows.{plan_rows};
 ghost use Rattle.plan_model.specs.Rows.{AreRowsOf};
-ghost use Rattle.job.specs.Text.{IsTextOf};
-ghost use Rattle.std.specs.Io.KnownBytes.{Appends};
+ghost use Rattle.job_texts.specs.Text.{IsTextOf};
 ghost use Rattle.job.specs.Run.{Answers, run_said};
-ghost use Rattle.job.specs.Tells.{KeepsWriter};
+ghost use Rattle.job_texts.specs.Tells.{KeepsWriter};
 
-use crate::fault::JobFault;
-use crate::sorting::sort_rows;
-use crate::text::text_of;
+use job_texts::{JobFault, sort_rows, text_of_rows, write_text};
 use leg_runs::run_leg;
 use logical_plan::Plan;
 use plan_compiler::Scale;
@@ -40,7 +37,7 @@ fn rows_text(alloc: Global, keys: HashKeys, plan: &Plan, input: &Input) -> Resul
 {
     let mut rows = rows_of(alloc, keys, plan, input)?;
     sort_rows(&mut rows)?;
-    Ok(text_of(alloc, &rows)?)
+    Ok(text_of_rows(alloc, &rows)?)
 }
 
 /// Runs a plan on a bounded input, and writes the text of the plan's rows: one line for each key and
@@ -63,14 +60,4 @@ pub fn job_run<W: Write>(
     let input = Input::read(alloc, &plan, input)?;
     let text = rows_text(alloc, keys, &plan, &input)?;
     write_text(out, text.as_str())
-}
-
-/// Writes a text whole.
-pub(crate) fn write_text<W: Write>(out: &mut W, text: &str) -> Result<(), JobFault>
-    ensures { MatchResult result (λ _. Appends (W.contents out.old) (W.contents out.new) text.now) (λ fault. fault ≡ JobFault.Write) }
-{
-    if out.write_all(text.as_bytes()).is_err() || out.flush().is_err() {
-        return Err(JobFault::Write);
-    }
-    Ok(())
 }

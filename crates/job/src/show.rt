@@ -1,11 +1,9 @@
 //! A savepoint as text.
 
 ghost use Rattle.job.specs.Show.{TellsSavepoint, show_said};
-ghost use Rattle.job.specs.Tells.{KeepsWriter};
+ghost use Rattle.job_texts.specs.Tells.{KeepsWriter};
 
-use crate::fault::JobFault;
-use crate::run::write_text;
-use crate::show_text::text_of;
+use job_texts::{JobFault, text_of_savepoint, write_text};
 use savepoint_codec::decode;
 use std::alloc::Global;
 use std::io::Write;
@@ -22,7 +20,7 @@ pub fn job_show<W: Write>(alloc: Global, savepoint: &[u8], out: &mut W) -> Resul
     ensures kept { KeepsWriter result (W.contents out.old) (W.contents out.new) }
 {
     let savepoint = decode(alloc, savepoint)?;
-    let text = text_of(alloc, savepoint.contents())?;
+    let text = text_of_savepoint(alloc, savepoint.contents())?;
     write_text(out, text.as_str())
 }
 

@@ -1,15 +1,15 @@
 -- What the program's commands answer. Nothing can be said of what files hold and of what standard output takes, and so
 -- these say which answers the texts of files allow, whatever they are.
-use Rattle.std.specs.Prelude.{◌≡◌, ◌⊎◌, ℕ, List, [], Bool, Option, None, is_some, Result, Err, unwrap_or}
+use Rattle.std.specs.Prelude.{◌≡◌, ◌⊎◌, ℕ, List, [], Bool, Option, Some, None, is_some, Result, Ok, Err, IfErr, unwrap_or}
 use Rattle.std.specs.declared.io.ErrorKind.{ErrorKind}
 use Rattle.std.specs.declared.io.ErrorKind.TheVariants.{OutOfMemory}
 use Rattle.clap.specs.Words.{found_of, first_value}
 use Rattle.clap.specs.declared.parser.matches.ArgMatches.{ArgMatches}
-use Rattle.job.specs.declared.fault.JobFault.{JobFault}
-use Rattle.job.specs.declared.fault.JobFault.TheVariants.{Read, Memory}
-use Rattle.job.specs.Group.{TellsGroup, group_said}
+use Rattle.job_texts.specs.declared.fault.JobFault.{JobFault}
+use Rattle.job_texts.specs.declared.fault.JobFault.TheVariants.{Read, Write, Memory}
+use Rattle.job_texts.specs.Group.{TellsGroup, group_said}
 use Rattle.job.specs.Layout.{TellsLayout, layout_said}
-use Rattle.job.specs.Leg.{TellsLeg, leg_said}
+use Rattle.job.specs.Leg.{LegJob, TellsLeg, leg_said}
 use Rattle.job.specs.Run.{Answers, run_said}
 use Rattle.job.specs.Show.{TellsSavepoint, show_said}
 use Rattle.user_texts.specs.Pages.{TellsPage, explained}
@@ -32,11 +32,24 @@ CannotRead result = (result ≡ Err Read) ⊎ (result ≡ Err Memory)
 abbrev pub AnswersRun : Result (Unit {0}) JobFault → Type 0
 AnswersRun result = CannotRead result ⊎ ((plan : List ℕ) × (input : List ℕ) × Answers (run_said plan input) result None None)
 
--- what `job_leg` answers of some plan, input and scale, with a savepoint just where one is named, and of the word of a cut, or that one of them was not read
+-- what comes of a leg: why there is none, or it is done, or what it gave could not be written
+abbrev pub after_leg : {X : Type 0} → Result X JobFault → Result (Unit {0}) JobFault → Type 0
+after_leg (Ok saved) result = IfErr result (λ fault. (fault ≡ Write) ⊎ (fault ≡ Memory))
+after_leg (Err fault) result = result ≡ Err fault
+
+-- the bytes of the savepoint that a leg leaves, or why there is no leg, and the bytes of its rows
+abbrev pub LegAnswer : Type 0
+LegAnswer = Result (Option (List ℕ)) JobFault × List ℕ
+
+-- what comes of what `job_leg` answers of the leg that texts say
+abbrev pub ComesOfLeg : Result LegJob JobFault → Result (Unit {0}) JobFault → Type 0
+ComesOfLeg said result = (given : LegAnswer) × TellsLeg (λ saved. saved) said given.0 (Some []) (Some given.1) × after_leg given.0 result
+
+-- what comes of what `job_leg` answers of some plan, input and scale, with a savepoint just where one is named, and of the word of a cut, or that one of them was not read
 abbrev pub AnswersLeg : Bool → Option (List ℕ) → Result (Unit {0}) JobFault → Type 0
 AnswersLeg names_savepoint stop result =
     CannotRead result
-    ⊎ ((plan : List ℕ) × (input : List ℕ) × (scale : List ℕ) × (from : Option (List ℕ)) × (is_some from ≡ names_savepoint) × TellsLeg (leg_said plan input scale from stop) result None None)
+    ⊎ ((plan : List ℕ) × (input : List ℕ) × (scale : List ℕ) × (from : Option (List ℕ)) × (is_some from ≡ names_savepoint) × ComesOfLeg (leg_said plan input scale from stop) result)
 
 -- what `job_layout` answers of some plan and scale, or that one of them was not read
 abbrev pub AnswersLayout : Result (Unit {0}) JobFault → Type 0

@@ -5,8 +5,8 @@ use Rattle.clap.specs.Words.{HasMatchesOf, kind_of, subcommand_name_of, takes}
 use Rattle.clap.specs.declared.error.Error.{Error}
 use Rattle.clap.specs.declared.error.kind.ErrorKind.TheVariants.{OutOfMemory}
 use Rattle.clap.specs.declared.parser.matches.ArgMatches.{ArgMatches}
-use Rattle.job.specs.declared.fault.JobFault.{JobFault}
-use Rattle.job.specs.declared.fault.JobFault.TheVariants.{Memory, Number, Write as WriteFault}
+use Rattle.job_texts.specs.declared.fault.JobFault.{JobFault}
+use Rattle.job_texts.specs.declared.fault.JobFault.TheVariants.{Memory, Number, Write as WriteFault}
 use Rattle.user_texts.specs.declared.writing.TextFault.{TextFault}
 use Rattle.user_texts.specs.declared.writing.TextFault.TheVariants as text
 use Rattle.streamjob.specs.Answers.{AnswersRun, AnswersLeg, AnswersLayout, AnswersShow, AnswersGroup, AnswersExplain}

@@ -6,7 +6,7 @@ use Rattle.std.specs.declared.io.ErrorKind.TheVariants as io
 use Rattle.clap.specs.Words.{kind_of}
 use Rattle.clap.specs.declared.error.kind.ErrorKind.{ErrorKind as Mistake}
 use Rattle.clap.specs.declared.error.kind.ErrorKind.TheVariants as clap
-use Rattle.job.specs.FaultText.{status as fault_status}
+use Rattle.job_texts.specs.FaultText.{status as fault_status}
 use Rattle.streamjob.specs.declared.run.Refusal.{Refusal}
 use Rattle.streamjob.specs.declared.run.Refusal.TheVariants.{Unread, Words, Fault, NoPage}
 

@@ -23,9 +23,9 @@ run_shape = command_shape (codes "run") (codes "PLAN" ∷ codes "INPUT" ∷ [])
 abbrev pub leg_files_shape : Shape
 leg_files_shape = command_shape (codes "leg") (codes "PLAN" ∷ codes "INPUT" ∷ codes "SCALE" ∷ [])
 
--- a leg's files, and its two options
+-- a leg's files, and its three options
 abbrev pub leg_shape : Shape
-leg_shape = record leg_files_shape { rules = leg_files_shape.rules ++ option_rule (codes "from") ∷ option_rule (codes "stop") ∷ [] }
+leg_shape = record leg_files_shape { rules = leg_files_shape.rules ++ option_rule (codes "from") ∷ option_rule (codes "stop") ∷ option_rule (codes "save") ∷ [] }
 
 abbrev pub layout_shape : Shape
 layout_shape = command_shape (codes "layout") (codes "PLAN" ∷ codes "SCALE" ∷ [])

@@ -1,13 +1,15 @@
 //! What each command does.
 
-ghost use Rattle.std.specs.Prelude.{◌≡◌, codes, is_some, IfErr};
+ghost use Rattle.std.specs.Prelude.{◌≡◌, ◌⊎◌, codes, is_some, option_map, IfErr};
 ghost use Rattle.clap.specs.Words.{found_of, first_value};
-ghost use Rattle.streamjob.specs.Answers.{word, AnswersRun, AnswersLeg, AnswersLayout, AnswersShow, AnswersGroup, AnswersExplain};
+ghost use Rattle.job.specs.Leg.{leg_said};
+ghost use Rattle.streamjob.specs.Answers.{word, AnswersRun, AnswersLeg, ComesOfLeg, AnswersLayout, AnswersShow, AnswersGroup, AnswersExplain};
 
 use crate::files::{file, optional_file};
+use crate::saving::save;
 use clap::ArgMatches;
 use job::{HashKeys, JobFault, job_group, job_layout, job_leg, job_run, job_show};
-use std::io::writer;
+use std::io::{Write, writer};
 use std::random::RandomSource;
 use std::rt::Files;
 use user_texts::{TextFault, write_version};
@@ -37,11 +39,72 @@ pub fn run<R: Files + Print + RandomSource + AllocGlobal>(
     job_run(rt.alloc(), keys, &plan, &input, &mut writer(rt))
 }
 
-/// Prints the rows of one leg of a job.
+/// Prints bytes.
+fn print<R: Print>(rt: &R, bytes: &[u8]) -> Result<(), JobFault>
+    ensures { IfErr result (λ fault. fault ≡ JobFault.Write) }
+{
+    let mut out = writer(rt);
+    if out.write_all(bytes).is_err() || out.flush().is_err() {
+        return Err(JobFault::Write);
+    }
+    Ok(())
+}
+
+/// Writes the savepoint that a leg left, if it left one and a file is named for it.
+fn keep<R: Files + RandomSource + AllocGlobal>(
+    rt: &R,
+    path: Option<&str>,
+    saved: Option<&[u8]>,
+) -> Result<(), JobFault>
+    ensures { IfErr result (λ fault. (fault ≡ JobFault.Write) ⊎ (fault ≡ JobFault.Memory)) }
+{
+    let Some(path) = path else {
+        return Ok(());
+    };
+    let Some(bytes) = saved else {
+        return Ok(());
+    };
+    save(rt, path, bytes)
+}
+
+/// Keeps what a leg left, and then prints its rows: rows whose savepoint is lost would come again.
+fn give<R: Files + Print + RandomSource + AllocGlobal>(
+    rt: &R,
+    path: Option<&str>,
+    saved: Option<&[u8]>,
+    rows: &[u8],
+) -> Result<(), JobFault>
+    ensures { IfErr result (λ fault. (fault ≡ JobFault.Write) ⊎ (fault ≡ JobFault.Memory)) }
+{
+    keep(rt, path, saved)?;
+    print(rt, rows)
+}
+
+/// Runs the leg that texts tell, and gives what it gives.
+fn done_leg<R: Files + Print + RandomSource + AllocGlobal>(
+    rt: &R,
+    keys: HashKeys,
+    plan: &[u8],
+    input: &[u8],
+    scale: &[u8],
+    from: Option<&[u8]>,
+    stop: Option<&str>,
+    path: Option<&str>,
+) -> Result<(), JobFault>
+    ensures { ComesOfLeg (leg_said plan.now input.now scale.now (option_map (λ bytes. bytes.now) from.entry) (option_map (λ word. word.now) stop.entry)) result }
+{
+    let mut rows = Vec::new(rt.alloc());
+    match job_leg(rt.alloc(), keys, plan, input, scale, from, stop, &mut rows) {
+        Ok(saved) => give(rt, path, saved.as_deref(), &rows),
+        Err(fault) => Err(fault),
+    }
+}
+
+/// Prints the rows of one leg of a job, once the savepoint that it leaves where it stops is written, if a file is named for it.
 ///
 /// # Errors
 ///
-/// `Read` where a file cannot be read, else the fault of `job_leg`.
+/// `Read` where a file cannot be read, else the fault of `job_leg`, `Write` where the savepoint or the rows cannot be written.
 pub fn leg<R: Files + Print + RandomSource + AllocGlobal>(
     rt: &R,
     words: &ArgMatches<'_>,
@@ -57,16 +120,8 @@ pub fn leg<R: Files + Print + RandomSource + AllocGlobal>(
     };
     let from = savepoint.as_deref();
     let stop = words.get_str("stop");
-    job_leg(
-        rt.alloc(),
-        keys,
-        &plan,
-        &input,
-        &scale,
-        from,
-        stop,
-        &mut writer(rt),
-    )
+    let path = words.get_str("save");
+    done_leg(rt, keys, &plan, &input, &scale, from, stop, path)
 }
 
 /// Prints the layout of a plan at a scale.

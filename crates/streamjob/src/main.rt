@@ -4,6 +4,7 @@
 mod commands;
 mod files;
 mod run;
+mod saving;
 mod words;
 
 use std::process::ExitCode;

@@ -3,8 +3,8 @@
 ghost use Rattle.std.specs.Prelude.{◌≡◌, map, string_bytes};
 ghost use Rattle.std.specs.IoError.{error_kind};
 ghost use Rattle.clap.specs.Words.{kind_of, subcommand_name_of};
-ghost use Rattle.job.specs.FaultText as fault_text;
-ghost use Rattle.job.specs.declared.fault.JobFault.TheVariants.{Memory};
+ghost use Rattle.job_texts.specs.FaultText as fault_text;
+ghost use Rattle.job_texts.specs.declared.fault.JobFault.TheVariants.{Memory};
 ghost use Rattle.streamjob.specs.Outcome.{after_command, after_text, AnswersNamed, AnswersWords, AnswersProgram};
 ghost use Rattle.streamjob.specs.Status as statuses;
 ghost use Rattle.streamjob.specs.declared.run.Refusal.TheVariants.{Words, Fault};

@@ -62,11 +62,12 @@ fn run_words<'a>(alloc: Global) -> Result<Command<'a>, AllocError>
 
 const LEG: &str = "\
 A leg is a part of a job: it begins with nothing or with a savepoint, and goes to a cut or to the
-end of the input. It prints the rows, as `run` does, whose windows become due on the way; no
-savepoint is written. CUT has how many entries lie before it in each partition, with commas
-between the partitions of a source and slashes between sources.
+end of the input. It prints the rows, as `run` does, whose windows become due on the way. A leg
+that stops leaves a savepoint, which is written before the rows are printed. CUT has how many
+entries lie before it in each partition, with commas between the partitions of a source and
+slashes between sources.
 
-Example: streamjob leg plan.json input.json scale.json --stop 2,2/5
+Example: streamjob leg plan.json input.json scale.json --stop 2,2/5 --save savepoint
 Page: docs/FORMATS.md, under Scale and Cut";
 
 /// The files that a leg always reads.
@@ -91,6 +92,12 @@ fn leg_words<'a>(alloc: Global) -> Result<Command<'a>, AllocError>
             "stop",
             "CUT",
             "Where to stop, before the end of the input",
+        ))?
+        .arg(option(
+            alloc,
+            "save",
+            "FILE",
+            "File to write the savepoint to, if the leg stops",
         ))
 }
 

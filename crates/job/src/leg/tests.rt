@@ -31,22 +31,21 @@ const BEFORE: &str = "0 10 0 1 4 4 4\n0 10 1 1 5 5 5\n";
 
 const AFTER: &str = "10 20 0 1 -3 -3 -3\n10 20 1 2 9 2 7\n";
 
-/// What a leg writes, or why it does not.
-fn leg(
-    rt: &(impl AllocGlobal + RandomSource),
-    from: Option<&[u8]>,
-    stop: Option<&str>,
-) -> Result<Result<Vec<u8>, JobFault>, Fail> {
-    leg_at(rt, SCALE, from, stop)
+/// What a leg writes, and what it leaves.
+#[derive(Drop)]
+struct Given {
+    text: Vec<u8>,
+    saved: Option<Vec<u8>>,
 }
 
-fn leg_at(
+/// What a leg gives at a scale, or why it gives nothing.
+fn given_at(
     rt: &(impl AllocGlobal + RandomSource),
     scale: &str,
     from: Option<&[u8]>,
     stop: Option<&str>,
-) -> Result<Result<Vec<u8>, JobFault>, Fail> {
-    let mut out = Vec::new(rt.alloc());
+) -> Result<Result<Given, JobFault>, Fail> {
+    let mut text = Vec::new(rt.alloc());
     let answer = job_leg(
         rt.alloc(),
         HashKeys::random(rt)?,
@@ -55,12 +54,43 @@ fn leg_at(
         scale.as_bytes(),
         from,
         stop,
-        &mut out,
+        &mut text,
     );
     Ok(match answer {
-        Ok(()) => Ok(out),
+        Ok(saved) => Ok(Given { text, saved }),
         Err(fault) => Err(fault),
     })
+}
+
+/// The rows that a leg writes.
+fn leg_at(
+    rt: &(impl AllocGlobal + RandomSource),
+    scale: &str,
+    from: Option<&[u8]>,
+    stop: Option<&str>,
+) -> Result<Result<Vec<u8>, JobFault>, Fail> {
+    Ok(match given_at(rt, scale, from, stop)? {
+        Ok(given) => Ok(given.text),
+        Err(fault) => Err(fault),
+    })
+}
+
+fn leg(
+    rt: &(impl AllocGlobal + RandomSource),
+    from: Option<&[u8]>,
+    stop: Option<&str>,
+) -> Result<Result<Vec<u8>, JobFault>, Fail> {
+    leg_at(rt, SCALE, from, stop)
+}
+
+/// The savepoint that a leg leaves.
+fn saved_at(
+    rt: &(impl AllocGlobal + RandomSource),
+    scale: &str,
+    from: Option<&[u8]>,
+    stop: Option<&str>,
+) -> Result<Option<Vec<u8>>, Fail> {
+    Ok(given_at(rt, scale, from, stop)??.saved)
 }
 
 #[test]
@@ -89,6 +119,34 @@ fn from_a_savepoint(rt: HostRuntime) -> Result<(), Fail> {
         leg(&rt, Some(&BYTES), Some("3,3"))??.as_slice(),
         AFTER.as_bytes()
     );
+    Ok(())
+}
+
+const OTHER_SCALE: &str =
+    r#"{"ring":4,"operators":{"s":{"parallelism":1},"w":{"parallelism":8}}}"#;
+
+#[test]
+fn a_leg_that_stops_leaves_the_savepoint_of_its_cut(rt: HostRuntime) -> Result<(), Fail> {
+    for scale in [SCALE, OTHER_SCALE] {
+        let saved = saved_at(&rt, scale, None, Some("2,2"))?.ok_or("no savepoint")?;
+        assert_eq!(rt; saved.as_slice(), BYTES.as_slice());
+    }
+    Ok(())
+}
+
+#[test]
+fn a_leg_to_the_end_leaves_none(rt: HostRuntime) -> Result<(), Fail> {
+    assert!(rt; saved_at(&rt, SCALE, None, None)?.is_none());
+    assert!(rt; saved_at(&rt, SCALE, Some(&BYTES), None)?.is_none());
+    Ok(())
+}
+
+/// Each savepoint has the number after the one that its leg went on from.
+#[test]
+fn savepoints_are_numbered(rt: HostRuntime) -> Result<(), Fail> {
+    let saved = saved_at(&rt, SCALE, Some(&BYTES), Some("2,2"))?.ok_or("no savepoint")?;
+    let next = changed(&rt, 11, 2)?;
+    assert_eq!(rt; saved.as_slice(), next.as_slice());
     Ok(())
 }
 

@@ -1,6 +1,6 @@
 use Rattle.std.proofs.Common.{sym, subst}
 use Rattle.stream_model.specs.PlanRows.{plan_rows}
-use Rattle.job.specs.Text.{IsTextOf}
+use Rattle.job_texts.specs.Text.{IsTextOf}
 use Rattle.job.proofs.Refusals.{plan_refused, input_refused, written}
 use Rattle.job.proofs.run.job_run.Goals as goal
 

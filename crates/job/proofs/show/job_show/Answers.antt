@@ -1,5 +1,5 @@
 use Rattle.std.proofs.Common.{◌∙◌, ap}
-use Rattle.job.specs.ShowText.{savepoint_text}
+use Rattle.job_texts.specs.ShowText.{savepoint_text}
 use Rattle.job.proofs.ShowAnswers.{save_refused, show_without_memory, shown}
 use Rattle.job.proofs.show.job_show.Goals as goal
 

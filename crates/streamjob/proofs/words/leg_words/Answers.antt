@@ -21,4 +21,5 @@ added_last old (Err e) arg shape rule adds command is local = tt
 pub returns : goal.returns
 returns c =
     let from = added _ _ _ _ _ c.in_ok-arg.ensures c.in_ok-leg_files.ensures c.option.ensures.rule c.option.ensures.local in
-    added_last _ _ _ _ _ c.arg-2.ensures from c.option-2.ensures.rule c.option-2.ensures.local
+    let stop = added _ _ _ _ _ c.in_ok-arg-2.ensures from c.option-2.ensures.rule c.option-2.ensures.local in
+    added_last _ _ _ _ _ c.arg-3.ensures stop c.option-3.ensures.rule c.option-3.ensures.local

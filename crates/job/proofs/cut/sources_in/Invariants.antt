@@ -1,7 +1,0 @@
-use Rattle.std.proofs.Common.{◌≡◌, map, drop}
-use Rattle.job.specs.Cut.{each_said, source_said}
-use Rattle.job.proofs.Parts.{with_front}
-use Rattle.job.proofs.cut.sources_in.Given as goal
-
-abbrev pub invariant-loop-word : goal.invariant-loop-word
-invariant-loop-word l = with_front l.sources.items (each_said source_said (map (λ w. w.now) (drop l.word-index l.words))) ≡ each_said source_said (map (λ w. w.now) l.words)

@@ -1,5 +1,0 @@
-use Rattle.job.proofs.Unique.{IsTextOf-unique}
-use Rattle.job.proofs.laws.text_is_determined.Goals as goal
-
-pub returns : goal.returns
-returns c = IsTextOf-unique

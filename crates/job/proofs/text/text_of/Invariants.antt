@@ -1,6 +1,0 @@
-use Rattle.std.proofs.Common.{◌≡◌, take, string_bytes}
-use Rattle.job.specs.Text.{text_of_rows}
-use Rattle.job.proofs.text.text_of.Given as goal
-
-abbrev pub invariant-loop-row : goal.invariant-loop-row
-invariant-loop-row l = string_bytes l.text ≡ text_of_rows (take l.row-index l.rows)

@@ -1,0 +1,5 @@
+mod Sorts
+mod Unique
+mod Numerals
+mod Lines
+mod Parts

@@ -1,0 +1,24 @@
+//! The texts of a job: of its rows, its layout, a savepoint and a key's group, its faults, and the words of the command line.
+#![tactic(auto)]
+
+mod cut;
+mod fault;
+mod group;
+pub mod laws;
+mod layout_text;
+mod line;
+mod number;
+mod show_text;
+mod sorting;
+mod text;
+mod writing;
+
+pub use cut::read_cut;
+pub use fault::JobFault;
+pub use group::job_group;
+pub use layout_text::text_of_layout;
+pub use line::{FaultLine, fault_line, status_of};
+pub use show_text::text_of_savepoint;
+pub use sorting::sort_rows;
+pub use text::text_of_rows;
+pub use writing::write_text;
