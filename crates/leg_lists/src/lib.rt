@@ -16,6 +16,7 @@ pub use fault::LegFault;
 pub use leg::LegSpec;
 pub use limits::MOST_LEGS;
 pub use reading::read_legs;
+pub use requirements::are_legs;
 pub use stop::Stop;
 
 #[cfg(test)]

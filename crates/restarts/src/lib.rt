@@ -2,5 +2,8 @@
 #![tactic(auto)]
 
 pub mod laws;
+mod starting;
 #[cfg(test)]
 mod tests;
+
+pub use starting::restart;

@@ -122,8 +122,7 @@ fn from_a_savepoint(rt: HostRuntime) -> Result<(), Fail> {
     Ok(())
 }
 
-const OTHER_SCALE: &str =
-    r#"{"ring":4,"operators":{"s":{"parallelism":1},"w":{"parallelism":8}}}"#;
+const OTHER_SCALE: &str = r#"{"ring":4,"operators":{"s":{"parallelism":1},"w":{"parallelism":8}}}"#;
 
 #[test]
 fn a_leg_that_stops_leaves_the_savepoint_of_its_cut(rt: HostRuntime) -> Result<(), Fail> {

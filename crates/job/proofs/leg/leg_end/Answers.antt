@@ -12,10 +12,13 @@ returns c =
     let s = c.args.start.now in
     let due = due_between c.args.plan.now i.sources (offsets_of s) (cut_to i (until_of c.args.stop)) in (
       c.in_ok-given.ensures.0,
-      (λ has. record {
-        rows = c.sort_rows.new.rows.items;
-        are = c.in_ok-sort_rows.ensures.same due (c.in_ok-given.ensures.1.0 has);
-        ordered = c.in_ok-sort_rows.ensures.ordered;
-        lines = c.in_ok-text.ensures ∙ ap text_of_rows c.deref.ensures.value;
-      }, (c.in_ok-given.given.savepoint, c.in_ok-saved.ensures, c.in_ok-given.ensures.1.1)),
+      (
+        λ has. record {
+          rows = c.sort_rows.new.rows.items;
+          are = c.in_ok-sort_rows.ensures.same due (c.in_ok-given.ensures.1.0 has);
+          ordered = c.in_ok-sort_rows.ensures.ordered;
+          lines = c.in_ok-text.ensures ∙ ap text_of_rows c.deref.ensures.value;
+        },
+        (c.in_ok-given.given.savepoint, c.in_ok-saved.ensures, c.in_ok-given.ensures.1.1),
+      ),
     )

@@ -1,0 +1,55 @@
+-- What a leg gives that goes from a cut.
+use Rattle.std.proofs.Common.{◌≡◌, ◌∙◌, ℕ, ◌+◌, ◌<◌, ◌≤◌, ◌^◌, List, Result, Ok, Err, OnOk, IfOk, IfErr, MatchResult, refl, sym, ap, subst, inl, inr, arith}
+use Rattle.plan_model.specs.PlanData.{PlanData, IsPlan}
+use Rattle.plan_model.specs.Rows.{AreRowsOf}
+use Rattle.stream_model.specs.InputData.{InputData, IsInput, BelongsTo}
+use Rattle.stream_model.specs.Watermarks.{IsCut}
+use Rattle.dataflow_laws.specs.Inputs.{due_between}
+use Rattle.dataflow_laws.specs.Compiled.{cut_to}
+use Rattle.leg_lists.specs.declared.cut.Cut.{Cut}
+use Rattle.leg_lists.specs.declared.fault.LegFault.{LegFault}
+use Rattle.leg_lists.specs.declared.stop.Stop.{Stop}
+use Rattle.leg_lists.specs.declared.stop.Stop.TheVariants.{At}
+use Rattle.leg_lists.specs.Stops.{until_of}
+use Rattle.redistribute.specs.StartData.{StartData, offsets_of}
+use Rattle.redistribute.specs.Stopping.{CanStop, IsRefusal}
+use Rattle.redistribute.specs.Snapshots.{saved_sources}
+use Rattle.gather.specs.Saved.{savepoint_of}
+use Rattle.savepoint_codec.specs.declared.savepoint.Contents.{Contents}
+use Rattle.leg_tasks.specs.Saved as left
+use Rattle.core_steps.specs.declared.finish.Finish.{Finish}
+use Rattle.leg_runs.specs.Ending.{IsEndOf}
+use Rattle.restarts.specs.Laws.{IsStartAt}
+use Rattle.restarts.specs.Restart.{IsSavedAt}
+use Rattle.job_legs.specs.Reached.{IsGiven, IsStepRefusal}
+
+module _ (p : PlanData) (i : InputData) (plan : IsPlan p) (input : IsInput i) (belongs : BelongsTo p i) (cut : List (List ℕ)) (number : ℕ) (s : StartData) (at : IsStartAt p i cut number s) (few : number < 2 ^ 63) (stop : Stop) where
+  next_few : (n : ℕ) → n < 2 ^ 63 → n + 1 ≤ 2 ^ 63
+  next_few n h = omega (arith)
+
+  saved : (end : Cut) (savepoint : Contents) → IsCut i.sources end.counts → left.IsSavedAt p i end.counts (s.number + 1) savepoint → IsSavedAt p i end.counts (number + 1) savepoint
+  saved end savepoint is w = record {
+    windows = w.windows;
+    left = record { plan = plan; input = input; belongs = belongs; cut = is; windows = w.snapshot };
+    few = next_few number few;
+    is = w.is ∙ ap (λ n. savepoint_of p (saved_sources i.sources end.counts) w.windows (n + 1)) at.number;
+  }
+
+  stopped : (stop : Stop) (end : Cut) → stop ≡ At end → CanStop i.sources cut stop → IsCut i.sources end.counts
+  stopped stop end same can = (subst (CanStop i.sources cut) same can).0
+
+  can_from : CanStop i.sources (offsets_of s) stop → CanStop i.sources cut stop
+  can_from can = subst (λ b. CanStop i.sources b stop) at.offsets can
+
+  pub given : (result : Result Finish LegFault) → OnOk result (CanStop i.sources (offsets_of s) stop) → IfOk result (λ finish. IsEndOf p i s stop finish) → IfErr result (λ fault. IsRefusal i.sources (offsets_of s) stop fault)
+      → MatchResult result (IsGiven p i cut number stop) (IsStepRefusal i cut stop)
+  given (Ok finish) can e refused = record {
+    rows = e.rows;
+    savepoint = e.savepoint;
+    is = e.is;
+    can = can_from can;
+    delivered = subst (λ b. AreRowsOf (due_between p i.sources b (cut_to i (until_of stop))) e.rows) at.offsets (e.delivered at.snapshot);
+    saved = λ end same. saved end e.savepoint (stopped stop end same (can_from can)) (e.saved end same at.snapshot);
+  }
+  given (Err fault) can e (inl cannot) = inl (cannot.0, λ can. cannot.1 (subst (λ b. CanStop i.sources b stop) (sym at.offsets) can))
+  given (Err fault) can e (inr memory) = inr memory.0

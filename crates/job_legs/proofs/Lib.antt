@@ -1,0 +1,5 @@
+mod Adding
+mod Ended
+mod Given
+mod Taken
+mod Ways

@@ -1,0 +1,5 @@
+use Rattle.job_legs.proofs.Adding.{rows_add_up}
+use Rattle.job_legs.proofs.laws.rows_add_up.Goals as goal
+
+pub returns : goal.returns
+returns c = rows_add_up c.due_rows_stay-stay.ensures

@@ -1,0 +1,1 @@
+use Rattle.job_legs.proofs.running.end_of.Goals as goal

@@ -1,0 +1,4 @@
+pub mod Laws
+pub mod Reached
+pub mod Running
+pub mod Ending

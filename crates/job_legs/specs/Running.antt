@@ -1,0 +1,39 @@
+-- Legs that run one after the other.
+use Rattle.std.specs.Prelude.{◌≡◌, ◌⊎◌, ℕ, List, [], ◌∷◌, length}
+use Rattle.plan_model.specs.PlanData.{PlanData}
+use Rattle.stream_model.specs.InputData.{InputData}
+use Rattle.stream_model.specs.Watermarks.{empty_cut}
+use Rattle.dataflow_laws.specs.Compiled.{cut_to}
+use Rattle.leg_lists.specs.declared.fault.LegFault.{LegFault}
+use Rattle.leg_lists.specs.declared.fault.LegFault.TheVariants.{StopRange, Memory}
+use Rattle.leg_lists.specs.declared.leg.LegSpec.{LegSpec}
+use Rattle.leg_lists.specs.declared.stop.Stop.{Stop}
+use Rattle.leg_lists.specs.declared.stop.Stop.TheVariants.{Never}
+use Rattle.leg_lists.specs.Stops.{until_of}
+use Rattle.redistribute.specs.Stopping.{CanStop}
+use Rattle.job_legs.specs.Reached.{IsAfter}
+use Rattle.job_legs.specs.declared.running.Reached.{Reached}
+
+-- where the last of legs stops
+abbrev pub last_stop : List LegSpec → Stop
+last_stop [] = Never
+last_stop (leg ∷ []) = leg.stop
+last_stop (leg ∷ next ∷ legs) = last_stop (next ∷ legs)
+
+-- the cut that they come to
+abbrev pub cut_of : InputData → List LegSpec → List (List ℕ)
+cut_of i legs = cut_to i (until_of (last_stop legs))
+
+-- each leg can stop as it is to, from where the one before stopped
+abbrev pub CanRun : InputData → List (List ℕ) → List LegSpec → Type 0
+CanRun i begin [] = Unit {0}
+CanRun i begin (leg ∷ legs) = CanStop i.sources begin leg.stop × CanRun i (cut_to i (until_of leg.stop)) legs
+
+-- all of them ran, each from where the one before stopped
+pub record HasRun (p : PlanData) (i : InputData) (legs : List LegSpec) (r : Reached) : Type 0 where
+  pub can : CanRun i (empty_cut i.sources) legs
+  pub after : IsAfter p i (last_stop legs) (length legs) r
+
+-- why they did not: one of them cannot stop as it is to, or memory ran out
+abbrev pub IsRunRefusal : InputData → List LegSpec → LegFault → Type 0
+IsRunRefusal i legs fault = ((fault ≡ StopRange) × ¬ CanRun i (empty_cut i.sources) legs) ⊎ (fault ≡ Memory)

@@ -1,0 +1,9 @@
+//! The legs of a job, one after the other, each from what the one before left.
+#![tactic(auto)]
+
+pub mod laws;
+mod running;
+#[cfg(test)]
+mod tests;
+
+pub use running::{LegsEnd, run_legs_by, saved_bytes};

@@ -1,0 +1,207 @@
+//! Legs run one after the other.
+
+ghost use Rattle.std.specs.Prelude.{◌≡◌, ◌+◌, ◌++◌, ◌<◌, ◌^◌, ℕ, true, List, Option, option_map, IfOk, IfErr, MatchResult, OnOk};
+ghost use Rattle.std.specs.List.{All};
+ghost use Rattle.std.specs.List.Sorted.{IsSortedByKey};
+ghost use Rattle.layout_rules.specs.Scale.{IsScale};
+ghost use Rattle.leg_lists.specs.Requirements.{are_legs};
+ghost use Rattle.plan_model.specs.Rows.{AreRowsOf, pane_cmp, pane_of};
+ghost use Rattle.plan_model.specs.declared.spec.Pane.{Pane as PaneValue};
+ghost use Rattle.plan_model.specs.declared.spec.Row.{Row as RowValue};
+ghost use Rattle.redistribute.specs.Stopping.{CanStop};
+ghost use Rattle.restarts.specs.Laws.{IsStartAt};
+ghost use Rattle.savepoint_codec.specs.Layout.{savepoint_bytes};
+ghost use Rattle.stream_model.specs.InputData.{BelongsTo};
+ghost use Rattle.job_legs.specs.Reached.{HasSaved, IsAfter, IsAt, IsGiven, IsStepRefusal, rows_of, saved_of};
+ghost use Rattle.job_legs.specs.Ending.{IsJobEnd, IsLegsRefusal};
+ghost use Rattle.job_legs.specs.Running.{HasRun, IsRunRefusal};
+
+use crate::laws::{nothing_due_at_first, rows_add_up};
+use job_texts::sort_rows;
+use leg_lists::{LegFault, LegSpec, are_legs};
+use leg_runs::{Finish, run_leg_by};
+use logical_plan::Plan;
+use plan_model::Row;
+use redistribute::Start;
+use restarts::restart;
+use savepoint_codec::{Savepoint, encode};
+use std::alloc::{AllocError, Global};
+use stream_input::Input;
+use stream_model::laws::end_is_due;
+use window_state::HashKeys;
+
+/// How far a job has come: the rows of its legs, in the order in which they came, and the savepoint that the last of them left,
+/// if it stopped.
+#[derive(Drop)]
+struct Reached {
+    rows: Vec<Row>,
+    savepoint: Option<Savepoint>,
+}
+
+/// The start of the leg that comes next: from the savepoint that the one before left, or from nothing.
+fn next_start(
+    alloc: Global,
+    plan: &Plan,
+    input: &Input,
+    savepoint: &Option<Savepoint>,
+) -> Result<Start, AllocError>
+    requires belongs { BelongsTo plan.now input.now }
+    requires saved { (cut : List (List ℕ)) × (number : ℕ) × HasSaved plan.now input.now cut number savepoint.now }
+    ensures { (cut : List (List ℕ)) (number : ℕ) → HasSaved plan.now input.now cut number savepoint.now → IfOk result (IsStartAt plan.now input.now cut number) }
+{
+    match savepoint {
+        None => Start::empty(alloc, plan, input),
+        Some(savepoint) => restart(alloc, plan, input, savepoint),
+    }
+}
+
+/// What the leg gives that comes next.
+fn next_finish(
+    alloc: Global,
+    keys: HashKeys,
+    plan: &Plan,
+    input: &Input,
+    leg: LegSpec,
+    savepoint: &Option<Savepoint>,
+) -> Result<Finish, LegFault>
+    requires belongs { BelongsTo plan.now input.now }
+    requires scale { IsScale plan.now leg.scale }
+    requires saved { (cut : List (List ℕ)) × (number : ℕ) × HasSaved plan.now input.now cut number savepoint.now }
+    ensures { (cut : List (List ℕ)) (number : ℕ) → HasSaved plan.now input.now cut number savepoint.now → number < 2 ^ 63 → MatchResult result (IsGiven plan.now input.now cut number leg.stop) (IsStepRefusal input.now cut leg.stop) }
+{
+    let LegSpec { scale, stop } = leg;
+    let _columns = plan.columns();
+    let _sources = input.sources();
+    let start = next_start(alloc, plan, input, savepoint)?;
+    run_leg_by(alloc, keys, plan, input, &start, &scale, stop)
+}
+
+/// Adds what a leg gave to what the legs before it came to.
+fn take_in(reached: &mut Reached, finish: Finish) -> Result<(), AllocError>
+    ensures rows { OnOk result (reached.new.rows.items ≡ reached.old.rows.items ++ rows_of finish) }
+    ensures savepoint { OnOk result (reached.new.savepoint ≡ saved_of finish) }
+{
+    let (rows, savepoint) = match finish {
+        Finish::Ended(rows) => (rows, None),
+        Finish::Stopped(rows, savepoint) => (rows, Some(savepoint)),
+    };
+    reached.rows.append(&mut rows.into_vec())?;
+    reached.savepoint = savepoint;
+    Ok(())
+}
+
+/// Runs the leg that comes next.
+fn go_on(
+    alloc: Global,
+    keys: HashKeys,
+    plan: &Plan,
+    input: &Input,
+    leg: LegSpec,
+    reached: &mut Reached,
+) -> Result<(), LegFault>
+    requires belongs { BelongsTo plan.now input.now }
+    requires scale { IsScale plan.now leg.scale }
+    requires at { (cut : List (List ℕ)) × (number : ℕ) × IsAt plan.now input.now cut number reached.old }
+    ensures goes { (cut : List (List ℕ)) (number : ℕ) → IsAt plan.now input.now cut number reached.old → number < 2 ^ 63 → OnOk result (CanStop input.now.sources cut leg.stop × IsAfter plan.now input.now leg.stop (number + 1) reached.new) }
+    ensures refused { (cut : List (List ℕ)) (number : ℕ) → IsAt plan.now input.now cut number reached.old → number < 2 ^ 63 → IfErr result (IsStepRefusal input.now cut leg.stop) }
+{
+    let _law = rows_add_up();
+    let _sources = input.sources();
+    let finish = next_finish(alloc, keys, plan, input, leg, &reached.savepoint)?;
+    take_in(reached, finish)?;
+    Ok(())
+}
+
+/// Runs legs one after the other.
+fn run_all(
+    alloc: Global,
+    keys: HashKeys,
+    plan: &Plan,
+    input: &Input,
+    legs: Vec<LegSpec>,
+) -> Result<Reached, LegFault>
+    requires belongs { BelongsTo plan.now input.now }
+    requires scales { All (λ leg. IsScale plan.now leg.scale) legs.items }
+    requires list { are_legs legs.items ≡ true }
+    ensures { MatchResult result (HasRun plan.now input.now legs.items) (IsRunRefusal input.now legs.items) }
+{
+    let _law = nothing_due_at_first();
+    let _sources = input.sources();
+    let mut reached = Reached {
+        rows: Vec::new(alloc),
+        savepoint: None,
+    };
+    for leg in legs {
+        go_on(alloc, keys, plan, input, leg, &mut reached)?;
+    }
+    Ok(reached)
+}
+
+/// The spelling of a savepoint, if there is one.
+///
+/// # Errors
+///
+/// Only where memory runs out.
+pub fn saved_bytes(
+    alloc: Global,
+    savepoint: &Option<Savepoint>,
+) -> Result<Option<Vec<u8>>, AllocError>
+    ensures { IfOk result (λ bytes. option_map (λ b. b.items) bytes ≡ option_map savepoint_bytes savepoint.now) }
+{
+    match savepoint {
+        None => Ok(None),
+        Some(savepoint) => Ok(Some(encode(alloc, savepoint)?)),
+    }
+}
+
+/// What the legs of a job gave together: their rows, in the order of start and key, and the bytes of the savepoint that the
+/// last of them left, if it stopped.
+#[derive(Drop)]
+pub struct LegsEnd {
+    pub rows: Vec<Row>,
+    pub savepoint: Option<Vec<u8>>,
+}
+
+/// Brings the rows in order, and spells the savepoint.
+fn end_of(alloc: Global, reached: Reached) -> Result<LegsEnd, AllocError>
+    ensures rows { (f : PaneValue → Option RowValue) → AreRowsOf f reached.rows.items → IfOk result (λ end. AreRowsOf f end.rows.items × IsSortedByKey pane_of pane_cmp end.rows.items) }
+    ensures savepoint { IfOk result (λ end. option_map (λ b. b.items) end.savepoint ≡ option_map savepoint_bytes reached.savepoint) }
+{
+    let Reached {
+        mut rows,
+        savepoint,
+    } = reached;
+    sort_rows(&mut rows)?;
+    let savepoint = saved_bytes(alloc, &savepoint)?;
+    Ok(LegsEnd { rows, savepoint })
+}
+
+/// Runs the legs of a job one after the other, each from what the one before left and the first from nothing, and gives their
+/// rows together. The panes of the windows are hashed by the keys.
+///
+/// The input and the scales were read by the plan.
+///
+/// # Errors
+///
+/// `Legs` where there is no leg, or more than 1,024, or one before the last does not stop; else `StopRange` where a leg cannot
+/// stop as it is to, from where the one before stopped; `Memory` where memory runs out.
+pub fn run_legs_by(
+    alloc: Global,
+    keys: HashKeys,
+    plan: &Plan,
+    input: &Input,
+    legs: Vec<LegSpec>,
+) -> Result<LegsEnd, LegFault>
+    requires belongs { BelongsTo plan.now input.now }
+    requires scales { All (λ leg. IsScale plan.now leg.scale) legs.items }
+    ensures { MatchResult result (λ end. IsJobEnd plan.now input.now legs.items end.rows.items (option_map (λ b. b.items) end.savepoint)) (IsLegsRefusal input.now legs.items) }
+{
+    let _columns = plan.columns();
+    let _sources = input.sources();
+    let _law = end_is_due();
+    if !are_legs(&legs) {
+        return Err(LegFault::Legs);
+    }
+    let reached = run_all(alloc, keys, plan, input, legs)?;
+    Ok(end_of(alloc, reached)?)
+}
