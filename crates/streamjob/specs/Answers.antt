@@ -32,10 +32,15 @@ CannotRead result = (result ≡ Err Read) ⊎ (result ≡ Err Memory)
 abbrev pub AnswersRun : Result (Unit {0}) JobFault → Type 0
 AnswersRun result = CannotRead result ⊎ ((plan : List ℕ) × (input : List ℕ) × Answers (run_said plan input) result None None)
 
--- what comes of a leg: why there is none, or it is done, or what it gave could not be written
+-- the fault of a call that writes into memory: it takes no more only where there is none left
+abbrev pub buffered : JobFault → JobFault
+buffered Write = Memory
+buffered fault = fault
+
+-- what comes of a leg, which writes into memory: why there is none, or it is done, or what it gave could not be written
 abbrev pub after_leg : {X : Type 0} → Result X JobFault → Result (Unit {0}) JobFault → Type 0
 after_leg (Ok saved) result = IfErr result (λ fault. (fault ≡ Write) ⊎ (fault ≡ Memory))
-after_leg (Err fault) result = result ≡ Err fault
+after_leg (Err fault) result = result ≡ Err (buffered fault)
 
 -- the bytes of the savepoint that a leg leaves, or why there is no leg, and the bytes of its rows
 abbrev pub LegAnswer : Type 0

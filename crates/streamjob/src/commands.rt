@@ -3,6 +3,7 @@
 ghost use Rattle.std.specs.Prelude.{◌≡◌, ◌⊎◌, codes, is_some, option_map, IfErr};
 ghost use Rattle.clap.specs.Words.{found_of, first_value};
 ghost use Rattle.job.specs.Leg.{leg_said};
+ghost use Rattle.streamjob.specs.Answers as answers;
 ghost use Rattle.streamjob.specs.Answers.{word, AnswersRun, AnswersLeg, ComesOfLeg, AnswersLayout, AnswersShow, AnswersGroup, AnswersExplain};
 
 use crate::files::{file, optional_file};
@@ -80,6 +81,16 @@ fn give<R: Files + Print + RandomSource + AllocGlobal>(
     print(rt, rows)
 }
 
+/// The fault of a call that writes into memory: it takes no more only where there is none left.
+fn buffered(fault: JobFault) -> JobFault
+    ensures { result ≡ answers.buffered fault }
+{
+    match fault {
+        JobFault::Write => JobFault::Memory,
+        other => other,
+    }
+}
+
 /// Runs the leg that texts tell, and gives what it gives.
 fn done_leg<R: Files + Print + RandomSource + AllocGlobal>(
     rt: &R,
@@ -96,7 +107,7 @@ fn done_leg<R: Files + Print + RandomSource + AllocGlobal>(
     let mut rows = Vec::new(rt.alloc());
     match job_leg(rt.alloc(), keys, plan, input, scale, from, stop, &mut rows) {
         Ok(saved) => give(rt, path, saved.as_deref(), &rows),
-        Err(fault) => Err(fault),
+        Err(fault) => Err(buffered(fault)),
     }
 }
 

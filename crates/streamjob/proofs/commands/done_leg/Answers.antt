@@ -1,4 +1,4 @@
-use Rattle.std.proofs.Common.{◌≡◌, ℕ, List, [], Option, Some, option_map, Result, Ok, Err, sym, refl, subst}
+use Rattle.std.proofs.Common.{◌≡◌, ℕ, List, [], Option, Some, option_map, Result, Ok, Err, ap, sym, subst}
 use Rattle.job_texts.specs.declared.fault.JobFault.{JobFault}
 use Rattle.job.specs.Leg.{LegJob, TellsLeg, leg_said}
 use Rattle.streamjob.specs.Answers.{ComesOfLeg, after_leg}
@@ -18,5 +18,5 @@ returns-in-Ok g c =
 pub returns : goal.returns
 returns g c =
     let said = leg_said c.args.plan.now c.args.input.now c.args.scale.now (option_map (λ bytes. bytes.now) c.args.from) (option_map (λ word. word.now) c.args.stop) in
-    come (λ saved. option_map (λ bytes. bytes.items) saved) said c.new-rows.result.items c.job_leg.new.out.items c.new-rows.ensures.items c.job_leg.result c.job_leg.ensures.answers (Err c.in-Err.fault)
-    (subst (λ answer. after_leg answer (Err c.in-Err.fault)) (sym c.in-Err.is) refl)
+    come (λ saved. option_map (λ bytes. bytes.items) saved) said c.new-rows.result.items c.job_leg.new.out.items c.new-rows.ensures.items c.job_leg.result c.job_leg.ensures.answers (Err c.buffered.result)
+    (subst (λ answer. after_leg answer (Err c.buffered.result)) (sym c.in-Err.is) (ap Err c.buffered.ensures))
