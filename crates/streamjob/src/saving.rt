@@ -58,14 +58,25 @@ fn replace<R: Files + RandomSource + AllocGlobal>(
     Ok(())
 }
 
+/// The path of the file that a path leads to over symbolic links, or the path itself where none is there.
+fn path_of_file<R: Files + AllocGlobal>(rt: &R, path: &str) -> Result<String, JobFault>
+    ensures { IfErr result (λ fault. fault ≡ JobFault.Memory) }
+{
+    match fs::canonicalize(rt, path) {
+        Ok(found) => Ok(found.into_string()),
+        Err(error) if error.kind() == io::ErrorKind::OutOfMemory => Err(JobFault::Memory),
+        Err(_) => Ok(format!(in rt.alloc(); "{path}")?),
+    }
+}
+
 /// Whether something is at a path that is no file, as a pipe, a device or a folder.
 fn is_no_file<R: Files>(rt: &R, path: &str) -> bool {
     fs::metadata(rt, path).is_ok_and(|found| !found.is_file())
 }
 
 /// Writes bytes as the whole of the file at a path. They are written to a file beside it, which takes its name once they are
-/// on the disk: whatever happens meanwhile, the file holds what it held or all of the bytes. A pipe or a device is written to
-/// as it is.
+/// on the disk: whatever happens meanwhile, the file holds what it held or all of the bytes. Symbolic links to a file are
+/// followed. A pipe or a device is written to as it is.
 ///
 /// # Errors
 ///
@@ -78,7 +89,7 @@ pub fn save<R: Files + RandomSource + AllocGlobal>(
     ensures { IfErr result (λ fault. (fault ≡ JobFault.Write) ⊎ (fault ≡ JobFault.Memory)) }
 {
     if !is_no_file(rt, path) {
-        return replace(rt, path, bytes);
+        return replace(rt, path_of_file(rt, path)?.as_str(), bytes);
     }
     match fs::write(rt, path, bytes) {
         Ok(()) => Ok(()),
