@@ -5,11 +5,11 @@ import itertools
 from .jobs import (
     Refusal, SINK, ends_of, leg, nothing_of, read_cut, read_input, read_plan, read_scale, require_stop, text_of,
 )
-from .savepoints import check, decode
+from .savepoints import check, decode, encode, savepoint_of
 
 
 def answer(command, files, *words):
-    """The answer of a command, whose files are named by words."""
+    """The answer of a command, whose files are named by words; a file that it writes is put among them."""
     try:
         return 0, command(files, *words), ""
     except Refusal as refusal:
@@ -24,7 +24,7 @@ def run(files, plan, input_):
 
 
 def run_leg(files, plan, input_, scale, *options):
-    """The answer of `leg`, whose options are `--from FILE` and `--stop CUT`."""
+    """The answer of `leg`, whose options are `--from FILE`, `--stop CUT` and `--save FILE`."""
     options = dict(zip(options[::2], options[1::2]))
     plan = read_plan(files[plan])
     sources = read_input(plan, files[input_])
@@ -35,7 +35,9 @@ def run_leg(files, plan, input_, scale, *options):
     if "--stop" in options:
         cut = read_cut(options["--stop"])
         require_stop(sources, start, cut)
-    rows, _ = leg(plan, sources, start, cut)
+    rows, left = leg(plan, sources, start, cut)
+    if "--save" in options and "--stop" in options:
+        files[options["--save"]] = encode(savepoint_of(plan, sources, left))
     return text_of(plan, rows)
 
 

@@ -129,6 +129,12 @@ def cut_of(chance, sources, least):
     return [[count(*pair) for pair in zip(partitions, counts)] for partitions, counts in zip(sources, least)]
 
 
+def next_cut(chance, sources, least):
+    """A cut from the least on: the least itself, that of all lengths, or another."""
+    same, ends = [list(counts) for counts in least], [[len(entries) for entries in partitions] for partitions in sources]
+    return chance.choice([same, ends, *(cut_of(chance, sources, least) for _ in range(3))])
+
+
 def word_of(cut):
     return "/".join(",".join(map(str, counts)) for counts in cut)
 

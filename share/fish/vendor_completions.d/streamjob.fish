@@ -14,6 +14,7 @@ complete -c streamjob -n '__fish_seen_subcommand_from run' -F
 complete -c streamjob -n '__fish_seen_subcommand_from leg' -F
 complete -c streamjob -n '__fish_seen_subcommand_from leg' -l from -r -d 'File of the savepoint to go on from' -F
 complete -c streamjob -n '__fish_seen_subcommand_from leg' -l stop -r -d 'Where to stop, before the end of the input' -f
+complete -c streamjob -n '__fish_seen_subcommand_from leg' -l save -r -d 'File to write the savepoint to, if the leg stops' -F
 complete -c streamjob -n '__fish_seen_subcommand_from layout' -F
 complete -c streamjob -n '__fish_seen_subcommand_from show' -F
 complete -c streamjob -n '__fish_seen_subcommand_from group' -f
