@@ -1,27 +1,21 @@
 -- What a leg answers, from what reading its texts answers.
-use Rattle.std.proofs.Common.{◌≡◌, ◌∙◌, ℕ, Bool, true, false, List, Option, Result, Ok, Err, IsErr, IsErrAnd, refl, sym, ap, subst, inl, inr}
+use Rattle.std.proofs.Common.{◌≡◌, ◌∙◌, Bool, true, false, Result, Ok, Err, IsErr, IsErrAnd, refl, sym, ap, subst, inl, inr}
 use Rattle.std.specs.Prelude.{◌⊎◌}
 use Rattle.json_parts.specs.Answer.{unless, Fails}
-use Rattle.plan_model.specs.PlanData.{PlanData}
 use Rattle.logical_plan.specs.Answer.{plan_of_bytes}
 use Rattle.logical_plan.specs.Answer as plans
 use Rattle.logical_plan.specs.declared.fault.PlanFault.{PlanFault}
 use Rattle.logical_plan.specs.declared.fault.PlanFault.TheVariants as plan
-use Rattle.stream_model.specs.InputData.{InputData}
 use Rattle.stream_input.specs.Answer.{input_of_bytes}
 use Rattle.stream_input.specs.Answer as inputs
 use Rattle.stream_input.specs.declared.fault.InputFault.{InputFault}
 use Rattle.stream_input.specs.declared.fault.InputFault.TheVariants as input
-use Rattle.layout_rules.specs.ScaleData.{ScaleData}
 use Rattle.plan_scale.specs.Answer.{scale_of_bytes}
 use Rattle.plan_scale.specs.Answer as scales
 use Rattle.plan_scale.specs.declared.fault.ScaleFault.{ScaleFault}
 use Rattle.plan_scale.specs.declared.fault.ScaleFault.TheVariants as scale
-use Rattle.leg_lists.specs.declared.fault.LegFault.TheVariants.{StopRange}
-use Rattle.leg_lists.specs.declared.stop.Stop.{Stop}
-use Rattle.redistribute.specs.StartData.{StartData}
 use Rattle.job_texts.specs.declared.fault.JobFault.{JobFault}
-use Rattle.job_texts.specs.declared.fault.JobFault.TheVariants.{Plan, Input, Scale, Leg, Write, Memory}
+use Rattle.job_texts.specs.declared.fault.JobFault.TheVariants.{Plan, Input, Scale, Memory}
 use Rattle.job_texts.specs.Fault.{plan_fault, input_fault, scale_fault, is_memory}
 use Rattle.job.specs.declared.leg.LegEnd.{LegEnd}
 use Rattle.job.specs.Leg.{LegJob, and_then, as_job, GivesLeg, IsLegEnd, EndsLeg}

@@ -1,5 +1,5 @@
 -- What a leg gives, by how it ended.
-use Rattle.std.proofs.Common.{◌≡◌, ◌∙◌, ◌+◌, List, Some, None, refl, sym, subst, ap}
+use Rattle.std.proofs.Common.{◌≡◌, ◌∙◌, ◌+◌, List, Some, refl, sym, subst}
 use Rattle.plan_model.specs.Rows.{AreRowsOf}
 use Rattle.plan_model.specs.declared.spec.Row.{Row}
 use Rattle.dataflow_laws.specs.Inputs.{due_between}
@@ -11,7 +11,7 @@ use Rattle.savepoint_codec.specs.Layout.{IsSavepoint}
 use Rattle.savepoint_codec.specs.declared.savepoint.Contents.{Contents}
 use Rattle.redistribute.specs.StartData.{StartData, offsets_of}
 use Rattle.core_steps.specs.declared.finish.Finish.{Finish}
-use Rattle.core_steps.specs.declared.finish.Finish.TheVariants.{Ended, Stopped}
+use Rattle.core_steps.specs.declared.finish.Finish.TheVariants.{Stopped}
 use Rattle.core_steps.specs.Finishing.{finish_with}
 use Rattle.leg_runs.specs.Ending.{IsEndOf}
 use Rattle.plan_model.specs.PlanData.{PlanData}
@@ -23,10 +23,6 @@ module _ (p : PlanData) (i : InputData) (s : StartData) where
   abbrev job_to : Stop → LegJob
   job_to stop = record { plan = p; input = i; start = s; stop = stop }
 
-  by_end : (stop : Stop) (rows given : List Row) (savepoint : Contents) → finish_with stop rows savepoint ≡ Ended given → (rows ≡ given) × (stop ≡ Never)
-  by_end Never rows given savepoint e = (cc, refl)
-  by_end (At cut) rows given savepoint e = absurd cc
-
   by_stop : (stop : Stop) (rows given : List Row) (savepoint left : Contents) → finish_with stop rows savepoint ≡ Stopped given left → (rows ≡ given) × (savepoint ≡ left)
   by_stop Never rows given savepoint left e = absurd cc
   by_stop (At cut) rows given savepoint left e = (cc, cc)
@@ -34,9 +30,6 @@ module _ (p : PlanData) (i : InputData) (s : StartData) where
   module _ (stop : Stop) (finish : Finish) (e : IsEndOf p i s stop finish) where
     rows_are : (rows : List Row) → e.rows ≡ rows → AreLegRows (job_to stop) rows
     rows_are rows same = λ has. subst (AreRowsOf (due_between p i.sources (offsets_of s) (cut_to i (until_of stop)))) same (e.delivered has)
-
-    pub of_ended : (rows : List Row) → finish ≡ Ended rows → AreLegRows (job_to stop) rows × IsLegSaved (job_to stop) None
-    of_ended rows is = let b = by_end stop e.rows rows e.savepoint (sym e.is ∙ is) in (rows_are rows b.0, subst (λ z. IsLegSaved (job_to z) None) (sym b.1) refl)
 
     saved : (at : Stop) → stop ≡ at → (left : Contents) → e.savepoint ≡ left → IsSavepoint left → (rows : List Row) → finish_with at e.rows e.savepoint ≡ Stopped rows left → IsLegSaved (job_to at) (Some left)
     saved Never same left is sound rows ends = absurd cc

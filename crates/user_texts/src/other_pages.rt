@@ -54,13 +54,19 @@ F1 Read
         r#"F2 Write (status 3)
 
 Standard output took no more: the disk is full, or the other end of a pipe is closed. How much of the answer was taken is not known.
+`leg --save` also says it where the file cannot be written: a folder stands there, its folder is missing or takes no files of yours, or the disk
+is full. Then no row was printed, and the file is as it was.
 
 ```console
 $ streamjob group 7 128 4 > /dev/full
 F2 Write
+$ streamjob leg plan.json input.json scale.json --stop 1 --save no-such-folder/savepoint
+F2 Write
 ```
 
-Throw away what was written, make room and run again. After `| head` it may be ignored.
+Throw away what was written, make room and run again. After `| head` it may be ignored. Where the rows of a leg were cut off its savepoint
+is there all the same. Run the same leg again, from what it began with, since the next leg does not print them; so give `--save` another
+file than `--from`.
 "#,
     ),
     (

@@ -1,4 +1,4 @@
-use Rattle.std.proofs.Common.{◌≡◌, Ok, option_map, refl}
+use Rattle.std.proofs.Common.{Ok, option_map}
 use Rattle.job.specs.Leg.{and_then, leg_job, job_with, start_said, stop_said}
 use Rattle.job.proofs.LegAnswers.{refused, read, told}
 use Rattle.job.proofs.leg.leg_at_scale.Goals as goal
