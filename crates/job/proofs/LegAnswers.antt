@@ -18,13 +18,14 @@ use Rattle.job_texts.specs.declared.fault.JobFault.{JobFault}
 use Rattle.job_texts.specs.declared.fault.JobFault.TheVariants.{Plan, Input, Scale, Memory}
 use Rattle.job_texts.specs.Fault.{plan_fault, input_fault, scale_fault, is_memory}
 use Rattle.job.specs.declared.leg.LegEnd.{LegEnd}
-use Rattle.job.specs.Leg.{LegJob, and_then, as_job, GivesLeg, IsLegEnd, EndsLeg}
+use Rattle.job.specs.Ends.{and_then, as_job, Ends}
+use Rattle.job.specs.Leg.{LegJob, GivesLeg, IsLegEnd, EndsLeg}
 
 only : {P Q : Type 0} (b : Bool) → (P → Q) → unless b P → unless b Q
 only true f h = tt
 only false f h = f h
 
-given : {P : Type 0} (b : Bool) → P → unless b P
+pub given : {P : Type 0} (b : Bool) → P → unless b P
 given true h = tt
 given false h = h
 
@@ -80,22 +81,22 @@ pub told_of : {X F : Type 0} (said : Result X F) (fault_of : F → JobFault) (to
 told_of said fault_of told (inl e) = subst (λ z. Fails is_memory z (as_job fault_of said)) (sym e) tt
 told_of said fault_of told (inr (f, s, e)) = given (is_memory told) (ap (as_job fault_of) s ∙ ap Err (sym e))
 
-err_is : {T E : Type 0} (r : Result T E) (e : E) → IsErr r → IsErrAnd r (λ y. y ≡ e) → r ≡ Err e
+pub err_is : {T E : Type 0} (r : Result T E) (e : E) → IsErr r → IsErrAnd r (λ y. y ≡ e) → r ≡ Err e
 err_is (Ok x) e fails is = absurd cc
 err_is (Err y) e fails is = ap Err is
 
--- ---- the texts of a leg
+-- ---- the texts of a job
 
--- a text is refused
-pub refused : {X : Type 0} (next : X → Result LegJob JobFault) (said : Result X JobFault) (fault : JobFault) (result : Result LegEnd JobFault) → IsErr result → IsErrAnd result (λ e. e ≡ fault) → Fails is_memory fault said
-    → EndsLeg (and_then next said) result
-refused next said fault result fails gives is = subst (EndsLeg (and_then next said)) (sym (err_is result fault fails gives)) (only (is_memory fault) (λ e. inl (ap (and_then next) e)) is)
+module _ {J T : Type 0} (Can : J → Type 0) (Is : J → T → Type 0) where
+  -- a text is refused
+  pub refused : {X : Type 0} (next : X → Result J JobFault) (said : Result X JobFault) (fault : JobFault) (result : Result T JobFault) → IsErr result → IsErrAnd result (λ e. e ≡ fault) → Fails is_memory fault said → Ends Can Is (and_then next said) result
+  refused next said fault result fails gives is = subst (Ends Can Is (and_then next said)) (sym (err_is result fault fails gives)) (only (is_memory fault) (λ e. inl (ap (and_then next) e)) is)
 
--- it is read, and the leg ends so
-pub read : {X : Type 0} (next : X → Result LegJob JobFault) (said : Result X JobFault) (x : X) (result : Result LegEnd JobFault) → said ≡ Ok x → EndsLeg (next x) result → EndsLeg (and_then next said) result
-read next said x result is ends = subst (λ z. EndsLeg (and_then next z) result) (sym is) ends
+  -- it is read, and the job ends so
+  pub read : {X : Type 0} (next : X → Result J JobFault) (said : Result X JobFault) (x : X) (result : Result T JobFault) → said ≡ Ok x → Ends Can Is (next x) result → Ends Can Is (and_then next said) result
+  read next said x result is ends = subst (λ z. Ends Can Is (and_then next z) result) (sym is) ends
 
--- all are read
+-- all texts of a leg are read
 pub told : (job : LegJob) (result : Result LegEnd JobFault) → GivesLeg (IsLegEnd job) job result → EndsLeg (Ok job) result
 told job (Ok end) gives = (job, refl, gives.0, gives.1)
 told job (Err fault) late = only (is_memory fault) (λ l. inr (job, refl, l.0, l.1)) late

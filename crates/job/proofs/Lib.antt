@@ -3,3 +3,4 @@ mod LayoutAnswers
 mod ShowAnswers
 mod LegAnswers
 mod LegEnds
+mod RunAnswers

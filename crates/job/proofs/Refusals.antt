@@ -1,27 +1,17 @@
 -- What a job answers, from what reading its texts answers.
 use Rattle.std.proofs.Common.{◌≡◌, ◌∙◌, ℕ, List, Option, Result, Ok, Err, IsErr, IsErrAnd, MatchResult, refl, sym, ap, subst}
-use Rattle.std.specs.Io.KnownBytes.{Appends}
 use Rattle.plan_model.specs.PlanData.{PlanData}
-use Rattle.logical_plan.specs.Answer.{plan_of_bytes}
 use Rattle.logical_plan.specs.Answer as plans
 use Rattle.logical_plan.specs.declared.fault.PlanFault.{PlanFault}
 use Rattle.logical_plan.specs.declared.fault.PlanFault.TheVariants as plan
-use Rattle.stream_model.specs.InputData.{InputData}
-use Rattle.stream_input.specs.Answer.{input_of_bytes}
-use Rattle.stream_input.specs.Answer as inputs
-use Rattle.stream_model.specs.PlanRows.{plan_rows}
-use Rattle.job_texts.specs.Text.{IsTextOf}
-use Rattle.stream_input.specs.declared.fault.InputFault.{InputFault}
-use Rattle.stream_input.specs.declared.fault.InputFault.TheVariants as input
 use Rattle.layout_rules.specs.ScaleData.{ScaleData}
 use Rattle.plan_scale.specs.Answer as scales
 use Rattle.plan_scale.specs.declared.fault.ScaleFault.{ScaleFault}
 use Rattle.plan_scale.specs.declared.fault.ScaleFault.TheVariants as scale
 use Rattle.job_texts.specs.declared.fault.JobFault.{JobFault}
-use Rattle.job_texts.specs.declared.fault.JobFault.TheVariants.{Plan, Input, Scale, Write}
-use Rattle.job_texts.specs.Fault.{plan_fault, input_fault, scale_fault}
+use Rattle.job_texts.specs.declared.fault.JobFault.TheVariants.{Plan, Scale, Write}
+use Rattle.job_texts.specs.Fault.{plan_fault, scale_fault}
 use Rattle.job_texts.specs.Tells.{Tells}
-use Rattle.job.specs.Run.{Answers, WritesRows, input_said, plan_said, run_said}
 
 err_is : {T E : Type 0} (r : Result T E) (e : E) → IsErr r → IsErrAnd r (λ y. y ≡ e) → r ≡ Err e
 err_is (Ok x) e fails is = absurd cc
@@ -52,20 +42,6 @@ tells_plan writes said from plan.WindowOffset is next = next is
 tells_plan writes said from plan.Panes is next = next is
 tells_plan writes said from plan.Aggregates is next = next is
 
-pub tells_input : {X : Type 0} (writes : X → Type 0) (said : Result X JobFault) (from : Result InputData InputFault) (fault : InputFault) → inputs.Fails inputs.is_memory fault from → (from ≡ Err fault → said ≡ Err (Input fault))
-    → Tells writes said (Err (input_fault fault))
-tells_input writes said from input.Memory is next = tt
-tells_input writes said from input.NotJson is next = next is
-tells_input writes said from input.Member is next = next is
-tells_input writes said from input.Source is next = next is
-tells_input writes said from input.Partitions is next = next is
-tells_input writes said from input.Width is next = next is
-tells_input writes said from input.Number is next = next is
-tells_input writes said from input.Rows is next = next is
-tells_input writes said from input.TimeRange is next = next is
-tells_input writes said from input.TooMany is next = next is
-tells_input writes said from (input.LateRecord source partition entry) is next = next is
-
 pub tells_scale : {X : Type 0} (writes : X → Type 0) (said : Result X JobFault) (from : Result ScaleData ScaleFault) (fault : ScaleFault) → scales.Fails scales.is_memory fault from → (from ≡ Err fault → said ≡ Err (Scale fault))
     → Tells writes said (Err (scale_fault fault))
 tells_scale writes said from scale.Memory is next = tt
@@ -85,31 +61,3 @@ tells_written writes said x result read wrote = subst (λ s. Tells writes s resu
     by_case : (r : Result (Unit {0}) JobFault) → MatchResult r (λ _. writes x) (λ fault. fault ≡ Write) → Tells writes (Ok x) r
     by_case (Ok u) written = written
     by_case (Err fault) failed = subst (λ f. Tells writes (Ok x) (Err f)) (sym failed) refl
-
-pub plan_refused : (bytes input : List ℕ) (fault : PlanFault) (result : Result (Unit {0}) JobFault) (old new : Option (List ℕ)) → plans.Fails plans.is_memory fault (plan_of_bytes bytes)
-    → IsErr result → IsErrAnd result (λ e. e ≡ plan_fault fault) → Answers (run_said bytes input) result old new
-unfolding run_said
-plan_refused bytes input fault result old new is fails gives =
-    tells_err (WritesRows old new) (run_said bytes input) (plan_fault fault) result fails gives (tells_plan (WritesRows old new) (run_said bytes input) (plan_of_bytes bytes) fault is (λ e. ap (plan_said input) e))
-
-pub input_refused : (bytes input : List ℕ) (plan : PlanData) (fault : InputFault) (result : Result (Unit {0}) JobFault) (old new : Option (List ℕ)) → plan_of_bytes bytes ≡ Ok plan
-    → inputs.Fails inputs.is_memory fault (input_of_bytes plan input) → IsErr result → IsErrAnd result (λ e. e ≡ input_fault fault) → Answers (run_said bytes input) result old new
-unfolding run_said
-input_refused bytes input plan fault result old new read is fails gives =
-    tells_err (WritesRows old new) (run_said bytes input) (input_fault fault) result fails gives
-    (tells_input (WritesRows old new) (run_said bytes input) (input_of_bytes plan input) fault is (λ e. ap (plan_said input) read ∙ ap (input_said plan) e))
-
-run_is : (bytes input : List ℕ) (plan : PlanData) (found : InputData) → plan_of_bytes bytes ≡ Ok plan → input_of_bytes plan input ≡ Ok found → run_said bytes input ≡ Ok (plan, found)
-unfolding run_said
-run_is bytes input plan found read is = ap (plan_said input) read ∙ ap (input_said plan) is
-
--- both texts are read, and the text of the rows is written or isn't
-pub written : (bytes input : List ℕ) (plan : PlanData) (found : InputData) (text : List ℕ) (result : Result (Unit {0}) JobFault) (old new : Option (List ℕ))
-    → plan_of_bytes bytes ≡ Ok plan → input_of_bytes plan input ≡ Ok found → IsTextOf (plan_rows plan found.sources) text
-    → MatchResult result (λ _. Appends old new text) (λ fault. fault ≡ Write) → Answers (run_said bytes input) result old new
-written bytes input plan found text result old new read is rows wrote =
-    tells_written (WritesRows old new) (run_said bytes input) (plan, found) result (run_is bytes input plan found read is) (with_rows result wrote)
-  where
-    with_rows : (r : Result (Unit {0}) JobFault) → MatchResult r (λ _. Appends old new text) (λ fault. fault ≡ Write) → MatchResult r (λ _. WritesRows old new (plan, found)) (λ fault. fault ≡ Write)
-    with_rows (Ok u) appended = (text, rows, appended)
-    with_rows (Err fault) failed = failed

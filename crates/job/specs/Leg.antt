@@ -2,7 +2,6 @@
 use Rattle.std.specs.Prelude.{◌≡◌, ◌⊎◌, ◌+◌, ℕ, List, Option, Some, None, Result, Ok, Err, option_map, string_bytes}
 use Rattle.std.specs.Io.KnownBytes.{Appends}
 use Rattle.std.specs.Option.{option_map_or}
-use Rattle.std.specs.Result.{result_map_both}
 use Rattle.json_parts.specs.Answer.{unless}
 use Rattle.plan_model.specs.PlanData.{PlanData}
 use Rattle.plan_model.specs.declared.spec.Row.{Row}
@@ -33,6 +32,7 @@ use Rattle.job_texts.specs.declared.fault.JobFault.TheVariants.{Plan, Input, Sca
 use Rattle.job_texts.specs.Cut.{cut_said}
 use Rattle.job_texts.specs.Fault.{is_memory}
 use Rattle.job_texts.specs.Text.{IsTextOf}
+use Rattle.job.specs.Ends.{and_then, as_job, Ends, Does}
 
 -- what the texts of a leg say, but for its scale, which changes no row
 pub record LegJob : Type 0 where
@@ -43,15 +43,6 @@ pub record LegJob : Type 0 where
 
 abbrev pub leg_job : PlanData → InputData → StartData → Stop → LegJob
 leg_job p i s t = record { plan = p; input = i; start = s; stop = t }
-
--- an answer that goes on with another, unless it is a fault
-abbrev pub and_then : {X Y : Type 0} → (X → Result Y JobFault) → Result X JobFault → Result Y JobFault
-and_then next (Ok x) = next x
-and_then next (Err fault) = Err fault
-
--- a reader's answer, with its fault as one of a job
-abbrev pub as_job : {X F : Type 0} → (F → JobFault) → Result X F → Result X JobFault
-as_job fault_of said = result_map_both (λ x. x) fault_of said
 
 -- where the leg begins: at the savepoint that the bytes spell, or from nothing
 unfoldable pub start_said : PlanData → InputData → Option (List ℕ) → Result StartData JobFault
@@ -117,20 +108,14 @@ abbrev pub GivesLeg : {X : Type 0} → (X → Type 0) → LegJob → Result X Jo
 GivesLeg is job (Ok x) = CanStopSo job × is x
 GivesLeg is job (Err fault) = unless (is_memory fault) ((fault ≡ Leg StopRange) × ¬ CanStopSo job)
 
--- where the answer is Ok, it is of the leg that texts say; else the refusal is the first that they give, or that of their leg
+-- what reading the texts of a leg and running it answers
 abbrev pub EndsLeg : Result LegJob JobFault → Result LegEnd JobFault → Type 0
-EndsLeg said (Ok end) = (job : LegJob) × (said ≡ Ok job) × CanStopSo job × IsLegEnd job end
-EndsLeg said (Err fault) = unless (is_memory fault) ((said ≡ Err fault) ⊎ ((job : LegJob) × (said ≡ Ok job) × (fault ≡ Leg StopRange) × ¬ CanStopSo job))
-
--- why a job that was read is not done: the leg cannot stop so, or what it gives cannot be written
-abbrev pub IsLate : LegJob → JobFault → Type 0
-IsLate job fault = ((fault ≡ Leg StopRange) × ¬ CanStopSo job) ⊎ ((fault ≡ Write) × CanStopSo job)
+EndsLeg said result = Ends CanStopSo IsLegEnd said result
 
 -- the leg's text is written, and the bytes are those that it leaves
-abbrev pub IsLegDone : LegJob → Option (List ℕ) → Option (List ℕ) → Option (List ℕ) → Type 0
-IsLegDone job saved old new = CanStopSo job × AreLegBytes job saved × ((text : List ℕ) × IsLegText job text × Appends old new text)
+abbrev pub IsLegDone : Option (List ℕ) → Option (List ℕ) → LegJob → Option (List ℕ) → Type 0
+IsLegDone old new job saved = AreLegBytes job saved × ((text : List ℕ) × IsLegText job text × Appends old new text)
 
 -- where the answer is Ok, the leg is done; else the refusal is the first that the texts give, or one of the job that they say
 abbrev pub TellsLeg : {X : Type 0} → (X → Option (List ℕ)) → Result LegJob JobFault → Result X JobFault → Option (List ℕ) → Option (List ℕ) → Type 0
-TellsLeg view said (Ok saved) old new = (job : LegJob) × (said ≡ Ok job) × IsLegDone job (view saved) old new
-TellsLeg view said (Err fault) old new = unless (is_memory fault) ((said ≡ Err fault) ⊎ ((job : LegJob) × (said ≡ Ok job) × IsLate job fault))
+TellsLeg view said result old new = Does CanStopSo (λ job saved. IsLegDone old new job (view saved)) said result

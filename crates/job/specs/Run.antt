@@ -1,37 +1,71 @@
 -- What running a job answers.
-use Rattle.std.specs.Prelude.{ℕ, List, Option, Result, Ok, Err}
+use Rattle.std.specs.Prelude.{◌≡◌, ℕ, List, Option, Some, None, Result, Ok}
 use Rattle.std.specs.Io.KnownBytes.{Appends}
 use Rattle.plan_model.specs.PlanData.{PlanData}
+use Rattle.plan_model.specs.declared.spec.Pane.{Pane}
+use Rattle.plan_model.specs.declared.spec.Row.{Row}
 use Rattle.logical_plan.specs.Answer.{plan_of_bytes}
 use Rattle.stream_model.specs.InputData.{InputData}
+use Rattle.stream_model.specs.PlanRows.{plan_rows, due_rows}
+use Rattle.stream_model.specs.Watermarks.{empty_cut}
 use Rattle.stream_input.specs.Answer.{input_of_bytes}
-use Rattle.stream_model.specs.PlanRows.{plan_rows}
-use Rattle.job_texts.specs.Text.{IsTextOf}
-use Rattle.logical_plan.specs.declared.fault.PlanFault.{PlanFault}
-use Rattle.stream_input.specs.declared.fault.InputFault.{InputFault}
+use Rattle.leg_lists.specs.Answer.{legs_of_bytes}
+use Rattle.leg_lists.specs.declared.leg.LegSpec.{LegSpec}
 use Rattle.job_texts.specs.declared.fault.JobFault.{JobFault}
 use Rattle.job_texts.specs.declared.fault.JobFault.TheVariants.{Plan, Input}
-use Rattle.job_texts.specs.Tells.{Tells}
+use Rattle.job_texts.specs.Fault.{leg_fault}
+use Rattle.job_texts.specs.Text.{IsTextOf}
+use Rattle.job_legs.specs.Running.{CanRun, cut_of}
+use Rattle.job.specs.Ends.{and_then, as_job, Ends, Does}
 
--- a plan and an input for it
-abbrev pub Job : Type 0
-Job = PlanData × InputData
+-- what the texts of a job say: with a list of legs, it runs in these
+pub record RunJob : Type 0 where
+  pub plan : PlanData
+  pub input : InputData
+  pub legs : Option (List LegSpec)
 
-abbrev pub input_said : PlanData → Result InputData InputFault → Result Job JobFault
-input_said plan (Ok input) = Ok (plan, input)
-input_said plan (Err fault) = Err (Input fault)
+abbrev pub run_job : PlanData → InputData → Option (List LegSpec) → RunJob
+run_job p i legs = record { plan = p; input = i; legs = legs }
 
-abbrev pub plan_said : List ℕ → Result PlanData PlanFault → Result Job JobFault
-plan_said input (Ok plan) = input_said plan (input_of_bytes plan input)
-plan_said input (Err fault) = Err (Plan fault)
+-- the legs that bytes are
+unfoldable pub legs_in : PlanData → InputData → List ℕ → Result RunJob JobFault
+legs_in p i bytes = and_then (λ legs. Ok (run_job p i (Some legs))) (as_job leg_fault (legs_of_bytes p bytes))
 
--- the plan and the input that the bytes are, or the first refusal: the plan's, else the input's
-unfoldable pub run_said : List ℕ → List ℕ → Result Job JobFault
-run_said plan input = plan_said input (plan_of_bytes plan)
+-- with a plan and an input that were read, and with a plan
+unfoldable pub run_with : PlanData → InputData → Option (List ℕ) → Result RunJob JobFault
+run_with p i None = Ok (run_job p i None)
+run_with p i (Some bytes) = legs_in p i bytes
 
--- what the writer held has grown by exactly the text of the plan's rows
-abbrev pub WritesRows : Option (List ℕ) → Option (List ℕ) → Job → Type 0
-WritesRows old new job = (text : List ℕ) × IsTextOf (plan_rows job.0 job.1.sources) text × Appends old new text
+unfoldable pub run_by : PlanData → List ℕ → Option (List ℕ) → Result RunJob JobFault
+run_by p input legs = and_then (λ i. run_with p i legs) (as_job Input (input_of_bytes p input))
 
-abbrev pub Answers : Result Job JobFault → Result (Unit {0}) JobFault → Option (List ℕ) → Option (List ℕ) → Type 0
-Answers said result old new = Tells (WritesRows old new) said result
+-- what the texts say, or the first refusal: the plan's, else the input's, else that of the list of legs
+unfoldable pub run_said : List ℕ → List ℕ → Option (List ℕ) → Result RunJob JobFault
+run_said plan input legs = and_then (λ p. run_by p input legs) (as_job Plan (plan_of_bytes plan))
+
+-- its legs, if it runs in legs, can stop as they are to, each from where the one before stopped
+abbrev pub can_run : InputData → Option (List LegSpec) → Type 0
+can_run i None = Unit {0}
+can_run i (Some legs) = CanRun i (empty_cut i.sources) legs
+
+abbrev pub CanRunSo : RunJob → Type 0
+CanRunSo job = can_run job.input job.legs
+
+-- the rows of a job: all of the plan's, or those that are due where its last leg comes to
+abbrev pub rows_in : PlanData → InputData → Option (List LegSpec) → Pane → Option Row
+rows_in p i None = plan_rows p i.sources
+rows_in p i (Some legs) = due_rows p i.sources (cut_of i legs)
+
+abbrev pub IsRunText : RunJob → List ℕ → Type 0
+IsRunText job text = IsTextOf (rows_in job.plan job.input job.legs) text
+
+-- what reading the texts of a job and running it answers
+abbrev pub EndsRun : {X : Type 0} → (X → List ℕ) → Result RunJob JobFault → Result X JobFault → Type 0
+EndsRun view said result = Ends CanRunSo (λ job text. IsRunText job (view text)) said result
+
+-- what the writer held has grown by exactly the text of the job's rows
+abbrev pub WritesRows : Option (List ℕ) → Option (List ℕ) → RunJob → Type 0
+WritesRows old new job = (text : List ℕ) × IsRunText job text × Appends old new text
+
+abbrev pub Answers : Result RunJob JobFault → Result (Unit {0}) JobFault → Option (List ℕ) → Option (List ℕ) → Type 0
+Answers said result old new = Does CanRunSo (λ job _. WritesRows old new job) said result

@@ -4,13 +4,13 @@ ghost use Rattle.std.specs.Prelude.{◌≡◌, IfOk, option_map};
 ghost use Rattle.json_parts.specs.Answer.{Gives};
 ghost use Rattle.layout_rules.specs.Scale.{IsScale};
 ghost use Rattle.redistribute.specs.Begins.{IsStartIn};
-ghost use Rattle.savepoint_codec.specs.Layout.{savepoint_bytes};
 ghost use Rattle.stream_model.specs.InputData.{BelongsTo};
 ghost use Rattle.job_texts.specs.Fault.{is_memory};
 ghost use Rattle.job_texts.specs.Tells.{KeepsWriter};
 ghost use Rattle.job.specs.Leg.{AreLegRows, EndsLeg, GivesLeg, IsLegEnd, IsLegSaved, TellsLeg, job_with, leg_by, leg_job, leg_on, leg_said, start_said, stop_said};
 
 use job_texts::{JobFault, read_cut, sort_rows, text_of_rows, write_text};
+use job_legs::saved_bytes;
 use leg_lists::Stop;
 use leg_runs::{Finish, run_leg_by};
 use logical_plan::Plan;
@@ -18,8 +18,8 @@ use plan_compiler::Scale;
 use plan_model::Row;
 use redistribute::Start;
 use restore::check;
-use savepoint_codec::{Savepoint, decode, encode};
-use std::alloc::{AllocError, Global};
+use savepoint_codec::{Savepoint, decode};
+use std::alloc::Global;
 use std::io::Write;
 use stream_input::Input;
 use window_state::HashKeys;
@@ -89,16 +89,6 @@ fn leg_rows(
                 savepoint: Some(savepoint),
             })
         }
-    }
-}
-
-/// The spelling of a savepoint, if there is one.
-fn saved_bytes(alloc: Global, savepoint: &Option<Savepoint>) -> Result<Option<Vec<u8>>, AllocError>
-    ensures { IfOk result (λ bytes. option_map (λ b. b.items) bytes ≡ option_map savepoint_bytes savepoint.now) }
-{
-    match savepoint {
-        None => Ok(None),
-        Some(savepoint) => Ok(Some(encode(alloc, savepoint)?)),
     }
 }
 

@@ -23,6 +23,7 @@ fn a_million_rows_that_pass_and_some_that_do_not(rt: HostRuntime) -> Result<(), 
             keys,
             plan.as_bytes(),
             input.as_bytes(),
+            None,
             &mut out,
         )?;
         assert_eq!(rt; out.as_slice(), want.as_bytes());

@@ -1,14 +1,16 @@
 //! A job from bytes to bytes.
 
-ghost use Rattle.std.specs.Prelude.{◌≡◌, MatchResult, string_bytes};
+ghost use Rattle.std.specs.Prelude.{◌≡◌, MatchResult, option_map, string_bytes};
 ghost use Rattle.stream_model.specs.InputData.{BelongsTo};
 ghost use Rattle.stream_model.specs.PlanRows.{plan_rows};
 ghost use Rattle.plan_model.specs.Rows.{AreRowsOf};
 ghost use Rattle.job_texts.specs.Text.{IsTextOf};
-ghost use Rattle.job.specs.Run.{Answers, run_said};
+ghost use Rattle.job.specs.Run.{Answers, EndsRun, legs_in, run_by, run_said, run_with};
 ghost use Rattle.job_texts.specs.Tells.{KeepsWriter};
 
 use job_texts::{JobFault, sort_rows, text_of_rows, write_text};
+use job_legs::run_legs_by;
+use leg_lists::read_legs;
 use leg_runs::run_leg;
 use logical_plan::Plan;
 use plan_compiler::Scale;
@@ -40,24 +42,86 @@ fn rows_text(alloc: Global, keys: HashKeys, plan: &Plan, input: &Input) -> Resul
     Ok(text_of_rows(alloc, &rows)?)
 }
 
-/// Runs a plan on a bounded input, and writes the text of the plan's rows: one line for each key and
-/// nonempty window that the having conditions keep, in the order of start and key.
+/// The text of the rows of a job that runs in legs.
+fn text_of_legs(
+    alloc: Global,
+    keys: HashKeys,
+    plan: &Plan,
+    input: &Input,
+    legs: &[u8],
+) -> Result<String, JobFault>
+    requires { BelongsTo plan.now input.now }
+    ensures { EndsRun string_bytes (legs_in plan.now input.now legs.now) result }
+{
+    let legs = read_legs(alloc, plan, legs)?;
+    let end = run_legs_by(alloc, keys, plan, input, legs)?;
+    Ok(text_of_rows(alloc, &end.rows)?)
+}
+
+/// The job of a plan and an input.
+fn run_on_input(
+    alloc: Global,
+    keys: HashKeys,
+    plan: &Plan,
+    input: &Input,
+    legs: Option<&[u8]>,
+) -> Result<String, JobFault>
+    requires { BelongsTo plan.now input.now }
+    ensures { EndsRun string_bytes (run_with plan.now input.now (option_map (λ bytes. bytes.now) legs.entry)) result }
+{
+    match legs {
+        Some(legs) => text_of_legs(alloc, keys, plan, input, legs),
+        None => rows_text(alloc, keys, plan, input),
+    }
+}
+
+/// The job of a plan.
+fn run_of_plan(
+    alloc: Global,
+    keys: HashKeys,
+    plan: &Plan,
+    input: &[u8],
+    legs: Option<&[u8]>,
+) -> Result<String, JobFault>
+    ensures { EndsRun string_bytes (run_by plan.now input.now (option_map (λ bytes. bytes.now) legs.entry)) result }
+{
+    let input = Input::read(alloc, plan, input)?;
+    run_on_input(alloc, keys, plan, &input, legs)
+}
+
+/// The job that texts tell.
+fn run_of_texts(
+    alloc: Global,
+    keys: HashKeys,
+    plan: &[u8],
+    input: &[u8],
+    legs: Option<&[u8]>,
+) -> Result<String, JobFault>
+    ensures { EndsRun string_bytes (run_said plan.now input.now (option_map (λ bytes. bytes.now) legs.entry)) result }
+{
+    let plan = Plan::read(alloc, plan)?;
+    run_of_plan(alloc, keys, &plan, input, legs)
+}
+
+/// Runs a plan on a bounded input, in legs where a list of them is given, each from what the one before left, and writes the
+/// text of the rows: one line for each key and nonempty window that the having conditions keep, in the order of start and key.
+/// Where the last leg stops at a cut, these are the rows that are due there.
 ///
 /// # Errors
 ///
-/// The plan's fault, else the input's; `Write` where the writer refuses the text; `Memory`.
+/// The plan's fault, else the input's, else that of the list of legs; then `Leg` with `StopRange` where a leg cannot stop as it
+/// is to, from where the one before stopped; `Write` where the writer refuses the text; `Memory`.
 pub fn job_run<W: Write>(
     alloc: Global,
     keys: HashKeys,
     plan: &[u8],
     input: &[u8],
+    legs: Option<&[u8]>,
     out: &mut W,
 ) -> Result<(), JobFault>
-    ensures answers { Answers (run_said plan.now input.now) result (W.contents out.old) (W.contents out.new) }
+    ensures answers { Answers (run_said plan.now input.now (option_map (λ bytes. bytes.now) legs.entry)) result (W.contents out.old) (W.contents out.new) }
     ensures kept { KeepsWriter result (W.contents out.old) (W.contents out.new) }
 {
-    let plan = Plan::read(alloc, plan)?;
-    let input = Input::read(alloc, &plan, input)?;
-    let text = rows_text(alloc, keys, &plan, &input)?;
+    let text = run_of_texts(alloc, keys, plan, input, legs)?;
     write_text(out, text.as_str())
 }

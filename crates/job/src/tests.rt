@@ -22,6 +22,7 @@ fn rows_by_start_and_key(rt: HostRuntime) -> Result<(), Fail> {
         HashKeys::random(&rt)?,
         PLAN.as_bytes(),
         INPUT.as_bytes(),
+        None,
         &mut out,
     )?;
     assert_eq!(rt; out.as_slice(), ROWS.as_bytes());
@@ -83,6 +84,7 @@ fn rows_of_other_plans(rt: HostRuntime) -> Result<(), Fail> {
             HashKeys::random(&rt)?,
             plan.as_bytes(),
             input.as_bytes(),
+            None,
             &mut out,
         )?;
         assert_eq!(rt; out.as_slice(), want.as_bytes(), "at {rows}");
@@ -108,6 +110,7 @@ fn refusals_write_nothing(rt: HostRuntime) -> Result<(), Fail> {
             HashKeys::random(&rt)?,
             plan.as_bytes(),
             input.as_bytes(),
+            None,
             &mut out,
         )
         .err()
@@ -147,6 +150,7 @@ fn a_writer_that_is_full(rt: HostRuntime) {
         HashKeys::random(&rt).expect(&rt, "no random bytes"),
         PLAN.as_bytes(),
         INPUT.as_bytes(),
+        None,
         &mut out,
     );
     assert_eq!(rt; said.err(), Some(JobFault::Write));

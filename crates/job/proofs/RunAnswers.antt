@@ -1,0 +1,75 @@
+-- What the legs of a job answer, from what reading their list answers.
+use Rattle.std.proofs.Common.{◌≡◌, ◌∙◌, ℕ, Bool, true, false, List, Option, Some, None, Result, Ok, Err, MatchResult, refl, sym, ap, subst, inl, inr, if◌then◌else◌}
+use Rattle.std.specs.Option.{option_map_or}
+use Rattle.json_parts.specs.Answer.{unless}
+use Rattle.json_parts.specs.Parts.{json_of}
+use Rattle.serde_json.specs.Data.{Data}
+use Rattle.plan_model.specs.PlanData.{PlanData}
+use Rattle.stream_model.specs.InputData.{InputData}
+use Rattle.stream_model.specs.PlanRows.{plan_rows}
+use Rattle.leg_lists.specs.Answer as lists
+use Rattle.leg_lists.specs.Answer.{if_legs, legs_of_bytes, legs_of_json, legs_or_fault}
+use Rattle.leg_lists.specs.LegsText.{LegSaid, legs_text}
+use Rattle.leg_lists.specs.Said.{◌>>=◌, legs_from}
+use Rattle.leg_lists.specs.Requirements.{are_legs}
+use Rattle.leg_lists.specs.declared.fault.LegFault.{LegFault}
+use Rattle.leg_lists.specs.declared.fault.LegFault.TheVariants as leg
+use Rattle.leg_lists.specs.declared.leg.LegSpec.{LegSpec}
+use Rattle.job_texts.specs.declared.fault.JobFault.{JobFault}
+use Rattle.job_texts.specs.declared.fault.JobFault.TheVariants.{Memory}
+use Rattle.job_texts.specs.Fault.{leg_fault, is_memory}
+use Rattle.job_texts.specs.Text.{IsTextOf}
+use Rattle.job_legs.specs.Ending.{IsLegsRefusal}
+use Rattle.job.specs.Ends.{as_job, Ends}
+use Rattle.job.specs.Run.{RunJob, run_job, CanRunSo, IsRunText}
+use Rattle.job.proofs.LegAnswers.{given}
+
+-- the fault of a list is told as one of a job
+pub legs_told : {X : Type 0} (said : Result X LegFault) (fault : LegFault) → lists.Fails lists.is_memory fault said → lists.Fails is_memory (leg_fault fault) (as_job leg_fault said)
+legs_told said leg.Memory is = tt
+legs_told said leg.StopRange is = ap (as_job leg_fault) is
+legs_told said leg.Legs is = ap (as_job leg_fault) is
+legs_told said leg.NotJson is = ap (as_job leg_fault) is
+legs_told said leg.Member is = ap (as_job leg_fault) is
+legs_told said (leg.Scale place fault) is = given (is_memory (leg_fault (leg.Scale place fault))) (ap (as_job leg_fault) is)
+
+-- what is read as a list of legs is one
+of_if : (b : Bool) (found legs : List LegSpec) → are_legs found ≡ b → (if b then Ok found else Err leg.Legs) ≡ Ok legs → are_legs legs ≡ true
+of_if true found legs is e = ap are_legs (sym cc) ∙ is
+of_if false found legs is e = absurd cc
+
+of_from : (r : Result (List LegSpec) LegFault) (legs : List LegSpec) → (r >>= if_legs) ≡ Ok legs → are_legs legs ≡ true
+of_from (Ok found) legs e = of_if (are_legs found) found legs refl e
+of_from (Err fault) legs e = absurd cc
+
+of_text : (p : PlanData) (text : Option (List LegSaid)) (legs : List LegSpec) → option_map_or (legs_or_fault p) text (Err leg.Member) ≡ Ok legs → are_legs legs ≡ true
+of_text p (Some text) legs e = of_from (legs_from p 0 text) legs e
+of_text p None legs e = absurd cc
+
+of_json : (p : PlanData) (d : Option Data) (legs : List LegSpec) → option_map_or (legs_of_json p) d (Err leg.NotJson) ≡ Ok legs → are_legs legs ≡ true
+unfolding legs_of_json
+of_json p (Some d) legs e = of_text p (legs_text d) legs e
+of_json p None legs e = absurd cc
+
+are_read : (p : PlanData) (bytes : List ℕ) (legs : List LegSpec) → legs_of_bytes p bytes ≡ Ok legs → are_legs legs ≡ true
+unfolding legs_of_bytes
+are_read p bytes legs e = of_json p (json_of bytes) legs e
+
+neither : false ≡ true → ⊥
+neither e = cc
+
+-- why legs that were read have no rows
+module _ {X : Type 0} (view : X → List ℕ) (p : PlanData) (i : InputData) (bytes : List ℕ) (legs : List LegSpec) (is : legs_of_bytes p bytes ≡ Ok legs) where
+  pub legs_fail : (fault : LegFault) → IsLegsRefusal i legs fault → Ends {X = X} CanRunSo (λ job text. IsRunText job (view text)) (Ok (run_job p i (Some legs))) (Err (leg_fault fault))
+  legs_fail leg.Memory why = tt
+  legs_fail leg.StopRange why = inr (run_job p i (Some legs), refl, refl, why.1)
+  legs_fail leg.Legs why = absurd (neither (sym why ∙ are_read p bytes legs is))
+  legs_fail leg.NotJson why = absurd why
+  legs_fail leg.Member why = absurd why
+  legs_fail (leg.Scale place fault) why = absurd why
+
+-- a job that runs as one leg
+pub alone : {X : Type 0} (view : X → List ℕ) (p : PlanData) (i : InputData) (result : Result X JobFault) → MatchResult result (λ text. IsTextOf (plan_rows p i.sources) (view text)) (λ fault. fault ≡ Memory)
+    → Ends {X = X} CanRunSo (λ job text. IsRunText job (view text)) (Ok (run_job p i None)) result
+alone view p i (Ok text) is = (run_job p i None, refl, tt, is)
+alone {X} view p i (Err fault) is = subst (λ f. Ends {X = X} CanRunSo (λ job text. IsRunText job (view text)) (Ok (run_job p i None)) (Err f)) (sym is) tt

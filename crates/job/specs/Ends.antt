@@ -1,0 +1,32 @@
+-- What a call answers that reads texts and does the job that they say.
+use Rattle.std.specs.Prelude.{◌≡◌, ◌⊎◌, ℕ, List, Option, Result, Ok, Err}
+use Rattle.std.specs.Io.KnownBytes.{Appends}
+use Rattle.std.specs.Result.{result_map_both}
+use Rattle.json_parts.specs.Answer.{unless}
+use Rattle.leg_lists.specs.declared.fault.LegFault.TheVariants.{StopRange}
+use Rattle.job_texts.specs.declared.fault.JobFault.{JobFault}
+use Rattle.job_texts.specs.declared.fault.JobFault.TheVariants.{Leg, Write}
+use Rattle.job_texts.specs.Fault.{is_memory}
+
+-- an answer that goes on with another, unless it is a fault
+abbrev pub and_then : {X Y : Type 0} → (X → Result Y JobFault) → Result X JobFault → Result Y JobFault
+and_then next (Ok x) = next x
+and_then next (Err fault) = Err fault
+
+-- a reader's answer, with its fault as one of a job
+abbrev pub as_job : {X F : Type 0} → (F → JobFault) → Result X F → Result X JobFault
+as_job fault_of said = result_map_both (λ x. x) fault_of said
+
+-- where the answer is Ok, it is of the job that texts say, whose legs can stop as they are to; else the refusal is the first that the texts give, or that of such a leg
+abbrev pub Ends : {J X : Type 0} → (J → Type 0) → (J → X → Type 0) → Result J JobFault → Result X JobFault → Type 0
+Ends {J} Can Is said (Ok x) = (job : J) × (said ≡ Ok job) × Can job × Is job x
+Ends {J} Can Is said (Err fault) = unless (is_memory fault) ((said ≡ Err fault) ⊎ ((job : J) × (said ≡ Ok job) × (fault ≡ Leg StopRange) × ¬ Can job))
+
+-- why a job that was read is not done: a leg cannot stop so, or what it gives cannot be written
+abbrev pub IsLate : {J : Type 0} → (J → Type 0) → J → JobFault → Type 0
+IsLate Can job fault = ((fault ≡ Leg StopRange) × ¬ Can job) ⊎ ((fault ≡ Write) × Can job)
+
+-- where the answer is Ok, the job is done; else the refusal is the first that the texts give, or one of the job that they say
+abbrev pub Does : {J X : Type 0} → (J → Type 0) → (J → X → Type 0) → Result J JobFault → Result X JobFault → Type 0
+Does {J} Can Done said (Ok x) = (job : J) × (said ≡ Ok job) × Can job × Done job x
+Does {J} Can Done said (Err fault) = unless (is_memory fault) ((said ≡ Err fault) ⊎ ((job : J) × (said ≡ Ok job) × IsLate Can job fault))
