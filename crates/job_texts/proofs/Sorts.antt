@@ -1,5 +1,5 @@
 -- Rows that are sorted are the same rows.
-use Rattle.std.proofs.Common.{◌≡◌, ℤ, Bool, true, false, cond, ◌&&◌, List, [], ◌∷◌, refl, sym, ap, ◌∙◌, arith, Option}
+use Rattle.std.proofs.Common.{◌≡◌, ℤ, Bool, cond, ◌&&◌, List, [], ◌∷◌, refl, sym, ◌∙◌, arith, Option}
 use Rattle.std.specs.Prelude.{pos, not}
 use Rattle.std.specs.List.{filter}
 use Rattle.std.specs.List.Sorted.{IsStableByKey, ties}
