@@ -3,6 +3,7 @@ use crate::{Input, InputFault};
 use columns::Batch;
 use logical_plan::Plan;
 use std::alloc::{AllocError, Global};
+use std::process::Abort;
 use std::test::Fail;
 use stream_model::Entry;
 
@@ -15,9 +16,23 @@ const PAIR: &str =
 const INPUT: &str =
     r#"{"s":[[{"rows":[[1,1,5],[12,1,7]]},{"watermark":9},{"rows":[[15,0,-3]]}],[{"rows":[[3,0,4]]},{"watermark":11},{"rows":[[13,1,2]]}]]}"#;
 
+fn plan_of(rt: &impl AllocGlobal, text: &str) -> Result<Plan, Fail> {
+    Ok(Plan::read(rt.alloc(), text.as_bytes())?)
+}
+
+fn read(rt: &impl AllocGlobal, plan: &Plan, text: &str) -> Result<Input, Fail> {
+    Ok(Input::read(rt.alloc(), plan, text.as_bytes())?)
+}
+
 fn input_of(rt: &impl AllocGlobal, plan: &str, text: &str) -> Result<Input, Fail> {
-    let plan = Plan::read(rt.alloc(), plan.as_bytes())?;
-    Ok(Input::read(rt.alloc(), &plan, text.as_bytes())?)
+    let plan = plan_of(rt, plan)?;
+    read(rt, &plan, text)
+}
+
+/// The entries of a text, as [`all_seen`] says them.
+fn seen_in(rt: &impl AllocGlobal, plan: &str, text: &str) -> Result<String, Fail> {
+    let input = input_of(rt, plan, text)?;
+    Ok(all_seen(rt.alloc(), &input)?)
 }
 
 /// The rows of a batch.
@@ -60,9 +75,9 @@ fn all_seen(alloc: Global, input: &Input) -> Result<String, AllocError> {
 
 #[test]
 fn entries(rt: HostRuntime) -> Result<(), Fail> {
-    let input = input_of(&rt, PLAN, INPUT)?;
+    let seen = seen_in(&rt, PLAN, INPUT)?;
     assert_eq!(rt;
-        all_seen(rt.alloc(), &input)?.as_str(),
+        seen.as_str(),
         "[[1, 1, 5], [12, 1, 7]] 9 [[15, 0, -3]] [[3, 0, 4]] 11 [[13, 1, 2]] "
     );
     Ok(())
@@ -71,8 +86,8 @@ fn entries(rt: HostRuntime) -> Result<(), Fail> {
 #[test]
 fn sources_in_the_order_of_the_plan(rt: HostRuntime) -> Result<(), Fail> {
     let text = r#"{"a":[[{"watermark":7}]],"s":[[{"rows":[[1,2,3]]}]]}"#;
-    let input = input_of(&rt, PAIR, text)?;
-    assert_eq!(rt; all_seen(rt.alloc(), &input)?.as_str(), "[[1, 2, 3]] 7 ");
+    let seen = seen_in(&rt, PAIR, text)?;
+    assert_eq!(rt; seen.as_str(), "[[1, 2, 3]] 7 ");
     Ok(())
 }
 
@@ -82,8 +97,8 @@ fn the_last_of_members_with_one_name(rt: HostRuntime) -> Result<(), Fail> {
         r#"{"s":[[{"watermark":7}],[]],"s":[[{"watermark":8}],[]]}"#,
         r#"{"s":7,"s":[[{"watermark":8}],[]]}"#,
     ] {
-        let input = input_of(&rt, PLAN, text)?;
-        assert_eq!(rt; all_seen(rt.alloc(), &input)?.as_str(), "8 ");
+        let seen = seen_in(&rt, PLAN, text)?;
+        assert_eq!(rt; seen.as_str(), "8 ");
     }
     Ok(())
 }
@@ -108,74 +123,98 @@ fn watermark(input: &Input, n: u64) -> Option<i64> {
     Some(input.watermark_at(0, 1, n))
 }
 
-#[test]
-fn places_in_a_partition(rt: HostRuntime) -> Result<(), Fail> {
-    let input = input_of(&rt, PLAN, INPUT)?;
-    assert_eq!(rt; count_at(&input, 1), Some(0));
-    assert_eq!(rt; count_at(&input, 2), Some(1));
-    assert_eq!(rt; count_at(&input, 3), None);
+fn check_counts(rt: &impl Abort, input: &Input) {
+    for (n, want) in [(1, Some(0)), (2, Some(1)), (3, None)] {
+        assert_eq!(rt; count_at(input, n), want);
+    }
+}
+
+fn check_watermarks(rt: &impl Abort, input: &Input) {
     for (n, want) in [
         (1, Some(i64::MIN)),
         (2, Some(11)),
         (3, Some(i64::MAX)),
         (4, None),
     ] {
-        assert_eq!(rt; watermark(&input, n), want);
+        assert_eq!(rt; watermark(input, n), want);
     }
+}
+
+#[test]
+fn places_in_a_partition(rt: HostRuntime) -> Result<(), Fail> {
+    let input = input_of(&rt, PLAN, INPUT)?;
+    check_counts(&rt, &input);
+    check_watermarks(&rt, &input);
     Ok(())
 }
 
 fn fault(rt: &impl AllocGlobal, plan: &Plan, text: &str) -> Option<InputFault> {
-    Input::read(rt.alloc(), plan, text.as_bytes()).err()
+    let Err(fault) = Input::read(rt.alloc(), plan, text.as_bytes()) else {
+        return None;
+    };
+    Some(fault)
 }
+
+fn check_faults(rt: &(impl Abort + AllocGlobal), plan: &Plan, listed: &[(&str, InputFault)]) {
+    for (text, want) in listed {
+        assert_eq!(rt; fault(rt, plan, text), Some(*want), "at {text}");
+    }
+}
+
+const FORMS: [(&str, InputFault); 10] = [
+    (r#"{"s":[[],[]]}x"#, InputFault::NotJson),
+    ("[]", InputFault::Member),
+    (r#"{"s":[[{}],[]]}"#, InputFault::Member),
+    (r#"{"s":[[{"row":[]}],[]]}"#, InputFault::Member),
+    (
+        r#"{"s":[[{"rows":[[1,1,1]],"watermark":1}],[]]}"#,
+        InputFault::Member,
+    ),
+    (r#"{"s":[[{"rows":[1]}],[]]}"#, InputFault::Member),
+    (r#"{"s":[[],[]],"t":1}"#, InputFault::Member),
+    ("{}", InputFault::Source),
+    (r#"{"s":[[],[]],"t":[]}"#, InputFault::Source),
+    (r#"{"s":[[],[],[]]}"#, InputFault::Partitions),
+];
 
 #[test]
 fn refusals_of_the_form(rt: HostRuntime) -> Result<(), Fail> {
-    let plan = Plan::read(rt.alloc(), PLAN.as_bytes())?;
-    for (text, want) in [
-        (r#"{"s":[[],[]]}x"#, InputFault::NotJson),
-        ("[]", InputFault::Member),
-        (r#"{"s":[[{}],[]]}"#, InputFault::Member),
-        (r#"{"s":[[{"row":[]}],[]]}"#, InputFault::Member),
-        (
-            r#"{"s":[[{"rows":[[1,1,1]],"watermark":1}],[]]}"#,
-            InputFault::Member,
-        ),
-        (r#"{"s":[[{"rows":[1]}],[]]}"#, InputFault::Member),
-        (r#"{"s":[[],[]],"t":1}"#, InputFault::Member),
-        ("{}", InputFault::Source),
-        (r#"{"s":[[],[]],"t":[]}"#, InputFault::Source),
-        (r#"{"s":[[],[],[]]}"#, InputFault::Partitions),
-    ] {
-        assert_eq!(rt; fault(&rt, &plan, text), Some(want), "at {text}");
+    let plan = plan_of(&rt, PLAN)?;
+    check_faults(&rt, &plan, &FORMS);
+    Ok(())
+}
+
+const ENTRIES: [(&str, InputFault); 9] = [
+    (r#"{"rows":[[1,1]]}"#, InputFault::Width),
+    (r#"{"rows":[[1,1,1,1]]}"#, InputFault::Width),
+    (r#"{"rows":[[1,1,1.5]]}"#, InputFault::Number),
+    (r#"{"rows":[[1,1,-0]]}"#, InputFault::Number),
+    (r#"{"rows":[[1,1,"1"]]}"#, InputFault::Number),
+    (r#"{"watermark":1.5}"#, InputFault::Number),
+    (r#"{"rows":[]}"#, InputFault::Rows),
+    (
+        r#"{"rows":[[-4611686018427387905,1,1]]}"#,
+        InputFault::TimeRange,
+    ),
+    (
+        r#"{"watermark":4611686018427387904}"#,
+        InputFault::TimeRange,
+    ),
+];
+
+/// Checks the faults of lists of entries.
+fn check_entries(rt: &(impl Abort + AllocGlobal), plan: &Plan) -> Result<(), Fail> {
+    for (entries, want) in ENTRIES {
+        let text = format!(in rt.alloc(); "{{\"s\":[[{entries}],[]]}}")?;
+        assert_eq!(rt; fault(rt, plan, text.as_str()), Some(want), "at {text}");
     }
     Ok(())
 }
 
 #[test]
 fn refusals_of_entries(rt: HostRuntime) -> Result<(), Fail> {
-    let plan = Plan::read(rt.alloc(), PLAN.as_bytes())?;
-    for (entries, want) in [
-        (r#"{"rows":[[1,1]]}"#, InputFault::Width),
-        (r#"{"rows":[[1,1,1,1]]}"#, InputFault::Width),
-        (r#"{"rows":[[1,1,1.5]]}"#, InputFault::Number),
-        (r#"{"rows":[[1,1,-0]]}"#, InputFault::Number),
-        (r#"{"rows":[[1,1,"1"]]}"#, InputFault::Number),
-        (r#"{"watermark":1.5}"#, InputFault::Number),
-        (r#"{"rows":[]}"#, InputFault::Rows),
-        (
-            r#"{"rows":[[-4611686018427387905,1,1]]}"#,
-            InputFault::TimeRange,
-        ),
-        (
-            r#"{"watermark":4611686018427387904}"#,
-            InputFault::TimeRange,
-        ),
-    ] {
-        let text = format!(in rt.alloc(); "{{\"s\":[[{entries}],[]]}}")?;
-        assert_eq!(rt; fault(&rt, &plan, text.as_str()), Some(want), "at {text}");
-    }
-    Ok(())
+    let plan = plan_of(&rt, PLAN)?;
+    check_entries(&rt, &plan)
 }
 
 #[test]
@@ -204,97 +243,135 @@ fn texts_of_faults(rt: HostRuntime) -> Result<(), Fail> {
     Ok(())
 }
 
-#[test]
-fn late_records(rt: HostRuntime) -> Result<(), Fail> {
-    let plan = Plan::read(rt.alloc(), PLAN.as_bytes())?;
-    for (text, want) in [
-        (
-            r#"{"s":[[{"watermark":9},{"rows":[[9,1,1]]}],[]]}"#,
-            "I9 LateRecord 0 0 1",
-        ),
-        (
-            r#"{"s":[[],[{"watermark":9},{"watermark":3},{"rows":[[8,1,1]]}]]}"#,
-            "I9 LateRecord 0 1 2",
-        ),
-    ] {
-        let late = fault(&rt, &plan, text).ok_or("accepted")?;
-        let line = format!(in rt.alloc(); "{late}")?;
+const LATE: [(&str, &str); 2] = [
+    (
+        r#"{"s":[[{"watermark":9},{"rows":[[9,1,1]]}],[]]}"#,
+        "I9 LateRecord 0 0 1",
+    ),
+    (
+        r#"{"s":[[],[{"watermark":9},{"watermark":3},{"rows":[[8,1,1]]}]]}"#,
+        "I9 LateRecord 0 1 2",
+    ),
+];
+
+/// The text of a document's fault.
+fn fault_text(rt: &impl AllocGlobal, plan: &Plan, text: &str) -> Result<String, Fail> {
+    let fault = fault(rt, plan, text).ok_or("accepted")?;
+    Ok(format!(in rt.alloc(); "{fault}")?)
+}
+
+fn check_late(rt: &(impl Abort + AllocGlobal), plan: &Plan) -> Result<(), Fail> {
+    for (text, want) in LATE {
+        let line = fault_text(rt, plan, text)?;
         assert_eq!(rt; line.as_str(), want);
     }
     Ok(())
 }
 
 #[test]
-fn times_at_the_limits(rt: HostRuntime) -> Result<(), Fail> {
-    let plan = Plan::read(rt.alloc(), PLAN.as_bytes())?;
-    for text in [
-        r#"{"s":[[{"watermark":9},{"rows":[[10,1,1]]}],[]]}"#,
-        r#"{"s":[[{"watermark":9},{"watermark":3},{"rows":[[10,1,1]]}],[]]}"#,
-        r#"{"s":[[{"watermark":-4611686018427387904},{"rows":[[4611686018427387903,1,1]]},{"watermark":4611686018427387903}],[{"rows":[[-4611686018427387904,1,2]]}]]}"#,
-    ] {
-        assert!(rt;
-            Input::read(rt.alloc(), &plan, text.as_bytes()).is_ok(),
-            "at {text}"
-        );
+fn late_records(rt: HostRuntime) -> Result<(), Fail> {
+    let plan = plan_of(&rt, PLAN)?;
+    check_late(&rt, &plan)
+}
+
+const TIMES: [&str; 3] = [
+    r#"{"s":[[{"watermark":9},{"rows":[[10,1,1]]}],[]]}"#,
+    r#"{"s":[[{"watermark":9},{"watermark":3},{"rows":[[10,1,1]]}],[]]}"#,
+    r#"{"s":[[{"watermark":-4611686018427387904},{"rows":[[4611686018427387903,1,1]]},{"watermark":4611686018427387903}],[{"rows":[[-4611686018427387904,1,2]]}]]}"#,
+];
+
+fn check_accepted(rt: &(impl Abort + AllocGlobal), plan: &Plan, listed: &[&str]) {
+    for text in listed {
+        assert_eq!(rt; fault(rt, plan, text), None, "at {text}");
     }
+}
+
+#[test]
+fn times_at_the_limits(rt: HostRuntime) -> Result<(), Fail> {
+    let plan = plan_of(&rt, PLAN)?;
+    check_accepted(&rt, &plan, &TIMES);
     Ok(())
 }
 
 const ROW: &str = "[1,1,1,1,1,1,1,1,1,1,1,1,1,1,1,1]";
 
-#[test]
-fn entries_of_many_rows_of_sixteen_columns(rt: HostRuntime) -> Result<(), Fail> {
-    let wide = PLAN.replacen(rt.alloc(), r#""columns":3"#, r#""columns":16"#, 1)?;
-    let plan = Plan::read(rt.alloc(), wide.as_bytes())?;
+fn check_many_rows(rt: &(impl Abort + AllocGlobal), plan: &Plan) -> Result<(), Fail> {
     let next = format!(in rt.alloc(); ",{ROW}")?;
     for (count, want) in [(0, None), (4095, None), (4096, Some(InputFault::Rows))] {
         let rows = next.repeat(rt.alloc(), count)?;
         let text = format!(in rt.alloc(); "{{\"s\":[[{{\"rows\":[{ROW}{rows}]}}],[]]}}")?;
-        assert_eq!(rt; fault(&rt, &plan, text.as_str()), want);
-        assert_eq!(rt; is_taken(&rt, &plan, text.as_str()), want.is_none());
+        assert_eq!(rt; fault(rt, plan, text.as_str()), want);
+        assert_eq!(rt; is_taken(rt, plan, text.as_str()), want.is_none());
     }
     Ok(())
+}
+
+#[test]
+fn entries_of_many_rows_of_sixteen_columns(rt: HostRuntime) -> Result<(), Fail> {
+    let wide = PLAN.replacen(rt.alloc(), r#""columns":3"#, r#""columns":16"#, 1)?;
+    let plan = plan_of(&rt, wide.as_str())?;
+    check_many_rows(&rt, &plan)
 }
 
 fn is_taken(rt: &impl AllocGlobal, plan: &Plan, text: &str) -> bool {
     sources_in(rt.alloc(), plan, text).is_ok()
 }
 
+fn check_taken(rt: &(impl Abort + AllocGlobal), plan: &Plan, listed: &[&str], want: bool) {
+    for text in listed {
+        assert_eq!(rt; is_taken(rt, plan, text), want, "at {text}");
+    }
+}
+
+const TAKEN: [&str; 3] = [
+    INPUT,
+    r#" { "s" : [ [ ] , [ ] ] } "#,
+    r#"{"s":[[{"watermark":7}],[]],"s":[[],[]]}"#,
+];
+
+const MISSED: [&str; 6] = [
+    r#"{"s":7,"s":[[],[]]}"#,
+    r#"{"s":[[],[]],"t":[]}"#,
+    r#"{"s":[[{"rows":[[1,1,-0]]}],[]]}"#,
+    r#"{"s":[[{"rows":[]}],[]]}"#,
+    r#"{"s":[[],[]]}x"#,
+    "{}",
+];
+
+const TAKEN_OF_PAIR: [&str; 2] = [r#"{"s":[[]],"a":[[]]}"#, r#"{"a":[[]],"s":[[]]}"#];
+
 #[test]
 fn read_token_by_token(rt: HostRuntime) -> Result<(), Fail> {
-    let plan = Plan::read(rt.alloc(), PLAN.as_bytes())?;
-    for text in [
-        INPUT,
-        r#" { "s" : [ [ ] , [ ] ] } "#,
-        r#"{"s":[[{"watermark":7}],[]],"s":[[],[]]}"#,
-    ] {
-        assert!(rt; is_taken(&rt, &plan, text));
-    }
-    let pair = Plan::read(rt.alloc(), PAIR.as_bytes())?;
-    for text in [r#"{"s":[[]],"a":[[]]}"#, r#"{"a":[[]],"s":[[]]}"#] {
-        assert!(rt; is_taken(&rt, &pair, text));
-    }
-    for text in [
-        r#"{"s":7,"s":[[],[]]}"#,
-        r#"{"s":[[],[]],"t":[]}"#,
-        r#"{"s":[[{"rows":[[1,1,-0]]}],[]]}"#,
-        r#"{"s":[[{"rows":[]}],[]]}"#,
-        r#"{"s":[[],[]]}x"#,
-        "{}",
-    ] {
-        assert!(rt; !is_taken(&rt, &plan, text));
-    }
+    let plan = plan_of(&rt, PLAN)?;
+    check_taken(&rt, &plan, &TAKEN, true);
+    check_taken(&rt, &plan, &MISSED, false);
+    Ok(())
+}
+
+#[test]
+fn two_sources_token_by_token(rt: HostRuntime) -> Result<(), Fail> {
+    let plan = plan_of(&rt, PAIR)?;
+    check_taken(&rt, &plan, &TAKEN_OF_PAIR, true);
+    Ok(())
+}
+
+/// Checks the fault of lists that nest so deep.
+fn check_depth(
+    rt: &(impl Abort + AllocGlobal),
+    plan: &Plan,
+    depth: usize,
+    want: InputFault,
+) -> Result<(), Fail> {
+    let open = "[".repeat(rt.alloc(), depth)?;
+    let close = "]".repeat(rt.alloc(), depth)?;
+    let text = format!(in rt.alloc(); "{{\"s\":{open}{close}}}")?;
+    assert_eq!(rt; fault(rt, plan, text.as_str()), Some(want));
     Ok(())
 }
 
 #[test]
 fn nested_lists(rt: HostRuntime) -> Result<(), Fail> {
-    let plan = Plan::read(rt.alloc(), PLAN.as_bytes())?;
-    for (depth, want) in [(126, InputFault::Member), (127, InputFault::NotJson)] {
-        let open = "[".repeat(rt.alloc(), depth)?;
-        let close = "]".repeat(rt.alloc(), depth)?;
-        let text = format!(in rt.alloc(); "{{\"s\":{open}{close}}}")?;
-        assert_eq!(rt; fault(&rt, &plan, text.as_str()), Some(want));
-    }
-    Ok(())
+    let plan = plan_of(&rt, PLAN)?;
+    check_depth(&rt, &plan, 126, InputFault::Member)?;
+    check_depth(&rt, &plan, 127, InputFault::NotJson)
 }
