@@ -340,11 +340,15 @@ const MISSED: [&str; 6] = [
 
 const TAKEN_OF_PAIR: [&str; 2] = [r#"{"s":[[]],"a":[[]]}"#, r#"{"a":[[]],"s":[[]]}"#];
 
+fn check_token_by_token(rt: &(impl Abort + AllocGlobal), plan: &Plan) {
+    check_taken(rt, plan, &TAKEN, true);
+    check_taken(rt, plan, &MISSED, false);
+}
+
 #[test]
 fn read_token_by_token(rt: HostRuntime) -> Result<(), Fail> {
     let plan = plan_of(&rt, PLAN)?;
-    check_taken(&rt, &plan, &TAKEN, true);
-    check_taken(&rt, &plan, &MISSED, false);
+    check_token_by_token(&rt, &plan);
     Ok(())
 }
 
@@ -369,9 +373,13 @@ fn check_depth(
     Ok(())
 }
 
+fn check_depths(rt: &(impl Abort + AllocGlobal), plan: &Plan) -> Result<(), Fail> {
+    check_depth(rt, plan, 126, InputFault::Member)?;
+    check_depth(rt, plan, 127, InputFault::NotJson)
+}
+
 #[test]
 fn nested_lists(rt: HostRuntime) -> Result<(), Fail> {
     let plan = plan_of(&rt, PLAN)?;
-    check_depth(&rt, &plan, 126, InputFault::Member)?;
-    check_depth(&rt, &plan, 127, InputFault::NotJson)
+    check_depths(&rt, &plan)
 }
