@@ -28,9 +28,9 @@ read_fault _ = Read
 abbrev pub CannotRead : Result (Unit {0}) JobFault → Type 0
 CannotRead result = (result ≡ Err Read) ⊎ (result ≡ Err Memory)
 
--- what `job_run` answers of some plan and input, or that one of them, or random numbers for hashes, were not read
-abbrev pub AnswersRun : Result (Unit {0}) JobFault → Type 0
-AnswersRun result = CannotRead result ⊎ ((plan : List ℕ) × (input : List ℕ) × Answers (run_said plan input) result None None)
+-- what `job_run` answers of some plan and input, with a list of legs just where one is named, or that one of them, or random numbers for hashes, were not read
+abbrev pub AnswersRun : Bool → Result (Unit {0}) JobFault → Type 0
+AnswersRun names_legs result = CannotRead result ⊎ ((plan : List ℕ) × (input : List ℕ) × (legs : Option (List ℕ)) × (is_some legs ≡ names_legs) × Answers (run_said plan input legs) result None None)
 
 -- the fault of a call that writes into memory: it takes no more only where there is none left
 abbrev pub buffered : JobFault → JobFault

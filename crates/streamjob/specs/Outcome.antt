@@ -29,6 +29,9 @@ after_text (Err text.Write) = Err (Fault WriteFault)
 abbrev pub Comes : {F : Type 0} → (Result (Unit {0}) F → Result (Unit {0}) Refusal) → (Result (Unit {0}) F → Type 0) → Result (Unit {0}) Refusal → Type 0
 Comes {F} after answers result = (answer : Result (Unit {0}) F) × answers answer × (result ≡ after answer)
 
+abbrev pub AnswersSomeRun : Result (Unit {0}) JobFault → Type 0
+AnswersSomeRun result = (names_legs : Bool) × AnswersRun names_legs result
+
 abbrev pub AnswersSomeLeg : Result (Unit {0}) JobFault → Type 0
 AnswersSomeLeg result = (names_savepoint : Bool) × (stop : Option (List ℕ)) × AnswersLeg names_savepoint stop result
 
@@ -49,7 +52,7 @@ either false this others = others
 -- the answer is that of the command with a name; no other name has one
 abbrev pub AnswersCommand : List ℕ → Result (Unit {0}) Refusal → Type 0
 AnswersCommand name result =
-    either (bytes_eq name (codes "run")) (Comes after_command AnswersRun result)
+    either (bytes_eq name (codes "run")) (Comes after_command AnswersSomeRun result)
     (either (bytes_eq name (codes "leg")) (Comes after_command AnswersSomeLeg result)
     (either (bytes_eq name (codes "layout")) (Comes after_command AnswersLayout result)
     (either (bytes_eq name (codes "show")) (Comes after_command AnswersShow result)

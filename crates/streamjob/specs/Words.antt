@@ -17,8 +17,12 @@ option_rule name = record (new_rule name) { long = Some name; value_names = 1 }
 abbrev pub command_shape : List ℕ → List (List ℕ) → Shape
 command_shape name words = record (new_shape name) { rules = map required_rule words }
 
+abbrev pub run_files_shape : Shape
+run_files_shape = command_shape (codes "run") (codes "PLAN" ∷ codes "INPUT" ∷ [])
+
+-- a run's files, and one that may be left out
 abbrev pub run_shape : Shape
-run_shape = command_shape (codes "run") (codes "PLAN" ∷ codes "INPUT" ∷ [])
+run_shape = record run_files_shape { rules = run_files_shape.rules ++ new_rule (codes "LEGS") ∷ [] }
 
 abbrev pub leg_files_shape : Shape
 leg_files_shape = command_shape (codes "leg") (codes "PLAN" ∷ codes "INPUT" ∷ codes "SCALE" ∷ [])

@@ -21,7 +21,7 @@ fn named<'a>(words: &ArgMatches<'a>, name: &str) -> &'a str
     words.get_str(name).unwrap_or("")
 }
 
-/// Prints the rows of a plan on an input.
+/// Prints the rows of a plan on an input, in legs where a list of them is named.
 ///
 /// # Errors
 ///
@@ -30,14 +30,16 @@ pub fn run<R: Files + Print + RandomSource + AllocGlobal>(
     rt: &R,
     words: &ArgMatches<'_>,
 ) -> Result<(), JobFault>
-    ensures { AnswersRun result }
+    ensures { AnswersRun (is_some (first_value (found_of words.now) (codes "LEGS"))) result }
 {
     let plan = file(rt, named(words, "PLAN"))?;
     let input = file(rt, named(words, "INPUT"))?;
+    let list = optional_file(rt, words.get_str("LEGS"))?;
     let Ok(keys) = HashKeys::random(rt) else {
         return Err(JobFault::Read);
     };
-    job_run(rt.alloc(), keys, &plan, &input, &mut writer(rt))
+    let legs = list.as_deref();
+    job_run(rt.alloc(), keys, &plan, &input, legs, &mut writer(rt))
 }
 
 /// Prints bytes.

@@ -1,8 +1,8 @@
 //! The words of the command line.
 
 ghost use Rattle.std.specs.Prelude.{◌≡◌, false, IfOk};
-ghost use Rattle.clap.specs.Words.{app_of, rule_of};
-ghost use Rattle.streamjob.specs.Words.{IsCommand, required_rule, option_rule, run_shape, leg_files_shape, leg_shape, layout_shape, show_shape, group_shape, explain_shape, version_shape, top, program};
+ghost use Rattle.clap.specs.Words.{app_of, new_rule, rule_of};
+ghost use Rattle.streamjob.specs.Words.{IsCommand, required_rule, option_rule, run_files_shape, run_shape, leg_files_shape, leg_shape, layout_shape, show_shape, group_shape, explain_shape, version_shape, top, program};
 
 use clap::{Arg, Command};
 use std::alloc::{AllocError, Global};
@@ -24,6 +24,13 @@ fn option<'a>(alloc: Global, name: &'a str, value: &'a str, help: &'a str) -> Ar
         .help(help)
 }
 
+fn optional<'a>(alloc: Global, name: &'a str, help: &'a str) -> Arg<'a>
+    ensures rule { rule_of result ≡ new_rule name.now }
+    ensures local { result.global ≡ false }
+{
+    Arg::new(alloc, name).help(help)
+}
+
 const PLAN: &str = "JSON file of the job: sources, filters, and one window with its aggregates";
 
 const INPUT: &str =
@@ -31,13 +38,18 @@ const INPUT: &str =
 
 const SCALE: &str = "JSON file of the scale: a ring's capacity and each operator's parallelism";
 
+const LEGS: &str = "JSON file of the legs: for each its scale, and where it stops";
+
 const RUN: &str = "\
 Each row is a line `START END KEY NUMBER ..`: a window of time from START up to END, a key,
 and what the plan's aggregates give for the key's records in the window. Rows come in the
 order of START and KEY.
 
+With LEGS the job runs in legs, each at its own scale and from the savepoint of the one before;
+the rows are the same. Where the last leg stops at a cut, they are those that are due there.
+
 Example: streamjob run plan.json input.json
-Page: docs/GUIDE.md, and docs/FORMATS.md for the plan and the input";
+Page: docs/GUIDE.md, and docs/FORMATS.md for the plan, the input and the legs";
 
 const PROGRAM: &str = "\
 All files are read before anything is done. A file may be /dev/stdin, once in a command: what a
@@ -50,14 +62,21 @@ says what is refused, and `streamjob explain CODE` what to do.
 Example: streamjob run plan.json input.json
 Page: docs/GUIDE.md";
 
-fn run_words<'a>(alloc: Global) -> Result<Command<'a>, AllocError>
-    ensures { IfOk result (λ c. IsCommand run_shape c) }
+/// The files that a run always reads.
+fn run_files<'a>(alloc: Global) -> Result<Command<'a>, AllocError>
+    ensures { IfOk result (λ c. IsCommand run_files_shape c) }
 {
     Command::new(alloc, "run")
         .about("Run a plan on an input and print its rows")
         .after_help(RUN)
         .arg(required(alloc, "PLAN", PLAN))?
         .arg(required(alloc, "INPUT", INPUT))
+}
+
+fn run_words<'a>(alloc: Global) -> Result<Command<'a>, AllocError>
+    ensures { IfOk result (λ c. IsCommand run_shape c) }
+{
+    run_files(alloc)?.arg(optional(alloc, "LEGS", LEGS))
 }
 
 const LEG: &str = "\

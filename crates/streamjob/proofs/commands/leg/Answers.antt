@@ -1,11 +1,8 @@
-use Rattle.std.proofs.Common.{◌≡◌, ◌∙◌, ℕ, List, Bor, Option, Some, None, option_map, is_some, ap, sym, refl, subst, inr}
+use Rattle.std.proofs.Common.{◌∙◌, ℕ, List, Bor, Option, option_map, is_some, ap, sym, subst, inr}
 use Rattle.job.specs.Leg.{leg_said}
 use Rattle.streamjob.specs.Answers.{ComesOfLeg}
+use Rattle.streamjob.proofs.Named.{some_map}
 use Rattle.streamjob.proofs.commands.leg.Goals as goal
-
-some_map : {X Y : Type 0} (f : X → Y) (x : Option X) → is_some (option_map f x) ≡ is_some x
-some_map f (Some x) = refl
-some_map f None = refl
 
 -- the texts are those of the files, a savepoint's just where one is named, and the cut is the word
 pub returns : goal.returns

@@ -1,22 +1,5 @@
-use Rattle.std.proofs.Common.{◌≡◌, ◌∙◌, ◌||◌, ◌++◌, ◌∷◌, [], ap, false, Result, Ok, Err, IfOk}
-use Rattle.clap.specs.Words.{App, Rule, Shape, AddsArg, rule_of, with_rule}
-use Rattle.clap.specs.declared.builder.arg.Arg.{Arg}
-use Rattle.clap.specs.declared.builder.command.Command.{Command}
-use Rattle.streamjob.specs.Words.{IsCommand}
+use Rattle.streamjob.proofs.Shapes.{added, added_last}
 use Rattle.streamjob.proofs.words.leg_words.Goals as goal
-
--- an argument, of this command alone, added to a command whose shape is known
-added : (old new : Command) (arg : Arg) (shape : Shape) (rule : Rule) → AddsArg old arg new → IsCommand shape old → rule_of arg ≡ rule → arg.global ≡ false
-    → IsCommand (record shape { rules = shape.rules ++ rule ∷ [] }) new
-added old new arg shape rule adds command is local = record {
-  app = adds.shape local ∙ ap (λ (app : App). with_rule app (rule_of arg)) command.app ∙ ap (λ (r : Rule). with_rule (record { top = shape; subs = [] }) r) is;
-  globals = adds.globals ∙ ap (λ b. b || arg.global) command.globals ∙ local;
-}
-
-added_last : {E : Type 0} (old : Command) (result : Result Command E) (arg : Arg) (shape : Shape) (rule : Rule) → IfOk result (λ new. AddsArg old arg new) → IsCommand shape old → rule_of arg ≡ rule → arg.global ≡ false
-    → IfOk result (λ new. IsCommand (record shape { rules = shape.rules ++ rule ∷ [] }) new)
-added_last old (Ok new) arg shape rule adds command is local = added old new arg shape rule adds command is local
-added_last old (Err e) arg shape rule adds command is local = tt
 
 pub returns : goal.returns
 returns c =
