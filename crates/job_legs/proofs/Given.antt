@@ -20,14 +20,14 @@ use Rattle.leg_tasks.specs.Saved as left
 use Rattle.core_steps.specs.declared.finish.Finish.{Finish}
 use Rattle.leg_runs.specs.Ending.{IsEndOf}
 use Rattle.restarts.specs.Laws.{IsStartAt}
-use Rattle.restarts.specs.Restart.{IsSavedAt}
+use Rattle.restarts.specs.Restart.{CanRestart}
 use Rattle.job_legs.specs.Reached.{IsGiven, IsStepRefusal}
 
 module _ (p : PlanData) (i : InputData) (plan : IsPlan p) (input : IsInput i) (belongs : BelongsTo p i) (cut : List (List ℕ)) (number : ℕ) (s : StartData) (at : IsStartAt p i cut number s) (few : number < 2 ^ 63) (stop : Stop) where
   next_few : (n : ℕ) → n < 2 ^ 63 → n + 1 ≤ 2 ^ 63
   next_few n h = omega (arith)
 
-  saved : (end : Cut) (savepoint : Contents) → IsCut i.sources end.counts → left.IsSavedAt p i end.counts (s.number + 1) savepoint → IsSavedAt p i end.counts (number + 1) savepoint
+  saved : (end : Cut) (savepoint : Contents) → IsCut i.sources end.counts → left.IsSavedAt p i end.counts (s.number + 1) savepoint → CanRestart p i end.counts (number + 1) savepoint
   saved end savepoint is w = record {
     windows = w.windows;
     left = record { plan = plan; input = input; belongs = belongs; cut = is; windows = w.snapshot };

@@ -24,7 +24,7 @@ use Rattle.leg_lists.specs.Stops.{until_of}
 use Rattle.redistribute.specs.Stopping.{CanStop}
 use Rattle.savepoint_codec.specs.declared.savepoint.Contents.{Contents}
 use Rattle.job_legs.specs.Reached.{HasSaved, IsAfter, IsAt, IsLeft, IsStepRefusal}
-use Rattle.job_legs.specs.Running.{CanRun, HasRun, IsRunRefusal, last_stop}
+use Rattle.job_legs.specs.Running.{CanRun, HaveRun, IsRunRefusal, last_stop}
 use Rattle.job_legs.specs.declared.running.Reached.{Reached}
 
 -- each leg that has one after it stops
@@ -47,7 +47,7 @@ pub record IsBefore (p : PlanData) (i : InputData) (all legs : List LegSpec) (r 
 
 -- it has come to where they begin, or to the end of the list
 abbrev pub IsOnWay : PlanData → InputData → List LegSpec → List LegSpec → Reached → Type 0
-IsOnWay p i all [] r = HasRun p i all r
+IsOnWay p i all [] r = HaveRun p i all r
 IsOnWay p i all (leg ∷ legs) r = IsBefore p i all (leg ∷ legs) r
 
 both : (a b : Bool) → a && b ≡ true → (a ≡ true) × (b ≡ true)

@@ -19,19 +19,19 @@ use Rattle.savepoint_codec.specs.declared.savepoint.Contents.{Contents}
 use Rattle.core_steps.specs.declared.finish.Finish.{Finish}
 use Rattle.core_steps.specs.declared.finish.Finish.TheVariants.{Ended, Stopped}
 use Rattle.core_steps.specs.Finishing.{finish_with}
-use Rattle.restarts.specs.Restart.{IsSavedAt}
+use Rattle.restarts.specs.Restart.{CanRestart}
 use Rattle.job_legs.specs.declared.running.Reached.{Reached}
 
 -- a job has come to a cut: with no savepoint to the empty cut, or with the savepoint of this number there
 abbrev pub HasSaved : PlanData → InputData → List (List ℕ) → ℕ → Option Contents → Type 0
 HasSaved p i cut number None = (cut ≡ empty_cut i.sources) × (number ≡ 0)
-HasSaved p i cut number (Some s) = IsSavedAt p i cut number s
+HasSaved p i cut number (Some s) = CanRestart p i cut number s
 
 -- what a leg leaves that was to stop so: nothing at the end of the input, else the savepoint of its cut
 abbrev pub IsLeft : PlanData → InputData → ℕ → Stop → Option Contents → Type 0
 IsLeft p i number Never saved = saved ≡ None
 IsLeft p i number (At cut) None = ⊥
-IsLeft p i number (At cut) (Some s) = IsSavedAt p i cut.counts number s
+IsLeft p i number (At cut) (Some s) = CanRestart p i cut.counts number s
 
 -- what a leg gives that goes from a cut, after so many savepoints: the rows that become due, each once, and where it stops the next savepoint
 pub record IsGiven (p : PlanData) (i : InputData) (cut : List (List ℕ)) (number : ℕ) (stop : Stop) (finish : Finish) : Type 0 where
@@ -40,7 +40,7 @@ pub record IsGiven (p : PlanData) (i : InputData) (cut : List (List ℕ)) (numbe
   pub is : finish ≡ finish_with stop rows savepoint
   pub can : CanStop i.sources cut stop
   pub delivered : AreRowsOf (due_between p i.sources cut (cut_to i (until_of stop))) rows
-  pub saved : (end : Cut) → stop ≡ At end → IsSavedAt p i end.counts (number + 1) savepoint
+  pub saved : (end : Cut) → stop ≡ At end → CanRestart p i end.counts (number + 1) savepoint
 
 -- why a leg from a cut gives nothing: it cannot stop so, or memory ran out
 abbrev pub IsStepRefusal : InputData → List (List ℕ) → Stop → LegFault → Type 0

@@ -30,7 +30,7 @@ CanRun i begin [] = Unit {0}
 CanRun i begin (leg ∷ legs) = CanStop i.sources begin leg.stop × CanRun i (cut_to i (until_of leg.stop)) legs
 
 -- all of them ran, each from where the one before stopped
-pub record HasRun (p : PlanData) (i : InputData) (legs : List LegSpec) (r : Reached) : Type 0 where
+pub record HaveRun (p : PlanData) (i : InputData) (legs : List LegSpec) (r : Reached) : Type 0 where
   pub can : CanRun i (empty_cut i.sources) legs
   pub after : IsAfter p i (last_stop legs) (length legs) r
 

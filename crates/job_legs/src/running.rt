@@ -14,7 +14,7 @@ ghost use Rattle.savepoint_codec.specs.Layout.{savepoint_bytes};
 ghost use Rattle.stream_model.specs.InputData.{BelongsTo};
 ghost use Rattle.job_legs.specs.Reached.{HasSaved, IsAfter, IsAt, IsGiven, IsStepRefusal, rows_of, saved_of};
 ghost use Rattle.job_legs.specs.Ending.{IsJobEnd, IsLegsRefusal};
-ghost use Rattle.job_legs.specs.Running.{HasRun, IsRunRefusal};
+ghost use Rattle.job_legs.specs.Running.{HaveRun, IsRunRefusal};
 
 use crate::laws::{nothing_due_at_first, rows_add_up};
 use job_texts::sort_rows;
@@ -123,7 +123,7 @@ fn run_all(
     requires belongs { BelongsTo plan.now input.now }
     requires scales { All (λ leg. IsScale plan.now leg.scale) legs.items }
     requires list { are_legs legs.items ≡ true }
-    ensures { MatchResult result (HasRun plan.now input.now legs.items) (IsRunRefusal input.now legs.items) }
+    ensures { MatchResult result (HaveRun plan.now input.now legs.items) (IsRunRefusal input.now legs.items) }
 {
     let _law = nothing_due_at_first();
     let _sources = input.sources();

@@ -3,7 +3,7 @@
 ghost use Rattle.std.specs.Prelude.{◌≡◌, ℕ, true, List, IfOk};
 ghost use Rattle.restore.specs.Answer.{is_memory};
 ghost use Rattle.restarts.specs.Laws.{IsStartAt};
-ghost use Rattle.restarts.specs.Restart.{IsSavedAt};
+ghost use Rattle.restarts.specs.Restart.{CanRestart};
 
 use crate::laws::checks_go_on;
 use logical_plan::Plan;
@@ -32,8 +32,8 @@ pub fn restart(
     input: &Input,
     savepoint: &Savepoint,
 ) -> Result<Start, AllocError>
-    requires { (cut : List (List ℕ)) × (number : ℕ) × IsSavedAt plan.now input.now cut number savepoint.now }
-    ensures { (cut : List (List ℕ)) (number : ℕ) → IsSavedAt plan.now input.now cut number savepoint.now → IfOk result (IsStartAt plan.now input.now cut number) }
+    requires { (cut : List (List ℕ)) × (number : ℕ) × CanRestart plan.now input.now cut number savepoint.now }
+    ensures { (cut : List (List ℕ)) (number : ℕ) → CanRestart plan.now input.now cut number savepoint.now → IfOk result (IsStartAt plan.now input.now cut number) }
 {
     let _law = checks_go_on();
     match check(alloc, plan, input, savepoint) {

@@ -6,7 +6,7 @@ use Rattle.layout_rules.specs.Scale.{IsScale}
 use Rattle.leg_lists.specs.declared.leg.LegSpec.{LegSpec}
 use Rattle.stream_model.specs.Watermarks.{IsOrderly}
 use Rattle.job_legs.specs.declared.running.Reached.{Reached}
-use Rattle.job_legs.specs.Running.{HasRun, IsRunRefusal}
+use Rattle.job_legs.specs.Running.{HaveRun, IsRunRefusal}
 use Rattle.job_legs.proofs.Ways.{IsOnWay, start, step, refused}
 use Rattle.job_legs.proofs.Taken.{fails}
 use Rattle.job_legs.proofs.running.run_all.Goals as goal
@@ -41,5 +41,5 @@ returns-in_err-go_on c =
     let all = c.args.legs.items in
     let e = c.in-Some.ensures.steps.0 in
     let before = subst (λ legs. IsOnWay p i all legs c.loop-leg.reached) e c.loop-leg.invariant.way in
-    fails (HasRun p i all) (IsRunRefusal i all) c.in_err-go_on.field-0.0 c.from_residual.result c.from_residual.ensures.0 c.from_residual.ensures.1
+    fails (HaveRun p i all) (IsRunRefusal i all) c.in_err-go_on.field-0.0 c.from_residual.result c.from_residual.ensures.0 c.from_residual.ensures.1
     (refused p i all c.in-Some.leg (into_iter_items c.next.new.self) c.loop-leg.reached c.in_err-go_on.field-0.0 before c.in_err-go_on.ensures.refused)
