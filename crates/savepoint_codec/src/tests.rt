@@ -1,5 +1,6 @@
 use super::*;
 use std::alloc::Global;
+use std::process::Abort;
 use std::test::Fail;
 
 /// The savepoint of a job with one source of two partitions, both read up to their second entry, and one
@@ -33,45 +34,72 @@ fn edited(alloc: Global, edits: &[(usize, u8)]) -> Result<Vec<u8>, Fail> {
     Ok(bytes)
 }
 
-#[test]
-fn a_savepoint_there_and_back(rt: HostRuntime) -> Result<(), Fail> {
-    let savepoint = decode(rt.alloc(), &BYTES)?;
-    let contents = savepoint.contents();
+/// Checks that a savepoint is written as these bytes.
+fn check_bytes(
+    rt: &(impl Abort + AllocGlobal),
+    savepoint: &Savepoint,
+    bytes: &[u8],
+) -> Result<(), Fail> {
+    let written = encode(rt.alloc(), savepoint)?;
+    assert_eq!(rt; written.as_slice(), bytes);
+    Ok(())
+}
+
+const PARTITIONS: [SavedPartition; 2] = [
+    SavedPartition {
+        offset: 2,
+        watermark: 9,
+    },
+    SavedPartition {
+        offset: 2,
+        watermark: 11,
+    },
+];
+
+fn check_sources(rt: &impl Abort, sources: &[SavedSource]) -> Result<(), Fail> {
+    let source = sources.first().ok_or("no source")?;
+    assert_eq!(rt; source.uid.as_str(), "s");
+    assert_eq!(rt; source.partitions.as_slice(), PARTITIONS.as_slice());
+    Ok(())
+}
+
+fn check_contents(rt: &impl Abort, contents: &Contents) -> Result<(), Fail> {
     assert_eq!(rt; contents.number, 1);
     assert_eq!(rt; contents.max, 128);
     assert_eq!(rt; contents.window_uid.as_str(), "w");
-    let source = contents.sources.as_slice().first().ok_or("no source")?;
-    assert_eq!(rt; source.uid.as_str(), "s");
-    let wanted = [
-        SavedPartition {
-            offset: 2,
-            watermark: 9,
-        },
-        SavedPartition {
-            offset: 2,
-            watermark: 11,
-        },
-    ];
-    assert_eq!(rt; source.partitions.as_slice(), wanted.as_slice());
-    assert_eq!(rt;
-        encode(rt.alloc(), &savepoint)?.as_slice(),
-        BYTES.as_slice()
-    );
+    check_sources(rt, contents.sources.as_slice())
+}
+
+fn check(rt: &(impl Abort + AllocGlobal), savepoint: &Savepoint) -> Result<(), Fail> {
+    check_contents(rt, savepoint.contents())?;
+    check_bytes(rt, savepoint, &BYTES)
+}
+
+#[test]
+fn a_savepoint_there_and_back(rt: HostRuntime) -> Result<(), Fail> {
+    let savepoint = decode(rt.alloc(), &BYTES)?;
+    check(&rt, &savepoint)
+}
+
+fn check_entry(rt: &impl Abort, group: &SavedGroup) {
+    assert_eq!(rt; group.group, 86);
+    assert_eq!(rt; group.entries.len(), 1);
+    let entry = group.entries.entry(0);
+    assert_eq!(rt; (entry.pane.start, entry.pane.key, entry.count), (10, 1, 1));
+    assert_eq!(rt; entry.numbers, [1, 7, 7, 7].as_slice());
+}
+
+fn check_groups(rt: &impl Abort, groups: &[SavedGroup]) -> Result<(), Fail> {
+    assert_eq!(rt; groups.len(), 1);
+    let group = groups.first().ok_or("no group")?;
+    check_entry(rt, group);
     Ok(())
 }
 
 #[test]
 fn its_one_entry(rt: HostRuntime) -> Result<(), Fail> {
     let savepoint = decode(rt.alloc(), &BYTES)?;
-    let groups = savepoint.contents().groups.as_slice();
-    assert_eq!(rt; groups.len(), 1);
-    let group = groups.first().ok_or("no group")?;
-    assert_eq!(rt; group.group, 86);
-    assert_eq!(rt; group.entries.len(), 1);
-    let entry = group.entries.entry(0);
-    assert_eq!(rt; (entry.pane.start, entry.pane.key, entry.count), (10, 1, 1));
-    assert_eq!(rt; entry.numbers, [1, 7, 7, 7].as_slice());
-    Ok(())
+    check_groups(&rt, savepoint.contents().groups.as_slice())
 }
 
 #[test]
@@ -141,22 +169,36 @@ fn no_groups(alloc: Global) -> Result<Vec<u8>, Fail> {
     Ok(bytes)
 }
 
+fn counts(contents: &Contents) -> (usize, usize) {
+    (contents.sources.len(), contents.groups.len())
+}
+
+/// Checks that the bytes are a savepoint of so many sources and groups, and that it is written as them.
+fn check_again(
+    rt: &(impl Abort + AllocGlobal),
+    bytes: &[u8],
+    want: (usize, usize),
+) -> Result<(), Fail> {
+    let savepoint = decode(rt.alloc(), bytes)?;
+    assert_eq!(rt; counts(savepoint.contents()), want);
+    check_bytes(rt, &savepoint, bytes)
+}
+
 #[test]
 fn no_groups_end_with_two_zeros(rt: HostRuntime) -> Result<(), Fail> {
     let bytes = no_groups(rt.alloc())?;
-    let savepoint = decode(rt.alloc(), &bytes)?;
-    assert_eq!(rt; savepoint.contents().groups.len(), 0);
-    assert_eq!(rt;
-        encode(rt.alloc(), &savepoint)?.as_slice(),
-        bytes.as_slice()
-    );
-    Ok(())
+    check_again(&rt, &bytes, (1, 0))
+}
+
+fn is_own(alloc: Global, savepoint: &Savepoint, bytes: &[u8]) -> Result<bool, Fail> {
+    let written = encode(alloc, savepoint)?;
+    Ok(written.as_slice() == bytes)
 }
 
 /// Bytes that are accepted are the savepoint's own.
 fn is_refused_or_own(alloc: Global, bytes: &[u8]) -> Result<bool, Fail> {
     match decode(alloc, bytes) {
-        Ok(savepoint) => Ok(encode(alloc, &savepoint)?.as_slice() == bytes),
+        Ok(savepoint) => is_own(alloc, &savepoint, bytes),
         Err(fault) => Ok(fault != SaveFault::Memory),
     }
 }
@@ -186,13 +228,7 @@ fn two_groups(alloc: Global) -> Result<Vec<u8>, Fail> {
 #[test]
 fn two_groups_there_and_back(rt: HostRuntime) -> Result<(), Fail> {
     let bytes = two_groups(rt.alloc())?;
-    let savepoint = decode(rt.alloc(), &bytes)?;
-    assert_eq!(rt; savepoint.contents().groups.len(), 2);
-    assert_eq!(rt;
-        encode(rt.alloc(), &savepoint)?.as_slice(),
-        bytes.as_slice()
-    );
-    Ok(())
+    check_again(&rt, &bytes, (1, 2))
 }
 
 /// The savepoint with a second source, `t`, whose one partition is the first of `s`.
@@ -208,12 +244,7 @@ fn two_sources(alloc: Global) -> Result<Vec<u8>, Fail> {
 #[test]
 fn two_sources_there_and_back(rt: HostRuntime) -> Result<(), Fail> {
     let mut bytes = two_sources(rt.alloc())?;
-    let savepoint = decode(rt.alloc(), &bytes)?;
-    assert_eq!(rt; savepoint.contents().sources.len(), 2);
-    assert_eq!(rt;
-        encode(rt.alloc(), &savepoint)?.as_slice(),
-        bytes.as_slice()
-    );
+    check_again(&rt, &bytes, (2, 1))?;
     *bytes.get_mut(96).ok_or("no second source")? = b's';
     assert_eq!(rt; fault_of(rt.alloc(), &bytes), Some(SaveFault::Order));
     Ok(())
