@@ -3,7 +3,7 @@ import collections
 import itertools
 
 from .jobs import (
-    Refusal, SINK, ends_of, leg, nothing_of, read_cut, read_input, read_plan, read_scale, require_stop, text_of,
+    Refusal, SINK, ends_of, leg, nothing_of, read_cut, read_input, read_legs, read_plan, read_scale, require_stop, text_of,
 )
 from .savepoints import check, decode, encode, savepoint_of
 
@@ -16,11 +16,18 @@ def answer(command, files, *words):
         return refusal.status(), "", f"{refusal}\n"
 
 
-def run(files, plan, input_):
+def run(files, plan, input_, legs=None):
+    """The answer of `run`, in one leg or in those of a list."""
     plan = read_plan(files[plan])
     sources = read_input(plan, files[input_])
-    rows, _ = leg(plan, sources, nothing_of(sources), ends_of(sources))
-    return text_of(plan, rows)
+    cuts = [None] if legs is None else read_legs(plan, files[legs])
+    start, rows = nothing_of(sources), []
+    for cut in cuts:
+        if cut is not None:
+            require_stop(sources, start, cut)
+        more, start = leg(plan, sources, start, cut or ends_of(sources))
+        rows += more
+    return text_of(plan, sorted(rows))
 
 
 def run_leg(files, plan, input_, scale, *options):

@@ -113,6 +113,7 @@ IS_PLAN = members(
 # Elements of records and watermarks that are no numbers have a fault of their own.
 IS_ENTRY = either(members({"rows": list_of(is_list)}), members({"watermark": lambda value: True}))
 IS_INPUT = members_alike(list_of(list_of(IS_ENTRY)))
+IS_LEGS = list_of(members({"scale": lambda value: True}, {"stop": list_of(list_of(lambda value: type(value) is int and 0 <= value < 2**64))}))
 IS_SCALE = members({"ring": is_number, "operators": members_alike(members({"parallelism": is_number}, {"chain": is_flag}))})
 
 
@@ -269,7 +270,10 @@ def stages_of(plan, operators):
 
 def read_scale(plan, data):
     """The stages of the plan at a scale."""
-    value = json_of(data, "S1 NotJson")
+    return stages_at(plan, json_of(data, "S1 NotJson"))
+
+
+def stages_at(plan, value):
     require(IS_SCALE(value), "S2 Member")
     operators = value["operators"]
     uids = {uid for uid, *_ in plan.sources + plan.filters} | {plan.uid}
@@ -331,6 +335,16 @@ def read_cut(word):
     cut = [[int(count) for count in source] for source in counts]
     require(all(count < 2**64 for source in cut for count in source), "C1 Cut")
     return cut
+
+
+def read_legs(plan, data):
+    """The cut of each leg of a list, of which the last may have none."""
+    legs = json_of(data, "L4 NotJson")
+    require(IS_LEGS(legs), "L5 Member")
+    for leg_of_list in legs:
+        stages_at(plan, leg_of_list["scale"])
+    require(1 <= len(legs) <= 1024 and all("stop" in leg_of_list for leg_of_list in legs[:-1]), "L3 Legs")
+    return [leg_of_list.get("stop") for leg_of_list in legs]
 
 
 def require_stop(sources, start, cut):

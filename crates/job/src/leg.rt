@@ -9,8 +9,8 @@ ghost use Rattle.job_texts.specs.Fault.{is_memory};
 ghost use Rattle.job_texts.specs.Tells.{KeepsWriter};
 ghost use Rattle.job.specs.Leg.{AreLegRows, EndsLeg, GivesLeg, IsLegEnd, IsLegSaved, TellsLeg, job_with, leg_by, leg_job, leg_on, leg_said, start_said, stop_said};
 
-use job_texts::{JobFault, read_cut, sort_rows, text_of_rows, write_text};
 use job_legs::saved_bytes;
+use job_texts::{JobFault, read_cut, sort_rows, text_of_rows, write_text};
 use leg_lists::Stop;
 use leg_runs::{Finish, run_leg_by};
 use logical_plan::Plan;

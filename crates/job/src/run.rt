@@ -8,8 +8,8 @@ ghost use Rattle.job_texts.specs.Text.{IsTextOf};
 ghost use Rattle.job.specs.Run.{Answers, EndsRun, legs_in, run_by, run_said, run_with};
 ghost use Rattle.job_texts.specs.Tells.{KeepsWriter};
 
-use job_texts::{JobFault, sort_rows, text_of_rows, write_text};
 use job_legs::run_legs_by;
+use job_texts::{JobFault, sort_rows, text_of_rows, write_text};
 use leg_lists::read_legs;
 use leg_runs::run_leg;
 use logical_plan::Plan;

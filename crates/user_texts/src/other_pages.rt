@@ -3,7 +3,7 @@
 use crate::page::FaultPage;
 
 /// The pages of all faults but those of a plan and of an input, in the order of docs/FAULTS.md.
-pub const OTHER_PAGES: [FaultPage<'static>; 29] = [
+pub const OTHER_PAGES: [FaultPage<'static>; 32] = [
     (
         "C1",
         r#"C1 Cut (status 2)
@@ -439,7 +439,49 @@ $ streamjob leg plan.json input.json scale.json --from savepoint --stop 0
 L1 StopRange
 ```
 
-`streamjob show savepoint` prints what was read of each partition. Without `--stop` a leg goes to the end of the input.
+`streamjob show savepoint` prints what was read of each partition. Without `--stop` a leg goes to the end of the input. In a list of legs the
+`stop` of a leg is such a cut, and is below that of a leg before it where it counts fewer entries of a partition.
+"#,
+    ),
+    (
+        "L3",
+        r#"L3 Legs (status 3)
+
+The list of legs has no leg, or more than 1,024, or a leg before the last has no `stop`.
+
+```json legs.json
+[]
+```
+
+Only the last leg may go to the end of the input. `jq length legs.json` counts the legs.
+"#,
+    ),
+    (
+        "L4",
+        r#"L4 NotJson (status 3)
+
+The list of legs is no JSON text, as for `P1`.
+
+```json legs.json
+[
+```
+
+`jq . legs.json` names the line and the column of most.
+"#,
+    ),
+    (
+        "L5",
+        r#"L5 Member (status 3)
+
+The list of legs is no list of objects with a `scale` and perhaps a `stop`, a member is unknown, or a `stop` is no list of lists of whole numbers
+from 0 to 2^64 - 1.
+
+```json legs.json
+[{"scale": {"ring": 16, "operators": {"calls": {"parallelism": 1}, "usage": {"parallelism": 1}}}, "stop": "2,2"}]
+```
+
+A cut has another form here than on the command line: `[[2, 2]]` is `2,2`. docs/FORMATS.md has the form under List of legs. A scale of a leg that
+is refused has its own code, `S2` to `S7`.
 "#,
     ),
     (

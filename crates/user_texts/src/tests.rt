@@ -28,6 +28,7 @@ fn pages_of_both_tables(rt: HostRuntime) -> Result<(), Fail> {
         ("I10", "I10 TooMany (status 3)\n"),
         ("C1", "C1 Cut (status 2)\n"),
         ("q8", "Q8 WrongGroup (status 3)\n"),
+        ("L3", "L3 Legs (status 3)\n"),
         ("MEMORY", "memory (status 4)\n"),
     ] {
         let mut out = Vec::new(rt.alloc());
@@ -49,6 +50,7 @@ fn codes_without_a_page(rt: HostRuntime) {
         "P3 Columns",
         "Q10",
         "L2",
+        "L6",
         "mem",
     ] {
         assert_eq!(rt; explain(code, &mut out), Err(TextFault::NoPage), "{code}");

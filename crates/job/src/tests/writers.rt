@@ -49,7 +49,14 @@ fn a_writer_that_buffers_is_flushed(rt: HostRuntime) -> Result<(), Fail> {
     let alloc = rt.alloc();
     let mut rows = Buffering::new(&rt, false);
     let keys = HashKeys::random(&rt)?;
-    job_run(alloc, keys, PLAN.as_bytes(), INPUT.as_bytes(), None, &mut rows)?;
+    job_run(
+        alloc,
+        keys,
+        PLAN.as_bytes(),
+        INPUT.as_bytes(),
+        None,
+        &mut rows,
+    )?;
     assert_eq!(rt; rows.given_on.as_slice(), ROWS.as_bytes());
     let mut layout = Buffering::new(&rt, false);
     job_layout(alloc, PLAN.as_bytes(), SCALE.as_bytes(), &mut layout)?;
@@ -65,7 +72,14 @@ fn a_flush_that_fails_is_a_failed_write(rt: HostRuntime) -> Result<(), Fail> {
     let alloc = rt.alloc();
     let mut out = Buffering::new(&rt, true);
     let keys = HashKeys::random(&rt)?;
-    let rows = job_run(alloc, keys, PLAN.as_bytes(), INPUT.as_bytes(), None, &mut out);
+    let rows = job_run(
+        alloc,
+        keys,
+        PLAN.as_bytes(),
+        INPUT.as_bytes(),
+        None,
+        &mut out,
+    );
     assert_eq!(rt; rows.err(), Some(JobFault::Write));
     let layout = job_layout(alloc, PLAN.as_bytes(), SCALE.as_bytes(), &mut out);
     assert_eq!(rt; layout.err(), Some(JobFault::Write));

@@ -36,10 +36,14 @@ returns c =
     let p = c.args.plan.now in
     let i = c.args.input.now in
     let legs = c.in_ok-legs.legs.items in
-    let end = c.in_ok-end.ensures in
-    (run_job p i (Some legs), ap (and_then (λ legs. Ok (run_job p i (Some legs)))) (ap (as_job leg_fault) c.in_ok-legs.ensures.reads), end.can, record {
-      rows = c.in_ok-end.end.rows.items;
-      are = end.rows;
-      ordered = end.ordered;
-      lines = c.in_ok-text_of_rows.ensures ∙ ap texts.text_of_rows c.deref.ensures.value;
-    })
+    let end = c.in_ok-end.ensures in (
+      run_job p i (Some legs),
+      ap (and_then (λ legs. Ok (run_job p i (Some legs)))) (ap (as_job leg_fault) c.in_ok-legs.ensures.reads),
+      end.can,
+      record {
+        rows = c.in_ok-end.end.rows.items;
+        are = end.rows;
+        ordered = end.ordered;
+        lines = c.in_ok-text_of_rows.ensures ∙ ap texts.text_of_rows c.deref.ensures.value;
+      },
+    )
