@@ -10,6 +10,8 @@ use columns::Batch;
 use plain_data::{Items, Text};
 use plan_model::{Aggregate, Pane, Uid, WindowSpec};
 use std::alloc::{AllocError, Global};
+use std::process::Abort;
+use std::random::RandomSource;
 use std::test::Fail;
 
 /// Windows of times in column 0 and keys in column 1, which count the records and add up their keys.
@@ -75,14 +77,26 @@ fn numbers(numbers: &[i128]) -> Result<(i128, i128), Fail> {
     }
 }
 
-/// The starts, ends, keys, counts and sums of the rows that fire by the watermark.
-fn fired(
-    alloc: Global,
-    state: &mut WindowState,
-    watermark: i64,
-) -> Result<Vec<(i64, i64, i64, i128, i128)>, Fail>
-    ensures { state.new.window ≡ state.old.window }
+/// The state of windows of this size and slide that the records have reached.
+fn reached(
+    rt: &(impl AllocGlobal + RandomSource),
+    size: u8,
+    slide: u8,
+    records: &[(i32, i64)],
+) -> Result<WindowState, Fail>
+    requires sized { 1 ≤ size }
+    requires slides { 1 ≤ slide }
 {
+    let keys = HashKeys::random(rt)?;
+    let window = window(rt.alloc(), size, slide)?;
+    state(rt.alloc(), keys, &window, records)
+}
+
+/// The start, end, key, count and sum of a row that fires.
+type Fired = (i64, i64, i64, i128, i128);
+
+/// The rows that fire by the watermark.
+fn fired(alloc: Global, state: &mut WindowState, watermark: i64) -> Result<Vec<Fired>, Fail> {
     let mut fired = Vec::new(alloc);
     for row in state.fire(watermark)?.iter() {
         let (count, sum) = numbers(row.values.as_slice())?;
@@ -91,65 +105,55 @@ fn fired(
     Ok(fired)
 }
 
-#[test]
-fn windows_fire_once_at_their_end(rt: HostRuntime) -> Result<(), Fail> {
-    let alloc = rt.alloc();
-    let window = window(alloc, 10, 10)?;
-    let mut state = state(
-        alloc,
-        HashKeys::random(&rt)?,
-        &window,
-        &[(12, 7), (0, 7), (9, 7), (9, -4)],
-    )?;
-    assert!(rt; fired(alloc, &mut state, 8)?.is_empty());
-    assert_eq!(rt;
-        fired(alloc, &mut state, 9)?.as_slice(),
-        [(0, 10, -4, 1, -4), (0, 10, 7, 2, 14)].as_slice()
-    );
-    assert!(rt; fired(alloc, &mut state, 9)?.is_empty());
-    assert_eq!(rt;
-        fired(alloc, &mut state, i64::MAX)?.as_slice(),
-        [(10, 20, 7, 1, 7)].as_slice()
-    );
-    assert!(rt; fired(alloc, &mut state, i64::MAX)?.is_empty());
+/// Checks the rows that fire by each watermark in turn.
+fn check_fired(
+    rt: &(impl Abort + AllocGlobal),
+    state: &mut WindowState,
+    listed: &[(i64, &[Fired])],
+) -> Result<(), Fail> {
+    for (watermark, want) in listed {
+        let fired = fired(rt.alloc(), state, *watermark)?;
+        assert_eq!(rt; fired.as_slice(), *want, "at {watermark}");
+    }
     Ok(())
 }
+
+const RECORDS: [(i32, i64); 4] = [(12, 7), (0, 7), (9, 7), (9, -4)];
+
+const FIRED_ONCE: &[(i64, &[Fired])] = &[
+    (8, &[]),
+    (9, &[(0, 10, -4, 1, -4), (0, 10, 7, 2, 14)]),
+    (9, &[]),
+    (i64::MAX, &[(10, 20, 7, 1, 7)]),
+    (i64::MAX, &[]),
+];
+
+#[test]
+fn windows_fire_once_at_their_end(rt: HostRuntime) -> Result<(), Fail> {
+    let mut state = reached(&rt, 10, 10, &RECORDS)?;
+    check_fired(&rt, &mut state, FIRED_ONCE)
+}
+
+const FIRED_BELOW_ZERO: &[(i64, &[Fired])] = &[
+    (-11, &[(-20, -10, 1, 1, 1)]),
+    (-1, &[(-10, 0, 1, 2, 2)]),
+];
 
 #[test]
 fn windows_of_negative_times(rt: HostRuntime) -> Result<(), Fail> {
-    let alloc = rt.alloc();
-    let window = window(alloc, 10, 10)?;
-    let mut state = state(
-        alloc,
-        HashKeys::random(&rt)?,
-        &window,
-        &[(-1, 1), (-10, 1), (-11, 1)],
-    )?;
-    assert_eq!(rt;
-        fired(alloc, &mut state, -11)?.as_slice(),
-        [(-20, -10, 1, 1, 1)].as_slice()
-    );
-    assert_eq!(rt;
-        fired(alloc, &mut state, -1)?.as_slice(),
-        [(-10, 0, 1, 2, 2)].as_slice()
-    );
-    Ok(())
+    let mut state = reached(&rt, 10, 10, &[(-1, 1), (-10, 1), (-11, 1)])?;
+    check_fired(&rt, &mut state, FIRED_BELOW_ZERO)
 }
+
+const FIRED_SLIDING: &[(i64, &[Fired])] = &[
+    (1, &[(-8, 2, 3, 1, 3)]),
+    (i64::MAX, &[(-4, 6, 3, 1, 3)]),
+];
 
 #[test]
 fn a_time_lies_in_each_sliding_window(rt: HostRuntime) -> Result<(), Fail> {
-    let alloc = rt.alloc();
-    let window = window(alloc, 10, 4)?;
-    let mut state = state(alloc, HashKeys::random(&rt)?, &window, &[(-1, 3)])?;
-    assert_eq!(rt;
-        fired(alloc, &mut state, 1)?.as_slice(),
-        [(-8, 2, 3, 1, 3)].as_slice()
-    );
-    assert_eq!(rt;
-        fired(alloc, &mut state, i64::MAX)?.as_slice(),
-        [(-4, 6, 3, 1, 3)].as_slice()
-    );
-    Ok(())
+    let mut state = reached(&rt, 10, 4, &[(-1, 3)])?;
+    check_fired(&rt, &mut state, FIRED_SLIDING)
 }
 
 #[test]
@@ -166,8 +170,10 @@ fn faults_have_their_codes(rt: HostRuntime) -> Result<(), Fail> {
     Ok(())
 }
 
-/// The start and key, the count of records, and the two numbers of each part.
-fn contents(alloc: Global, parts: &[Part]) -> Result<Vec<(i64, i64, u64, i128, i128)>, Fail> {
+/// The start and key of a pane, the count of its records, and its two numbers.
+type Held = (i64, i64, u64, i128, i128);
+
+fn contents(alloc: Global, parts: &[Part]) -> Result<Vec<Held>, Fail> {
     let mut contents = Vec::new(alloc);
     for part in parts {
         let Pane { start, key } = part.pane;
@@ -178,9 +184,22 @@ fn contents(alloc: Global, parts: &[Part]) -> Result<Vec<(i64, i64, u64, i128, i
 }
 
 /// What is held in each pane.
-fn held(alloc: Global, state: &WindowState) -> Result<Vec<(i64, i64, u64, i128, i128)>, Fail> {
+fn held(alloc: Global, state: &WindowState) -> Result<Vec<Held>, Fail> {
     contents(alloc, &state.parts(alloc)?)
 }
+
+fn check_held(
+    rt: &(impl Abort + AllocGlobal),
+    state: &WindowState,
+    want: &[Held],
+) -> Result<(), Fail> {
+    let held = held(rt.alloc(), state)?;
+    assert_eq!(rt; held.as_slice(), want);
+    Ok(())
+}
+
+/// What is held of `RECORDS`.
+const HELD: [Held; 3] = [(0, -4, 1, 1, -4), (0, 7, 2, 2, 14), (10, 7, 1, 1, 7)];
 
 /// The parts of the state that the records have reached.
 fn parts_of(
@@ -196,45 +215,39 @@ fn parts_of(
     Ok(state(alloc, keys, window, records)?.parts(alloc)?)
 }
 
-/// The state that the parts of a state make which the records have reached.
+/// The state of windows of 10 that the parts of the state make which the records have reached.
 fn made_again(
-    alloc: Global,
-    keys: HashKeys,
-    window: &WindowSpec,
+    rt: &(impl AllocGlobal + RandomSource),
     records: &[(i32, i64)],
-) -> Result<WindowState, Fail>
-    requires time { window.now.time ≡ 0 }
-    requires aggregates { CanAggregate 2 window.now }
-{
-    let parts = parts_of(alloc, keys, window, records)?;
-    Ok(WindowState::from_parts(alloc, keys, window, &parts)?)
+) -> Result<WindowState, Fail> {
+    let keys = HashKeys::random(rt)?;
+    let window = window(rt.alloc(), 10, 10)?;
+    let parts = parts_of(rt.alloc(), keys, &window, records)?;
+    Ok(WindowState::from_parts(rt.alloc(), keys, &window, &parts)?)
 }
 
 #[test]
 fn a_state_has_its_parts(rt: HostRuntime) -> Result<(), Fail> {
-    let alloc = rt.alloc();
-    let window = window(alloc, 10, 10)?;
-    let records = [(12, 7), (0, 7), (9, 7), (9, -4)];
-    let state = state(alloc, HashKeys::random(&rt)?, &window, &records)?;
-    assert_eq!(rt;
-        held(alloc, &state)?.as_slice(),
-        [(0, -4, 1, 1, -4), (0, 7, 2, 2, 14), (10, 7, 1, 1, 7)].as_slice()
-    );
+    let state = reached(&rt, 10, 10, &RECORDS)?;
+    check_held(&rt, &state, &HELD)
+}
+
+fn check_count(
+    rt: &(impl Abort + AllocGlobal),
+    state: &mut WindowState,
+    watermark: i64,
+    count: usize,
+) -> Result<(), Fail> {
+    let fired = fired(rt.alloc(), state, watermark)?;
+    assert_eq!(rt; fired.len(), count);
     Ok(())
 }
 
 #[test]
 fn parts_make_the_state_again(rt: HostRuntime) -> Result<(), Fail> {
-    let alloc = rt.alloc();
-    let window = window(alloc, 10, 10)?;
-    let records = [(12, 7), (0, 7), (9, 7), (9, -4)];
-    let mut again = made_again(alloc, HashKeys::random(&rt)?, &window, &records)?;
-    assert_eq!(rt;
-        held(alloc, &again)?.as_slice(),
-        [(0, -4, 1, 1, -4), (0, 7, 2, 2, 14), (10, 7, 1, 1, 7)].as_slice()
-    );
-    assert_eq!(rt; fired(alloc, &mut again, 9)?.len(), 2);
-    Ok(())
+    let mut again = made_again(&rt, &RECORDS)?;
+    check_held(&rt, &again, &HELD)?;
+    check_count(&rt, &mut again, 9, 2)
 }
 
 /// The state that two states' parts make, those of the first before those of the second.
@@ -253,65 +266,83 @@ fn made_of_both(
     Ok(WindowState::from_parts(alloc, keys, window, &parts)?)
 }
 
+/// The same of windows of 10.
+fn made_of_tens(
+    rt: &(impl AllocGlobal + RandomSource),
+    first: &[(i32, i64)],
+    second: &[(i32, i64)],
+) -> Result<WindowState, Fail> {
+    let keys = HashKeys::random(rt)?;
+    let window = window(rt.alloc(), 10, 10)?;
+    made_of_both(rt.alloc(), keys, &window, first, second)
+}
+
 #[test]
 fn the_first_part_of_a_pane_counts(rt: HostRuntime) -> Result<(), Fail> {
-    let alloc = rt.alloc();
-    let window = window(alloc, 10, 10)?;
     let (first, second) = ([(0, 7), (9, 7), (9, -4)], [(3, 7), (14, 7)]);
-    let state = made_of_both(alloc, HashKeys::random(&rt)?, &window, &first, &second)?;
-    assert_eq!(rt;
-        held(alloc, &state)?.as_slice(),
-        [(0, -4, 1, 1, -4), (0, 7, 2, 2, 14), (10, 7, 1, 1, 7)].as_slice()
-    );
-    Ok(())
+    let state = made_of_tens(&rt, &first, &second)?;
+    check_held(&rt, &state, &HELD)
 }
 
 /// One record in each of a hundred windows of 10, in no order: key -k at the window that begins at 10 * k.
-fn hundred(alloc: Global, window: &WindowSpec, keys: HashKeys) -> Result<WindowState, Fail>
-    requires time { window.now.time ≡ 0 }
-    requires aggregates { CanAggregate 2 window.now }
-    ensures window { IfOk result (λ s. s.window ≡ window.now) }
-{
-    let mut records = Vec::new(alloc);
+fn hundred(rt: &(impl AllocGlobal + RandomSource)) -> Result<WindowState, Fail> {
+    let mut records = Vec::new(rt.alloc());
     for i in 0..100u8 {
         let pane = (i as i32 * 37) % 100;
         records.push((pane * 10 + 3, -(pane as i64)))?;
     }
-    state(alloc, keys, window, &records)
+    reached(rt, 10, 10, &records)
 }
 
-#[test]
-fn rising_watermarks_fire_each_window_once(rt: HostRuntime) -> Result<(), Fail> {
-    let alloc = rt.alloc();
-    let window = window(alloc, 10, 10)?;
-    let mut state = hundred(alloc, &window, HashKeys::random(&rt)?)?;
-    let mut next = 0u8;
-    for (watermark, until) in [
-        (-1, 0),
-        (8, 0),
-        (9, 1),
-        (9, 1),
-        (28, 2),
-        (29, 3),
-        (12, 3),
-        (600, 60),
-        (998, 99),
-        (999, 100),
-        (i64::MAX, 100),
-    ] {
-        for row in fired(alloc, &mut state, watermark)? {
-            let start = next as i64 * 10;
-            assert_eq!(rt;
-                row,
-                (start, start + 10, -(next as i64), 1, -(next as i128))
-            );
-            next = next.saturating_add(1);
-        }
-        assert_eq!(rt; next, until, "at {watermark}");
-        let left = state.parts(alloc)?.len();
+/// The row of one of the hundred windows.
+fn row_of(number: u8) -> Fired {
+    let start = number as i64 * 10;
+    (start, start + 10, -(number as i64), 1, -(number as i128))
+}
+
+/// Checks that the rows from `next` on fire by the watermark, and answers the number of the next to fire.
+fn check_next(
+    rt: &(impl Abort + AllocGlobal),
+    state: &mut WindowState,
+    watermark: i64,
+    next: u8,
+) -> Result<u8, Fail> {
+    let mut next = next;
+    for row in fired(rt.alloc(), state, watermark)? {
+        assert_eq!(rt; row, row_of(next));
+        next = next.saturating_add(1);
+    }
+    Ok(next)
+}
+
+/// Watermarks in turn, and how many windows have fired by each.
+const RISING: [(i64, u8); 11] = [
+    (-1, 0),
+    (8, 0),
+    (9, 1),
+    (9, 1),
+    (28, 2),
+    (29, 3),
+    (12, 3),
+    (600, 60),
+    (998, 99),
+    (999, 100),
+    (i64::MAX, 100),
+];
+
+fn check_rising(
+    rt: &(impl Abort + AllocGlobal),
+    state: &mut WindowState,
+    listed: &[(i64, u8)],
+) -> Result<(), Fail> {
+    let mut next = 0;
+    for (watermark, until) in listed {
+        next = check_next(rt, state, *watermark, next)?;
+        assert_eq!(rt; next, *until, "at {watermark}");
+        let left = state.parts(rt.alloc())?.len();
         assert_eq!(rt;
             left,
-            100usize.saturating_sub(until as usize),
+            100usize.saturating_sub(*until as usize),
             "at {watermark}"
         );
     }
@@ -319,14 +350,17 @@ fn rising_watermarks_fire_each_window_once(rt: HostRuntime) -> Result<(), Fail> 
 }
 
 #[test]
+fn rising_watermarks_fire_each_window_once(rt: HostRuntime) -> Result<(), Fail> {
+    let mut state = hundred(&rt)?;
+    check_rising(&rt, &mut state, &RISING)
+}
+
+#[test]
 fn all_windows_fire_in_one_go(rt: HostRuntime) -> Result<(), Fail> {
-    let alloc = rt.alloc();
-    let window = window(alloc, 10, 10)?;
-    let mut state = hundred(alloc, &window, HashKeys::random(&rt)?)?;
-    assert_eq!(rt; fired(alloc, &mut state, 999)?.len(), 100);
-    assert!(rt; held(alloc, &state)?.is_empty());
-    assert!(rt; fired(alloc, &mut state, i64::MAX)?.is_empty());
-    Ok(())
+    let mut state = hundred(&rt)?;
+    check_count(&rt, &mut state, 999, 100)?;
+    check_held(&rt, &state, &[])?;
+    check_fired(&rt, &mut state, &[(i64::MAX, &[])])
 }
 
 /// What an `add` to a new state answers, and the state.
@@ -345,18 +379,51 @@ fn added(
     Ok((answer, state))
 }
 
+/// What a state answers that has found no memory.
+fn check_failed(rt: &(impl Abort + AllocGlobal), state: &mut WindowState) -> Result<(), Fail>
+    requires { CanAggregate 2 state.old.window }
+{
+    let empty = empty(rt.alloc())?;
+    assert_eq!(rt; state.add(&empty), Err(StateFault::Failed));
+    assert_eq!(rt; state.fire(i64::MAX).err(), Some(StateFault::Failed));
+    assert_eq!(rt; state.parts(rt.alloc()).err(), Some(StateFault::Failed));
+    Ok(())
+}
+
+fn check_added(
+    rt: &(impl Abort + AllocGlobal),
+    keys: HashKeys,
+    window: &WindowSpec,
+) -> Result<(), Fail>
+    requires time { window.now.time ≡ 0 }
+    requires aggregates { CanAggregate 2 window.now }
+{
+    let (answer, mut state) = added(rt.alloc(), keys, window, &[(3, 7), (14, 7), (25, 8)])?;
+    if answer.is_err() {
+        assert_eq!(rt; answer, Err(StateFault::Memory));
+        check_failed(rt, &mut state)?;
+    }
+    Ok(())
+}
+
 // Where no allocation is made to fail there is memory.
 #[test]
 fn a_state_that_found_no_memory_has_failed(rt: HostRuntime) -> Result<(), Fail> {
-    let alloc = rt.alloc();
-    let window = window(alloc, 10, 10)?;
     let keys = HashKeys::random(&rt)?;
-    let (answer, mut state) = added(alloc, keys, &window, &[(3, 7), (14, 7), (25, 8)])?;
-    if answer.is_err() {
-        assert_eq!(rt; answer, Err(StateFault::Memory));
-        assert_eq!(rt; state.add(&empty(alloc)?), Err(StateFault::Failed));
-        assert_eq!(rt; state.fire(i64::MAX).err(), Some(StateFault::Failed));
-        assert_eq!(rt; state.parts(alloc).err(), Some(StateFault::Failed));
+    let window = window(rt.alloc(), 10, 10)?;
+    check_added(&rt, keys, &window)
+}
+
+/// Checks what a fire that found no memory leaves.
+fn check_kept(
+    rt: &(impl Abort + AllocGlobal),
+    state: &mut WindowState,
+    before: &[Held],
+) -> Result<(), Fail> {
+    if let Err(fault) = state.fire(499) {
+        assert_eq!(rt; fault, StateFault::Memory);
+        check_held(rt, state, before)?;
+        check_count(rt, state, 499, 50)?;
     }
     Ok(())
 }
@@ -364,14 +431,7 @@ fn a_state_that_found_no_memory_has_failed(rt: HostRuntime) -> Result<(), Fail> 
 // The same.
 #[test]
 fn a_fire_that_found_no_memory_takes_nothing_out(rt: HostRuntime) -> Result<(), Fail> {
-    let alloc = rt.alloc();
-    let window = window(alloc, 10, 10)?;
-    let mut state = hundred(alloc, &window, HashKeys::random(&rt)?)?;
-    let before = held(alloc, &state)?;
-    if let Err(fault) = state.fire(499) {
-        assert_eq!(rt; fault, StateFault::Memory);
-        assert_eq!(rt; held(alloc, &state)?, before);
-        assert_eq!(rt; fired(alloc, &mut state, 499)?.len(), 50);
-    }
-    Ok(())
+    let mut state = hundred(&rt)?;
+    let before = held(rt.alloc(), &state)?;
+    check_kept(&rt, &mut state, &before)
 }
