@@ -10,40 +10,75 @@ const SCALE: &str =
     r#"{"ring":4,"operators":{"s":{"parallelism":2},"f":{"parallelism":2,"chain":true},"g":{"parallelism":2,"chain":false},"w":{"parallelism":3}}}"#;
 
 fn fault(rt: &impl AllocGlobal, plan: &Plan, text: &str) -> Option<ScaleFault> {
-    Scale::read(rt.alloc(), plan, text.as_bytes()).err()
+    let Err(fault) = Scale::read(rt.alloc(), plan, text.as_bytes()) else {
+        return None;
+    };
+    Some(fault)
+}
+
+/// The scale of a text for the plan.
+fn read(rt: &impl AllocGlobal, text: &str) -> Result<Scale, Fail> {
+    let plan = Plan::read(rt.alloc(), PLAN.as_bytes())?;
+    Ok(Scale::read(rt.alloc(), &plan, text.as_bytes())?)
+}
+
+/// Checks a scale's filters by the parallelism of all and by which of them join the stage before.
+fn check_filters(rt: &impl Abort, scale: &Scale, parallelism: u32, chains: [bool; 2]) {
+    assert_eq!(rt; scale.filters().len(), 2);
+    for (filter, chain) in scale.filters().iter().zip(chains) {
+        assert_eq!(rt; (filter.parallelism, filter.chain), (parallelism, chain));
+    }
+}
+
+fn check_numbers(rt: &impl Abort, scale: &Scale, ring: u32, source: u32, window: u32) {
+    assert_eq!(rt; (scale.ring(), scale.window()), (ring, window));
+    assert_eq!(rt; scale.sources(), [source].as_slice());
 }
 
 #[test]
 fn a_scale(rt: HostRuntime) -> Result<(), Fail> {
-    let plan = Plan::read(rt.alloc(), PLAN.as_bytes())?;
-    let scale = Scale::read(rt.alloc(), &plan, SCALE.as_bytes())?;
-    assert_eq!(rt; (scale.ring(), scale.window()), (4, 3));
-    assert_eq!(rt; scale.sources(), [2].as_slice());
-    assert_eq!(rt; scale.filters().len(), 2);
-    for (filter, chain) in scale.filters().iter().zip([true, false]) {
-        assert_eq!(rt; (filter.parallelism, filter.chain), (2, chain));
-    }
+    let scale = read(&rt, SCALE)?;
+    check_numbers(&rt, &scale, 4, 2, 3);
+    check_filters(&rt, &scale, 2, [true, false]);
     Ok(())
 }
 
 #[test]
 fn the_last_of_two_members_counts(rt: HostRuntime) -> Result<(), Fail> {
-    let plan = Plan::read(rt.alloc(), PLAN.as_bytes())?;
     let twice = SCALE.replacen(rt.alloc(), r#""w":"#, r#""w":{"parallelism":9},"w":"#, 1)?;
-    let scale = Scale::read(rt.alloc(), &plan, twice.as_bytes())?;
+    let scale = read(&rt, twice.as_str())?;
     assert_eq!(rt; scale.window(), 3);
     Ok(())
 }
 
+fn single(rt: &impl AllocGlobal) -> Result<Scale, Fail> {
+    let plan = Plan::read(rt.alloc(), PLAN.as_bytes())?;
+    Ok(Scale::single(rt.alloc(), &plan)?)
+}
+
 #[test]
 fn single_subtasks(rt: HostRuntime) -> Result<(), Fail> {
-    let plan = Plan::read(rt.alloc(), PLAN.as_bytes())?;
-    let scale = Scale::single(rt.alloc(), &plan)?;
-    assert_eq!(rt; (scale.ring(), scale.window()), (16, 1));
-    assert_eq!(rt; scale.sources(), [1].as_slice());
-    assert_eq!(rt; scale.filters().len(), 2);
-    for filter in scale.filters() {
-        assert_eq!(rt; (filter.parallelism, filter.chain), (1, true));
+    let scale = single(&rt)?;
+    check_numbers(&rt, &scale, 16, 1, 1);
+    check_filters(&rt, &scale, 1, [true, true]);
+    Ok(())
+}
+
+/// What is said of the scale that has `new` in place of the first `old`.
+fn refusal(rt: &impl AllocGlobal, plan: &Plan, old: &str, new: &str) -> Result<String, Fail> {
+    let text = SCALE.replacen(rt.alloc(), old, new, 1)?;
+    let fault = fault(rt, plan, text.as_str()).ok_or("accepted")?;
+    Ok(format!(in rt.alloc(); "{fault}")?)
+}
+
+fn check_said(
+    rt: &(impl AllocGlobal + Abort),
+    plan: &Plan,
+    changes: &[(&str, &str, &str)],
+) -> Result<(), Fail> {
+    for (old, new, want) in changes {
+        let said = refusal(rt, plan, old, new)?;
+        assert_eq!(rt; said.as_str(), *want, "at {new}");
     }
     Ok(())
 }
@@ -54,13 +89,7 @@ fn check_refusals(
     changes: &[(&str, &str, &str)],
 ) -> Result<(), Fail> {
     let plan = Plan::read(rt.alloc(), PLAN.as_bytes())?;
-    for (old, new, want) in changes {
-        let text = SCALE.replacen(rt.alloc(), old, new, 1)?;
-        let fault = fault(rt, &plan, text.as_str()).ok_or("accepted")?;
-        let said = format!(in rt.alloc(); "{fault}")?;
-        assert_eq!(rt; said.as_str(), *want, "at {text}");
-    }
-    Ok(())
+    check_said(rt, &plan, changes)
 }
 
 #[test]
@@ -129,36 +158,66 @@ fn texts_of_faults(rt: HostRuntime) -> Result<(), Fail> {
     Ok(())
 }
 
+/// Texts with several faults, and the one that is answered.
+const ORDER: [(&str, ScaleFault); 6] = [
+    (
+        r#"{"ring":0,"operators":{"x":{"parallelism":"1"},"s":{"parallelism":0}}}"#,
+        ScaleFault::Member,
+    ),
+    (
+        r#"{"ring":0,"operators":{"x":{"parallelism":1},"s":{"parallelism":0}}}"#,
+        ScaleFault::UnknownUid,
+    ),
+    (
+        r#"{"ring":0,"operators":{"s":{"parallelism":0},"f":{"parallelism":1},"g":{"parallelism":1}}}"#,
+        ScaleFault::MissingUid,
+    ),
+    (
+        r#"{"ring":0,"operators":{"s":{"parallelism":1},"f":{"parallelism":1},"g":{"parallelism":65},"w":{"parallelism":1}}}"#,
+        ScaleFault::Parallelism,
+    ),
+    (
+        r#"{"ring":1025,"operators":{"s":{"parallelism":64},"f":{"parallelism":64,"chain":false},"g":{"parallelism":64,"chain":false},"w":{"parallelism":64}}}"#,
+        ScaleFault::Ring,
+    ),
+    (
+        r#"{"ring":1,"operators":{"s":{"parallelism":64},"f":{"parallelism":64,"chain":false},"g":{"parallelism":64,"chain":false},"w":{"parallelism":64}}}"#,
+        ScaleFault::Tasks,
+    ),
+];
+
+fn check_order(rt: &(impl AllocGlobal + Abort), plan: &Plan, listed: &[(&str, ScaleFault)]) {
+    for (text, want) in listed {
+        assert_eq!(rt; fault(rt, plan, text), Some(*want), "at {text}");
+    }
+}
+
 #[test]
 fn the_order_of_refusals(rt: HostRuntime) -> Result<(), Fail> {
     let plan = Plan::read(rt.alloc(), PLAN.as_bytes())?;
-    for (text, want) in [
-        (
-            r#"{"ring":0,"operators":{"x":{"parallelism":"1"},"s":{"parallelism":0}}}"#,
-            ScaleFault::Member,
-        ),
-        (
-            r#"{"ring":0,"operators":{"x":{"parallelism":1},"s":{"parallelism":0}}}"#,
-            ScaleFault::UnknownUid,
-        ),
-        (
-            r#"{"ring":0,"operators":{"s":{"parallelism":0},"f":{"parallelism":1},"g":{"parallelism":1}}}"#,
-            ScaleFault::MissingUid,
-        ),
-        (
-            r#"{"ring":0,"operators":{"s":{"parallelism":1},"f":{"parallelism":1},"g":{"parallelism":65},"w":{"parallelism":1}}}"#,
-            ScaleFault::Parallelism,
-        ),
-        (
-            r#"{"ring":1025,"operators":{"s":{"parallelism":64},"f":{"parallelism":64,"chain":false},"g":{"parallelism":64,"chain":false},"w":{"parallelism":64}}}"#,
-            ScaleFault::Ring,
-        ),
-        (
-            r#"{"ring":1,"operators":{"s":{"parallelism":64},"f":{"parallelism":64,"chain":false},"g":{"parallelism":64,"chain":false},"w":{"parallelism":64}}}"#,
-            ScaleFault::Tasks,
-        ),
-    ] {
-        assert_eq!(rt; fault(&rt, &plan, text), Some(want), "at {text}");
+    check_order(&rt, &plan, &ORDER);
+    Ok(())
+}
+
+/// The subtasks of the source, whether the first filter joins it, and the fault.
+const MOST: [(u32, bool, Option<ScaleFault>); 4] = [
+    (63, true, None),
+    (64, true, None),
+    (63, false, None),
+    (64, false, Some(ScaleFault::Tasks)),
+];
+
+fn check_most(
+    rt: &(impl AllocGlobal + Abort),
+    plan: &Plan,
+    listed: &[(u32, bool, Option<ScaleFault>)],
+) -> Result<(), Fail> {
+    for (source, chain, want) in listed {
+        let filters = r#""g":{"parallelism":64,"chain":false},"f":{"parallelism":64,"chain":"#;
+        let text = format!(in rt.alloc();
+            "{{\"ring\":1024,\"operators\":{{\"s\":{{\"parallelism\":{source}}},{filters}{chain}}},\"w\":{{\"parallelism\":64}}}}}}"
+        )?;
+        assert_eq!(rt; fault(rt, plan, text.as_str()), *want, "at {text}");
     }
     Ok(())
 }
@@ -166,18 +225,14 @@ fn the_order_of_refusals(rt: HostRuntime) -> Result<(), Fail> {
 #[test]
 fn the_most_tasks(rt: HostRuntime) -> Result<(), Fail> {
     let plan = Plan::read(rt.alloc(), PLAN.as_bytes())?;
-    for (source, chain, want) in [
-        (63, true, None),
-        (64, true, None),
-        (63, false, None),
-        (64, false, Some(ScaleFault::Tasks)),
-    ] {
-        let filters = r#""g":{"parallelism":64,"chain":false},"f":{"parallelism":64,"chain":"#;
-        let text = format!(in rt.alloc();
-            "{{\"ring\":1024,\"operators\":{{\"s\":{{\"parallelism\":{source}}},{filters}{chain}}},\"w\":{{\"parallelism\":64}}}}}}"
-        )?;
-        assert_eq!(rt; fault(&rt, &plan, text.as_str()), want, "at {text}");
-    }
+    check_most(&rt, &plan, &MOST)
+}
+
+/// Checks the scale at a plan of two key groups.
+fn check_few(rt: &(impl AllocGlobal + Abort), plan: &Plan) -> Result<(), Fail> {
+    assert_eq!(rt; fault(rt, plan, SCALE), Some(ScaleFault::Parallelism));
+    let text = SCALE.replacen(rt.alloc(), r#""parallelism":3"#, r#""parallelism":2"#, 1)?;
+    assert_eq!(rt; fault(rt, plan, text.as_str()), None);
     Ok(())
 }
 
@@ -185,8 +240,5 @@ fn the_most_tasks(rt: HostRuntime) -> Result<(), Fail> {
 fn no_more_subtasks_than_key_groups(rt: HostRuntime) -> Result<(), Fail> {
     let few = PLAN.replacen(rt.alloc(), "128", "2", 1)?;
     let plan = Plan::read(rt.alloc(), few.as_bytes())?;
-    assert_eq!(rt; fault(&rt, &plan, SCALE), Some(ScaleFault::Parallelism));
-    let text = SCALE.replacen(rt.alloc(), r#""parallelism":3"#, r#""parallelism":2"#, 1)?;
-    assert_eq!(rt; fault(&rt, &plan, text.as_str()), None);
-    Ok(())
+    check_few(&rt, &plan)
 }
