@@ -148,22 +148,39 @@ fn stop_at(alloc: Global, counts: &[&[u64]]) -> Result<Stop, AllocError> {
 }
 
 /// What each task at a scale begins with, of a start.
+fn spread_in(
+    rt: &impl AllocGlobal,
+    plan: &Plan,
+    scale: &str,
+    start: &Start,
+) -> Result<Vec<TaskStart>, Fail> {
+    let scale = Scale::read(rt.alloc(), plan, scale.as_bytes())?;
+    let layout = compile(rt.alloc(), plan, &scale)?;
+    Ok(spread(rt.alloc(), plan, start, &layout)?)
+}
+
 fn spread_at(rt: &impl AllocGlobal, scale: &str, start: &Start) -> Result<Vec<TaskStart>, Fail> {
     let plan = Plan::read(rt.alloc(), TWO_SOURCES.as_bytes())?;
-    let scale = Scale::read(rt.alloc(), &plan, scale.as_bytes())?;
-    let layout = compile(rt.alloc(), &plan, &scale)?;
-    Ok(spread(rt.alloc(), &plan, start, &layout)?)
+    spread_in(rt, &plan, scale, start)
+}
+
+fn empty_of(rt: &impl AllocGlobal, plan: &Plan) -> Result<Start, Fail> {
+    let input = Input::read(rt.alloc(), plan, ONE_NONE_AND_TWO.as_bytes())?;
+    Ok(Start::empty(rt.alloc(), plan, &input)?)
 }
 
 fn empty(rt: &impl AllocGlobal) -> Result<Start, Fail> {
     let plan = Plan::read(rt.alloc(), TWO_SOURCES.as_bytes())?;
-    let input = Input::read(rt.alloc(), &plan, ONE_NONE_AND_TWO.as_bytes())?;
-    Ok(Start::empty(rt.alloc(), &plan, &input)?)
+    empty_of(rt, &plan)
+}
+
+fn input(rt: &impl AllocGlobal) -> Result<Input, Fail> {
+    let plan = Plan::read(rt.alloc(), TWO_SOURCES.as_bytes())?;
+    Ok(Input::read(rt.alloc(), &plan, ONE_NONE_AND_TWO.as_bytes())?)
 }
 
 fn stop(rt: &impl AllocGlobal, start: &Start, stop: &Stop) -> Result<Result<(), LegFault>, Fail> {
-    let plan = Plan::read(rt.alloc(), TWO_SOURCES.as_bytes())?;
-    let input = Input::read(rt.alloc(), &plan, ONE_NONE_AND_TWO.as_bytes())?;
+    let input = input(rt)?;
     Ok(start.check_stop(&input, stop))
 }
 
@@ -174,24 +191,47 @@ fn check_all(rt: &impl Abort, starts: &[TaskStart], want: &[Want]) {
     }
 }
 
+/// Checks what each task at a scale begins with.
+fn check_spread(
+    rt: &(impl Abort + AllocGlobal),
+    scale: &str,
+    start: &Start,
+    want: &[Want],
+) -> Result<(), Fail> {
+    let starts = spread_at(rt, scale, start)?;
+    check_all(rt, &starts, want);
+    Ok(())
+}
+
+const LOW: i64 = i64::MIN;
+
+const AT_FIRST: &[Want] = &[
+    Want::Source(&[(0, 0, LOW)]),
+    Want::Source(&[(0, 0, LOW), (2, 0, LOW)]),
+    Want::Source(&[(1, 0, i64::MAX)]),
+    Want::Chain,
+    Want::Window,
+    Want::Window,
+    Want::Sink,
+];
+
 #[test]
 fn nothing_was_read_at_first(rt: HostRuntime) -> Result<(), Fail> {
     let start = empty(&rt)?;
     assert_eq!(rt; start.number(), 0);
-    let low = i64::MIN;
-    let want = [
-        Want::Source(&[(0, 0, low)]),
-        Want::Source(&[(0, 0, low), (2, 0, low)]),
-        Want::Source(&[(1, 0, i64::MAX)]),
-        Want::Chain,
-        Want::Window,
-        Want::Window,
-        Want::Sink,
-    ];
-    let starts = spread_at(&rt, ONE_TWO_ONE, &start)?;
-    check_all(&rt, &starts, &want);
-    Ok(())
+    check_spread(&rt, ONE_TWO_ONE, &start, AT_FIRST)
 }
+
+const DEALT: &[Want] = &[
+    Want::Source(&[(0, 1, i64::MAX)]),
+    Want::Source(&[(0, 0, i64::MIN)]),
+    Want::Source(&[(1, 0, i64::MAX)]),
+    Want::Source(&[(2, 1, 5)]),
+    Want::Source(&[]),
+    Want::Chain,
+    Want::Window,
+    Want::Sink,
+];
 
 #[test]
 fn a_start_is_dealt_out_unchanged(rt: HostRuntime) -> Result<(), Fail> {
@@ -200,83 +240,83 @@ fn a_start_is_dealt_out_unchanged(rt: HostRuntime) -> Result<(), Fail> {
         u64::MAX,
         &[&[(1, i64::MAX)], &[(0, i64::MIN), (0, i64::MAX), (1, 5)]],
     )?;
-    let want = [
-        Want::Source(&[(0, 1, i64::MAX)]),
-        Want::Source(&[(0, 0, i64::MIN)]),
-        Want::Source(&[(1, 0, i64::MAX)]),
-        Want::Source(&[(2, 1, 5)]),
-        Want::Source(&[]),
-        Want::Chain,
-        Want::Window,
-        Want::Sink,
-    ];
-    let starts = spread_at(&rt, ONE_FOUR_ONE, &start)?;
-    check_all(&rt, &starts, &want);
-    Ok(())
+    check_spread(&rt, ONE_FOUR_ONE, &start, DEALT)
 }
 
 /// Two subtasks of the window own 64 key groups each.
-#[test]
-fn key_groups_are_dealt_to_their_subtasks(rt: HostRuntime) -> Result<(), Fail> {
-    let start = start_with_groups(rt.alloc(), &[0, 63, 64, 127])?;
-    let starts = spread_at(&rt, ONE_TWO_ONE, &start)?;
+fn check_groups(rt: &(impl Abort + AllocGlobal), start: &Start) -> Result<(), Fail> {
+    let starts = spread_at(rt, ONE_TWO_ONE, start)?;
     assert_eq!(rt; starts.len(), 7);
-    check_keys(&rt, &starts[4], &[0, 63]);
-    check_keys(&rt, &starts[5], &[64, 127]);
+    check_keys(rt, &starts[4], &[0, 63]);
+    check_keys(rt, &starts[5], &[64, 127]);
     Ok(())
 }
 
 #[test]
-fn a_start_tells_its_number_and_offsets(rt: HostRuntime) -> Result<(), Fail> {
-    let start = start_with(rt.alloc(), 7, &[&[(3, 4)], &[(u64::MAX, 5), (6, 7)]])?;
+fn key_groups_are_dealt_to_their_subtasks(rt: HostRuntime) -> Result<(), Fail> {
+    let start = start_with_groups(rt.alloc(), &[0, 63, 64, 127])?;
+    check_groups(&rt, &start)
+}
+
+fn check_offsets(rt: &impl Abort, start: &Start) {
     assert_eq!(rt; start.number(), 7);
     let sources = start.sources();
     assert_eq!(rt; sources.len(), 2);
     assert_eq!(rt; (sources[0].len(), sources[1].len()), (1, 2));
     assert_eq!(rt; (start.offset(0, 0), start.offset(1, 0)), (3, u64::MAX));
     assert_eq!(rt; start.offset(1, 1), 6);
+}
+
+#[test]
+fn a_start_tells_its_number_and_offsets(rt: HostRuntime) -> Result<(), Fail> {
+    let start = start_with(rt.alloc(), 7, &[&[(3, 4)], &[(u64::MAX, 5), (6, 7)]])?;
+    check_offsets(&rt, &start);
     Ok(())
 }
+
+/// Checks what a start answers to each of the cuts.
+fn check_cuts(
+    rt: &(impl Abort + AllocGlobal),
+    start: &Start,
+    cuts: &[&[&[u64]]],
+    want: Result<(), LegFault>,
+) -> Result<(), Fail> {
+    for cut in cuts {
+        let at = stop_at(rt.alloc(), cut)?;
+        let answer = stop(rt, start, &at)?;
+        assert_eq!(rt; answer, want, "{cut:?}");
+    }
+    Ok(())
+}
+
+const SOURCES_READ: &[&[(u64, i64)]] = &[&[(0, i64::MIN)], &[(1, i64::MAX), (0, i64::MAX), (1, 5)]];
+
+const CUTS: &[&[&[u64]]] = &[
+    &[&[0], &[1, 0, 1]],
+    &[&[1], &[1, 0, 2]],
+    &[&[0], &[1, 0, 2]],
+];
 
 #[test]
 fn a_leg_stops_between_its_start_and_the_end(rt: HostRuntime) -> Result<(), Fail> {
-    let start = start_with(
-        rt.alloc(),
-        1,
-        &[&[(0, i64::MIN)], &[(1, i64::MAX), (0, i64::MAX), (1, 5)]],
-    )?;
-    assert_eq!(rt; stop(&rt, &start, &Stop::Never)?, Ok(()));
-    let cuts: [&[&[u64]]; 3] = [
-        &[&[0], &[1, 0, 1]],
-        &[&[1], &[1, 0, 2]],
-        &[&[0], &[1, 0, 2]],
-    ];
-    for cut in cuts {
-        let at = stop_at(rt.alloc(), cut)?;
-        assert_eq!(rt; stop(&rt, &start, &at)?, Ok(()));
-    }
-    Ok(())
+    let start = start_with(rt.alloc(), 1, SOURCES_READ)?;
+    let answer = stop(&rt, &start, &Stop::Never)?;
+    assert_eq!(rt; answer, Ok(()));
+    check_cuts(&rt, &start, CUTS, Ok(()))
 }
+
+const OTHERS: &[&[&[u64]]] = &[
+    &[&[0], &[1, 0, 0]],
+    &[&[0], &[0, 0, 2]],
+    &[&[2], &[1, 0, 2]],
+    &[&[1], &[1, 1, 2]],
+    &[&[1], &[1, 0]],
+    &[&[1]],
+    &[&[1], &[1, 0, 2], &[]],
+];
 
 #[test]
 fn a_leg_stops_nowhere_else(rt: HostRuntime) -> Result<(), Fail> {
-    let start = start_with(
-        rt.alloc(),
-        1,
-        &[&[(0, i64::MIN)], &[(1, i64::MAX), (0, i64::MAX), (1, 5)]],
-    )?;
-    let others: [&[&[u64]]; 7] = [
-        &[&[0], &[1, 0, 0]],
-        &[&[0], &[0, 0, 2]],
-        &[&[2], &[1, 0, 2]],
-        &[&[1], &[1, 1, 2]],
-        &[&[1], &[1, 0]],
-        &[&[1]],
-        &[&[1], &[1, 0, 2], &[]],
-    ];
-    for cut in others {
-        let at = stop_at(rt.alloc(), cut)?;
-        assert_eq!(rt; stop(&rt, &start, &at)?, Err(LegFault::StopRange));
-    }
-    Ok(())
+    let start = start_with(rt.alloc(), 1, SOURCES_READ)?;
+    check_cuts(&rt, &start, OTHERS, Err(LegFault::StopRange))
 }
