@@ -19,9 +19,9 @@ use Rattle.input_flow.proofs.Facts.{watermark_at_cut, full_is_cut, full_counts, 
 use Rattle.dataflow_laws.specs.Legs.{AreAt, JobLeg, cut_left}
 use Rattle.dataflow_laws.specs.Legs.Legs.{first}
 use Rattle.dataflow_laws.specs.Inputs.{GoesTo}
-use Rattle.dataflow_laws.specs.Compiled.{cut_to, layout_to, CompiledLegDelivers, CompiledLegDeliversAll}
+use Rattle.dataflow_laws.specs.Compiled.{cut_to, layout_to, CompiledLegDelivers, CompiledLegDeliversAll, CompiledLegSoFar}
 use Rattle.dataflow_laws.proofs.Exact.{leg_reaches_its_cut}
-use Rattle.dataflow_laws.proofs.Delivered.{same_watermark, leg_delivers, legs_deliver_all}
+use Rattle.dataflow_laws.proofs.Delivered.{same_watermark, leg_delivers, legs_deliver_all, so_far_delivers}
 
 -- so far are the partitions read in the end
 goes : (p : PlanData) (i : InputData) (n : ℕ) (until : Until) (stages : List Stage) → Deals (input_of p i) (leg_of n [] until (entries_of i).size) (layout_to p i n until stages) → GoesTo p i (layout_to p i n until stages) (cut_to i until)
@@ -71,3 +71,9 @@ compiled_leg_delivers_all p c i stages start ip sc is input orderly belongs open
     let at_start = same_watermark x (λ q. 0) (counts_at p (empty_cut i.sources)) (merged_watermark i.sources (empty_cut i.sources)) (λ q l. ap (λ f. f q) (sym (empty_counts p i))) (watermark_at_cut p i (empty_cut i.sources) belongs (empty_is_cut i.sources)) in
     let at_end = same_watermark x (cut_left one) (counts_at p full) (merged_watermark i.sources full) came (watermark_at_cut p i full belongs (full_is_cut i.sources)) in
     legs_deliver_all p i one (merged_watermark i.sources full) (h.end one.layout.sink).rows ip input orderly belongs came (first one (record { opens = opens.opens; nothing = nothing }) at_start at_end)
+
+pub compiled_leg_so_far : CompiledLegSoFar
+compiled_leg_so_far p c i n b until stages start ip sc is input orderly belongs b_cut c_cut opens has h q =
+    let leg = leg_of n [] until (entries_of i).size in
+    let laid : IsLayout (layout_to p i n until stages) × Deals (input_of p i) leg (layout_to p i n until stages) = compiled_is_layout p c (entries_of i) leg stages ip sc is in
+    so_far_delivers p i b (cut_to i until) leg (layout_to p i n until stages) start input orderly belongs b_cut c_cut laid.0 laid.1 opens.leg opens.opens has (goes p i n until stages laid.1) h q

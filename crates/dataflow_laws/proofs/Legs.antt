@@ -185,7 +185,7 @@ module _ (plan : PlanData) (l : AbstractLayout) (ok : IsLayout l) (start : ℕ �
       ]
 
   -- each window task's watermark is the merged one
-  low_is : (w' : ℤ) → IsMergedWatermark l cut' w' → (u : ℕ) → l.before ≤ u → u < l.sink → low plan l ok start st.opened H u ≡ w'
+  pub low_is : (w' : ℤ) → IsMergedWatermark l cut' w' → (u : ℕ) → l.before ≤ u → u < l.sink → low plan l ok start st.opened H u ≡ w'
   low_is w' mg u q m =
       let ns : (l.task u).role ≡ Source → ⊥ = λ a. (let r = ok.roles_window u q m in cc) in
       let up = mg.greatest (low plan l ok start st.opened H u) (least_highest (H.end u).inputs.marks) (λ t p tm a k. window_below plan l ok start st.opened H u q m t p tm a k) in

@@ -16,6 +16,8 @@ mod Dealing
 mod Partial
 mod SameCuts
 mod Exact
+mod Edges
+mod Firing
 mod Lineage
 mod Cuts
 mod Savepoints

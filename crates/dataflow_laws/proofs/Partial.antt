@@ -118,7 +118,7 @@ module _ (plan : PlanData) (l : AbstractLayout) (ok : IsLayout l) (start : ℕ �
       (omega (arith, g, x), x.1, st.merged.below t p m a k)
 
   -- a pane that has fired had all its records
-  fired_whole : (q : Pane) → is_due plan.window (lo (l.owner q.key)) q.start ≡ true → content plan.window (start (l.owner q.key)).windows (H.steps (l.owner q.key)) q ≡ snapshot_until plan l to w q
+  pub fired_whole : (q : Pane) → is_due plan.window (lo (l.owner q.key)) q.start ≡ true → content plan.window (start (l.owner q.key)).windows (H.steps (l.owner q.key)) q ≡ snapshot_until plan l to w q
   fired_whole q due =
       let ks = plan.window.aggregates in
       let u = l.owner q.key in
@@ -149,13 +149,13 @@ module _ (plan : PlanData) (l : AbstractLayout) (ok : IsLayout l) (start : ℕ �
       ]
 
   -- the rows that a window task gave of a pane
-  gave_rows : (v : ℕ) → l.before ≤ v → v < l.sink → (q : Pane) → rows_log q (given_on plan l ok start st.opened H v 0) ≡ cond (is_due plan.window (lo v) q.start) (row_of plan.window q (content plan.window (start v).windows (H.steps v) q)) []
+  pub gave_rows : (v : ℕ) → l.before ≤ v → v < l.sink → (q : Pane) → rows_log q (given_on plan l ok start st.opened H v 0) ≡ cond (is_due plan.window (lo v) q.start) (row_of plan.window q (content plan.window (start v).windows (H.steps v) q)) []
   gave_rows v b m q =
       let ns : (l.task v).role ≡ Source → ⊥ = λ a. (let r = ok.roles_window v b m in cc) in
       ((windows_at plan l ok start st.opened H v b m).settled (orderly_taken plan l ok start st.opened H v m ns) q).rows
 
   -- a window task gives no row of a pane that another owns
-  given_none : (v : ℕ) → l.before ≤ v → v < l.sink → (q : Pane) → (l.owner q.key ≡ v → ⊥) → rows_log q (given_on plan l ok start st.opened H v 0) ≡ []
+  pub given_none : (v : ℕ) → l.before ≤ v → v < l.sink → (q : Pane) → (l.owner q.key ≡ v → ⊥) → rows_log q (given_on plan l ok start st.opened H v 0) ≡ []
   given_none v b m q ne =
       let ks = plan.window.aggregates in
       let s1 : get (start v).windows q ≡ None = (let s0 = st.windows v b m q in let d = ne_eqb (l.owner q.key) v ne in rw d at s0) in

@@ -16,14 +16,7 @@ use Rattle.dataflow_model.specs.Steps.{Event, Open, Read, Save, Stop, Close, Tak
 use Rattle.dataflow_model.specs.Steps.LocalStep.{put, opens, reads, saves, stops, closes, chain_rows, chain_mark, window_rows, window_mark, sink_rows, sink_mark, holds, aligns, ends, ends_all, ends_aligned}
 use Rattle.dataflow_model.specs.Runs.{Run, taken}
 use Rattle.dataflow_model.specs.Runs.Run.{none, more}
-
--- the rows of a message
-abbrev pub rows_of : Message → List Row
-rows_of (Rows t) = []
-rows_of (Fired rows) = rows
-rows_of (Watermark t) = []
-rows_of (Barrier n) = []
-rows_of End = []
+use Rattle.dataflow_laws.specs.Firing.{rows_of, rows_given}
 
 -- the rows of a pane that a message or a log has, the oldest first
 abbrev pub rows_in : Pane → Message → List Row
@@ -54,6 +47,11 @@ none_left (x ∷ xs) ys e = absurd cc
 none_right : (xs ys : List Row) → xs ++ ys ≡ [] → ys ≡ []
 none_right [] ys e = e
 none_right (x ∷ xs) ys e = absurd cc
+
+-- the rows of a pane among all that a log has
+pub rows_filtered : (q : Pane) (log : List Message) → filter (row_is_at q) (rows_given log) ≡ rows_log q log
+rows_filtered q [] = refl
+rows_filtered q (m ∷ log) = filter-append (row_is_at q) (rows_given log) (rows_of m) ∙ ap (λ x. x ++ rows_in q m) (rows_filtered q log)
 
 -- if a pane's rows come on input u alone, they are what is collected
 pub collected : (q : Pane) (u : ℕ) (es : List Event) → ((i : ℕ) → (i ≡ u → ⊥) → rows_log q (taken i es) ≡ []) → filter (row_is_at q) (delivered es) ≡ rows_log q (taken u es)

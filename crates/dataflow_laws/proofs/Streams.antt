@@ -1,11 +1,10 @@
 -- Records and watermarks in messages and in logs. A log has its newest message first.
 use Rattle.std.specs.Prelude.{◌≡◌, ℕ, ◌+◌, ◌<◌, ℤ, int_lt, List, [], ◌∷◌, cond, Option, Some, None}
-use Rattle.std.specs.Int.{int_max}
 use Rattle.plain_data.specs.Record.{Record, at}
-use Rattle.plain_data.specs.Times.{lowest}
 use Rattle.dataflow_model.specs.declared.message.Message.{Message}
 use Rattle.dataflow_model.specs.declared.message.Message.TheVariants.{Rows, Fired, Watermark, Barrier, End}
 use Rattle.dataflow_model.specs.AbstractTask.{Routing, Whole, Split}
+pub use Rattle.dataflow_laws.specs.Edges.{mark_after, mark_of}
 
 -- the sum of h over records, over the records of a message, and over those of a log
 abbrev pub weigh : (Record → ℕ) → List Record → ℕ
@@ -22,19 +21,6 @@ weigh_message h End = 0
 abbrev pub weigh_log : (Record → ℕ) → List Message → ℕ
 weigh_log h [] = 0
 weigh_log h (m ∷ log) = weigh_message h m + weigh_log h log
-
--- a watermark after one more message
-abbrev pub mark_after : Message → ℤ → ℤ
-mark_after (Rows t) w = w
-mark_after (Fired rows) w = w
-mark_after (Watermark t) w = int_max w t
-mark_after (Barrier n) w = w
-mark_after End w = w
-
--- the greatest watermark of a log, or the least of all
-abbrev pub mark_of : List Message → ℤ
-mark_of [] = lowest
-mark_of (m ∷ log) = mark_after m (mark_of log)
 
 -- 1 for a record whose time, in column c, is not above the watermark
 abbrev pub late : ℕ → ℤ → Record → ℕ

@@ -1,7 +1,8 @@
 -- What a leg delivers that runs on the compiled layout of a plan at a scale.
-use Rattle.std.specs.Prelude.{◌≡◌, ℕ, List, []}
+use Rattle.std.specs.Prelude.{◌≡◌, ◌⊎◌, ℕ, List, [], filter, option_to_list}
 use Rattle.plan_model.specs.PlanData.{PlanData, IsPlan}
-use Rattle.plan_model.specs.Rows.{AreRowsOf}
+use Rattle.plan_model.specs.declared.spec.Pane.{Pane}
+use Rattle.plan_model.specs.Rows.{AreRowsOf, row_is_at}
 use Rattle.stream_model.specs.InputData.{InputData, IsInput, BelongsTo}
 use Rattle.stream_model.specs.Watermarks.{IsOrderly, IsCut, full_cut}
 use Rattle.stream_model.specs.PlanRows.{plan_rows}
@@ -41,3 +42,10 @@ abbrev pub CompiledLegDeliversAll : Type 0
 CompiledLegDeliversAll = (p : PlanData) (c : ScaleData) (i : InputData) (stages : List Stage) (start : ℕ → State)
     → IsPlan p → IsScale p c → IsCompiled p c stages → IsInput i → IsOrderly i.time i.sources → BelongsTo p i
     → let l = layout_to p i 0 ToEnd stages in IsLegStart p l start → HaveNothing (input_of p i) l start → (h : History p l start) → IsComplete h → AreRowsOf (plan_rows p i.sources) (h.end l.sink).rows
+
+-- at every moment of a leg that opens with the snapshot of a cut, its sink has of each pane nothing, or just the row that becomes due on its way
+abbrev pub CompiledLegSoFar : Type 0
+CompiledLegSoFar = (p : PlanData) (c : ScaleData) (i : InputData) (n : ℕ) (b : List (List ℕ)) (until : Until) (stages : List Stage) (start : ℕ → State)
+    → IsPlan p → IsScale p c → IsCompiled p c stages → IsInput i → IsOrderly i.time i.sources → BelongsTo p i → IsCut i.sources b → IsCut i.sources (cut_to i until)
+    → let l = layout_to p i n until stages in IsLegStart p l start → HaveCut p i l start b → (h : History p l start) → (q : Pane)
+    → (filter (row_is_at q) (h.end l.sink).rows ≡ []) ⊎ (filter (row_is_at q) (h.end l.sink).rows ≡ option_to_list (due_between p i.sources b (cut_to i until) q))

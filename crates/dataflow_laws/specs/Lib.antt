@@ -8,6 +8,8 @@ pub mod Progress
 pub mod Measure
 pub mod Finish
 pub mod Example
+pub mod Edges
+pub mod Firing
 pub mod Laws
 pub mod Legs
 pub mod Savepoints

@@ -8,11 +8,13 @@ ghost use Rattle.dataflow_laws.specs.Progress.{Progress};
 ghost use Rattle.dataflow_laws.specs.Measure.{Falls};
 ghost use Rattle.dataflow_laws.specs.Finish.{WorldsFinish, LegsComplete};
 ghost use Rattle.dataflow_laws.specs.Example.{SmallLeg};
+ghost use Rattle.dataflow_laws.specs.Edges.{EdgesKeepWatermarks, WindowsHaveTheWatermark};
+ghost use Rattle.dataflow_laws.specs.Firing.{WindowsFireOnce};
 ghost use Rattle.dataflow_laws.specs.Laws.{DrainedIsExact, LegIsExact, LegReachesItsCut, LegToItsCutIsExact, EachMoment};
 ghost use Rattle.dataflow_laws.specs.Legs.{LegBetweenIsExact, LegsAreExact};
 ghost use Rattle.dataflow_laws.specs.Savepoints.{SavepointIsExact};
 ghost use Rattle.dataflow_laws.specs.Inputs.{InputIsAdmitted, LegDelivers, SoFarDelivers, LegsDeliverDue, LegsDeliverAll};
-ghost use Rattle.dataflow_laws.specs.Compiled.{CompiledLegDelivers, CompiledLegDeliversAll};
+ghost use Rattle.dataflow_laws.specs.Compiled.{CompiledLegDelivers, CompiledLegDeliversAll, CompiledLegSoFar};
 ghost use Rattle.dataflow_laws.specs.Owned.{CompiledLegKeepsPanes};
 
 /// A task makes a step only where the step's conditions hold.
@@ -77,6 +79,25 @@ pub fn legs_complete()
 /// input, from its beginning, with a savepoint while it goes on and a stop at a cut.
 pub fn small_leg()
     ensures { SmallLeg }
+{}
+
+/// At every moment of a leg, each ring that leads to a task before the sink keeps watermarks and records in their order: its
+/// sender has told its merged watermark, its receiver has for that input the greatest that it took, and no record comes
+/// after a watermark that has its time. A source has of each partition the watermark of the entries that it has read.
+pub fn edges_keep_watermarks()
+    ensures { EdgesKeepWatermarks }
+{}
+
+/// So at every moment the watermark of each window task is at most that of the cut that was read, and once all tasks are
+/// done it is that.
+pub fn windows_have_the_watermark()
+    ensures { WindowsHaveTheWatermark }
+{}
+
+/// At every moment each window task has given, of each pane whose key it owns and that was not due at the start, nothing
+/// before its watermark has come to the window's end, and from then on just the row of all its records, once.
+pub fn windows_fire_once()
+    ensures { WindowsFireOnce }
 {}
 
 /// Where all that was put on a ring was taken from it, a leg that began with the snapshot of a cut has delivered,
@@ -164,6 +185,12 @@ pub fn compiled_leg_delivers()
 /// One that starts from nothing and runs to the end has delivered all rows of the plan, each once, and nothing else.
 pub fn compiled_leg_delivers_all()
     ensures { CompiledLegDeliversAll }
+{}
+
+/// At every moment of a leg on the compiled layout of a plan, complete or not, its sink has of each pane nothing, or just the
+/// row that becomes due on the leg's way.
+pub fn compiled_leg_so_far()
+    ensures { CompiledLegSoFar }
 {}
 
 /// Whatever a leg on the compiled layout of a plan begins with: where each of the window's tasks has its own panes alone, of

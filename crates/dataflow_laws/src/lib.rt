@@ -9,6 +9,3 @@ pub mod laws;
 mod step;
 
 pub use step::Step;
-
-#[cfg(test)]
-mod tests;
