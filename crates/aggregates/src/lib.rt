@@ -4,8 +4,6 @@
 mod acc;
 mod kind;
 mod numbers;
-#[cfg(test)]
-mod tests;
 
 pub use acc::Acc;
 pub use kind::Kind;

@@ -8,8 +8,6 @@
 
 mod fault;
 mod reading;
-#[cfg(test)]
-mod tests;
 mod writing;
 
 pub use fault::{FieldFault, ReadFault};

@@ -10,8 +10,6 @@ ghost use Rattle.columns.specs.Table.{AreColumns, IsWidth, rows_of};
 mod fault;
 mod parts;
 mod rows;
-#[cfg(test)]
-mod tests;
 
 pub use fault::BatchFault;
 use std::marker::Model;

@@ -40,6 +40,3 @@ pub fn passing(alloc: Global, filters: &[FilterSpec], batch: &Batch) -> Result<B
         Err(_) => unreachable!(),
     }
 }
-
-#[cfg(test)]
-mod tests;

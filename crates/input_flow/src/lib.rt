@@ -8,6 +8,3 @@ mod entry;
 pub mod laws;
 
 pub use entry::brought;
-
-#[cfg(test)]
-mod tests;

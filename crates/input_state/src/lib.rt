@@ -2,8 +2,6 @@
 #![tactic(auto)]
 
 mod inputs;
-#[cfg(test)]
-mod tests;
 mod walks;
 
 pub use inputs::{Aligned, Inputs, Shut};

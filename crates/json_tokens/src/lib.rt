@@ -11,8 +11,6 @@
 mod miss;
 mod numbers;
 mod rows;
-#[cfg(test)]
-mod tests;
 mod tokens;
 
 pub use miss::Miss;

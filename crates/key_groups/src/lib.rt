@@ -11,8 +11,6 @@ mod ranges;
 
 /// Laws of the definitions that the contracts cite.
 pub mod laws;
-#[cfg(test)]
-mod tests;
 
 pub use group::{group_of, groups_into};
 pub use limits::{MOST_GROUPS, MOST_SUBTASKS, MaxParallelism, Parallelism};

@@ -13,8 +13,6 @@ mod equal;
 mod extremes;
 mod fits;
 mod mix;
-#[cfg(test)]
-mod tests;
 
 pub use compare::and_compare;
 pub use count::count_true;

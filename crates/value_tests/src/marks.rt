@@ -1,4 +1,4 @@
-use crate::{Aligned, Inputs, Shut};
+use input_state::{Aligned, Inputs, Shut};
 use std::test::Fail;
 
 #[test]

@@ -2,7 +2,7 @@ ghost use Rattle.std.specs.Prelude.{IfOk, ◌≡◌, length};
 ghost use Rattle.std.specs.List.{All};
 ghost use Rattle.plan_model.specs.PlanData.{has_column};
 
-use super::*;
+use aggregates::{Acc, Kind};
 use columns::Batch;
 use plain_data::{Items, Text};
 use plan_model::{Aggregate, Uid, WindowSpec};

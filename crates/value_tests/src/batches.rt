@@ -1,4 +1,4 @@
-use super::*;
+use columns::{Batch, BatchFault};
 use std::alloc::{AllocError, Global};
 use std::test::Fail;
 

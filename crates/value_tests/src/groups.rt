@@ -1,4 +1,6 @@
-use super::*;
+use key_groups::{
+    GroupRange, MaxParallelism, Parallelism, group_of, groups_into, owner_of, range_of,
+};
 use std::test::Fail;
 
 const KEYS: [i64; 5] = [0, -1, 1, 4_294_967_295, 2_271_560_481];
@@ -63,6 +65,6 @@ fn ranges_and_owners_are_the_known_ones(rt: HostRuntime) -> Result<(), Fail> {
     let two = Parallelism::new(2, max).ok_or("2")?;
     assert!(rt; two.get() == 2);
     assert_eq!(rt; owner_of(max, two, 94), 1);
-    laws::owners_and_ranges();
+    key_groups::laws::owners_and_ranges();
     Ok(())
 }

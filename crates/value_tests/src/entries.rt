@@ -1,5 +1,5 @@
-use super::*;
 use columns::Batch;
+use input_flow::brought;
 use std::test::Fail;
 use stream_model::Entry;
 

@@ -1,9 +1,11 @@
 ghost use Rattle.std.specs.Prelude.{◌≡◌, IfOk};
 
-use super::*;
+use columns::Batch;
+use filtering::passing;
 use lane_kernels::Cmp;
 use plain_data::Text;
-use plan_model::Uid;
+use plan_model::{FilterSpec, Uid};
+use std::alloc::{AllocError, Global};
 use std::test::Fail;
 
 fn filter(alloc: Global, column: u32, cmp: Cmp, value: i64) -> Result<FilterSpec, AllocError>

@@ -1,8 +1,8 @@
-use crate::{
-    Miss, close_object, end, next_key, next_name, next_rows, next_whole, open_list, open_object,
-};
 use json::{Reader, Scratch};
 use json_parts::OtherForm;
+use json_tokens::{
+    Miss, close_object, end, next_key, next_name, next_rows, next_whole, open_list, open_object,
+};
 use std::test::Fail;
 
 fn whole_of(rt: &impl AllocGlobal, text: &str) -> Result<i64, Miss> {

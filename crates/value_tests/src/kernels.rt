@@ -1,4 +1,4 @@
-use super::*;
+use lane_kernels::{Cmp, and_compare, count_true, equal_into, greatest, least, mix_into};
 use std::alloc::{AllocError, Global};
 use std::test::Fail;
 

@@ -1,4 +1,7 @@
-use super::*;
+use byte_fields::{
+    put_bytes, put_i64, put_i128, put_u8, put_u16, read_bytes, read_i64, read_i128, read_u8,
+    read_u16,
+};
 use std::test::Fail;
 
 #[test]
