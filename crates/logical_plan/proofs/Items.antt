@@ -7,6 +7,7 @@ use Rattle.logical_plan.specs.declared.text.SourceText.{SourceText}
 use Rattle.logical_plan.specs.declared.text.FilterText.{FilterText}
 use Rattle.logical_plan.specs.declared.text.PlanText.{PlanText}
 use Rattle.plan_model.specs.Uids.{is_uid}
+use Rattle.byte_fields.proofs.Exact.{both}
 use Rattle.logical_plan.specs.Requirements.{has_uids}
 
 and_true : (a : Bool) → (a && true) ≡ a
@@ -24,3 +25,7 @@ prefix_len_map test f (x ∷ xs) = ap (λ (n : ℕ). cond (test (f x)) (1 + n) 0
 
 pub position_map : {A B : Type 0} (test : B → Bool) (f : A → B) (xs : List A) → position test (map f xs) ≡ position (λ x. test (f x)) xs
 position_map test f xs = rw (prefix_len_map (λ y. not (test y)) f xs, length-map) refl
+
+-- a test that all pass, at the first and at the rest
+pub first_passes : {X : Type 0} (test : X → Bool) (xs ys : List X) (x : X) → xs ≡ x ∷ ys → list_all test xs ≡ true → (test x ≡ true) × (list_all test ys ≡ true)
+first_passes test xs ys x split all = both (test x) (list_all test ys) (rw split at all)

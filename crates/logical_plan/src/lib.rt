@@ -13,6 +13,3 @@ mod text;
 
 pub use fault::PlanFault;
 pub use plan::Plan;
-
-#[cfg(test)]
-mod tests;

@@ -1,6 +1,7 @@
 //! The canonical record of a plan.
 
 ghost use Rattle.std.specs.Prelude.{◌≡◌, ◌<◌, ◌≤◌, true, ◌++◌, length, map, OnOk, IfOk};
+ghost use Rattle.std.specs.Int.{int_rem_euclid};
 ghost use Rattle.std.specs.Ordering.{nat_cmp};
 ghost use Rattle.std.specs.List.{All, list_all};
 ghost use Rattle.std.specs.Cmp.Lexicographic.{slice_cmp};
@@ -178,6 +179,14 @@ fn put_head(out: &mut Vec<u8>, plan: &Plan) -> Result<(), AllocError>
     put_u8(out, window.key as u8)
 }
 
+/// The window's offset modulo its slide.
+fn offset_in_slide(window: &WindowSpec) -> i64
+    requires { IsWindow window.now }
+    ensures { result ≡ int_rem_euclid window.now.offset window.now.slide }
+{
+    window.offset.rem_euclid(window.slide)
+}
+
 #[tactic(auto, unfolding(crate::specs::PlanRecord::span_field))]
 fn put_span(out: &mut Vec<u8>, window: &WindowSpec) -> Result<(), AllocError>
     requires { IsWindow window.now }
@@ -185,7 +194,7 @@ fn put_span(out: &mut Vec<u8>, window: &WindowSpec) -> Result<(), AllocError>
 {
     put_i64(out, window.size)?;
     put_i64(out, window.slide)?;
-    put_i64(out, window.offset.rem_euclid(window.slide))
+    put_i64(out, offset_in_slide(window))
 }
 
 impl Plan {

@@ -11,6 +11,3 @@ pub use compiling::compile;
 pub use layout::Layout;
 pub use layout_rules::{Edge, FilterScale, Operator, Role, Stage, TaskPlace};
 pub use plan_scale::{Scale, ScaleFault};
-
-#[cfg(test)]
-mod layout_tests;

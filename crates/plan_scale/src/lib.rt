@@ -12,6 +12,3 @@ mod text;
 pub use fault::ScaleFault;
 pub use layout_rules::FilterScale;
 pub use scale::Scale;
-
-#[cfg(test)]
-mod tests;

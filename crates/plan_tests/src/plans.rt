@@ -1,4 +1,4 @@
-use crate::{Plan, PlanFault};
+use logical_plan::{Plan, PlanFault};
 use plan_model::{Aggregate, SourceSpec, WindowSpec};
 use std::process::Abort;
 use std::test::Fail;

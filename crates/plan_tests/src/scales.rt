@@ -1,5 +1,5 @@
-use crate::{Scale, ScaleFault};
 use logical_plan::Plan;
+use plan_scale::{Scale, ScaleFault};
 use std::process::Abort;
 use std::test::Fail;
 
