@@ -28,6 +28,9 @@ pub enum LegFault {
     /// A part of the list is missing, unknown or of another form.
     #[error("L5 Member")]
     Member,
+    /// The choices of steps are no list that has for each leg a list of whole numbers of 32 bits.
+    #[error("L6 Choices")]
+    Choices,
     /// The scale of the leg at this place, from 0, is refused.
     #[error("{1}")]
     Scale(usize, ScaleFault),
