@@ -20,6 +20,4 @@ mod tokens;
 
 pub use fault::InputFault;
 pub use input::Input;
-
-#[cfg(test)]
-mod tests;
+pub use tokens::sources_in;

@@ -1,10 +1,9 @@
-use crate::tokens::sources_in;
-use crate::{Input, InputFault};
 use columns::Batch;
 use logical_plan::Plan;
 use std::alloc::{AllocError, Global};
 use std::process::Abort;
 use std::test::Fail;
+use stream_input::{Input, InputFault, sources_in};
 use stream_model::Entry;
 
 const PLAN: &str =
