@@ -1,5 +1,5 @@
 -- Counted lists are spelled as their count and their items.
-use Rattle.std.proofs.Common.{◌≡◌, ℕ, zero, suc, ◌+◌, ◌<◌, ℤ, true, List, [], ◌∷◌, ◌++◌, length, take, slice_get, Option, Some, None, Result, Ok, Err, refl, sym, ap, ◌∙◌, append_assoc, arith}
+use Rattle.std.proofs.Common.{◌≡◌, ℕ, zero, suc, ◌+◌, ◌<◌, ℤ, true, List, [], ◌∷◌, ◌++◌, length, get_or, take, slice_get, Option, Some, None, Result, Ok, Err, refl, sym, ap, ◌∙◌, append_assoc, arith}
 use Rattle.std.specs.Prelude.{OnOk, nat_lt, ◌==◌}
 use Rattle.std.specs.Option.{option_map}
 use Rattle.std.proofs.lemmas.Bool.{ltb-true}
@@ -56,6 +56,12 @@ one_more spelled xs i x h =
     ap (flat_map spelled) (take_more xs i x (slice_get_within xs i x h))
     ∙ ap (λ y. flat_map spelled (take i xs ++ y ∷ [])) (get_or_from_slice_get xs i x x h)
     ∙ sym (flat_map_more spelled [] (take i xs) x)
+
+-- behind the items so far, one more item is spelled
+pub spelled_more : {X : Type 0} (spell : X → List ℕ) (xs : List X) (i : ℕ) (d x : X) (front old new : List ℕ) → i < length xs → x ≡ get_or xs i d → old ≡ front ++ flat_map spell (take i xs) → new ≡ old ++ spell x → new ≡ front ++ flat_map spell (take (i + 1) xs)
+spelled_more {X} spell xs i d x front old new below here before more =
+    more ∙ ap (λ (bytes : List ℕ). bytes ++ spell x) before ∙ flat_map_more spell front (take i xs) x
+    ∙ ap (λ (ys : List X). front ++ flat_map spell ys) (ap (λ (y : X). take i xs ++ y ∷ []) here ∙ sym (take_more xs i d below))
 
 -- the lists of a savepoint are short enough for their counts
 is_byte : (most n : ℕ) → (few_field most).fits n ≡ true → n < 256

@@ -15,8 +15,6 @@ mod savepoint;
 
 /// Laws of the layout that the contracts cite.
 pub mod laws;
-#[cfg(test)]
-mod tests;
 
 pub use decoding::decode;
 pub use encoding::encode;

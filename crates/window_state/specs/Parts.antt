@@ -23,6 +23,13 @@ entries_at es (p ∷ ps) = with_entry p (acc_at es p) (entries_at es ps)
 abbrev pub parts_in : List (Pane × AccData) → List Part
 parts_in entries = map part_of entries
 
+-- the panes of parts, and what stands in each
+abbrev pub panes_in : List Part → List Pane
+panes_in parts = map (λ p. p.pane) parts
+
+abbrev pub accs_in : List Part → List (Pane × AccData)
+accs_in parts = map (λ p. (p.pane, p.acc)) parts
+
 -- the entries of a state's map that parts stand for
 abbrev pub entries_of : List Part → List (Pane × Aggregated)
 entries_of parts = map (λ p. (p.pane, p.acc.total)) parts

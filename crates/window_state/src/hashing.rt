@@ -87,6 +87,3 @@ impl Hasher for PaneHasher {
         };
     }
 }
-
-#[cfg(test)]
-mod tests;

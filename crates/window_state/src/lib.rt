@@ -8,8 +8,6 @@ mod hashing;
 mod having;
 mod parts;
 mod state;
-#[cfg(test)]
-mod tests;
 mod windows;
 
 pub use fault::StateFault;

@@ -160,13 +160,7 @@ impl WindowState {
         }) }
         ensures fault { IfErr result (λ fault. fault ≡ StateFault.Memory) }
     {
-        let mut windows = Windows::new(alloc, keys, window.copy(alloc)?);
-        let mut left = parts.len();
-        while left > 0 {
-            left -= 1;
-            let part = &parts[left];
-            windows.put(part.pane, part.acc)?;
-        }
+        let windows = Windows::from_parts(alloc, keys, window.copy(alloc)?, parts)?;
         let has_failed = false;
         Ok(WindowState {
             alloc,

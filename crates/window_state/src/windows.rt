@@ -1,12 +1,17 @@
 //! Open windows.
 
-ghost use Rattle.std.specs.Prelude.{◌≡◌, OnOk, OnErr, Some, if◌then◌else◌};
+ghost use Rattle.std.specs.Prelude.{◌≡◌, OnOk, OnErr, IfOk, Some, if◌then◌else◌};
+ghost use Rattle.std.specs.BTreeSet.{IsFromIterResult};
 ghost use Rattle.std.specs.FinMap as map;
+ghost use Rattle.std.specs.List.{All, IsDistinct};
+ghost use Rattle.std.specs.Map.{keys_of};
 ghost use Rattle.plan_model.specs.declared.spec.Pane.{Pane as PaneValue};
-ghost use Rattle.window_state.specs.Windows.{IsOperator, is_pane};
-ghost use Rattle.window_state.specs.Parts.{IsPartOf};
+ghost use Rattle.plan_model.specs.Rows.{pane_cmp};
+ghost use Rattle.window_state.specs.Windows.{IsOperator, acc_at, is_pane};
+ghost use Rattle.window_state.specs.Parts.{accs_in, entries_of, panes_in, IsPartOf};
 
 use crate::hashing::HashKeys;
+use crate::parts::Part;
 use aggregates::Acc;
 use indexmap::IndexMap;
 use plan_model::{Pane, WindowSpec};
@@ -52,6 +57,26 @@ impl Windows {
         }
     }
 
+    /// The windows of the operator that hold the parts. Where a pane stands twice, the first part counts.
+    pub fn from_parts(
+        alloc: Global,
+        keys: HashKeys,
+        window: WindowSpec,
+        parts: &[Part],
+    ) -> Result<Windows, AllocError>
+        requires operator { IsOperator window }
+        requires parts { All (IsPartOf window) parts.now }
+        ensures { IfOk result (λ windows. windows ≡ record { window = window; totals = map.from_entries (entries_of parts.now) }) }
+    {
+        let accs = accs_of(alloc, keys, parts)?;
+        let panes = panes_of(alloc, parts)?;
+        Ok(Windows {
+            window,
+            accs,
+            panes,
+        })
+    }
+
     /// The window operator.
     pub fn window(&self) -> &WindowSpec
         ensures { result.now ≡ self.now.window }
@@ -76,4 +101,30 @@ impl Windows {
             }
         }
     }
+}
+
+/// What stands in the panes of the parts. Room is made for all of them first.
+fn accs_of(
+    alloc: Global,
+    keys: HashKeys,
+    parts: &[Part],
+) -> Result<IndexMap<Pane, Acc, HashKeys>, AllocError>
+    ensures unique { IfOk result (λ accs. IsDistinct is_pane (keys_of accs.entries)) }
+    ensures first { IfOk result (λ accs. (q : PaneValue) → acc_at accs.entries q ≡ acc_at (accs_in parts.now) q) }
+{
+    let mut accs = IndexMap::with_capacity_and_hasher(alloc, parts.len(), keys)?;
+    let mut left = parts.len();
+    while left > 0 {
+        left -= 1;
+        let part = &parts[left];
+        accs.insert(part.pane, part.acc)?;
+    }
+    Ok(accs)
+}
+
+/// The panes of the parts, in order.
+fn panes_of(alloc: Global, parts: &[Part]) -> Result<BTreeSet<Pane>, AllocError>
+    ensures { IfOk result (IsFromIterResult pane_cmp (panes_in parts.now)) }
+{
+    parts.iter().map(|part| part.pane).collect(alloc)
 }

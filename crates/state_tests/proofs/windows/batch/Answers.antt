@@ -4,7 +4,7 @@ use Rattle.std.proofs.lemmas.List.Elements.{All-map}
 use Rattle.plain_data.specs.Record.{Record, at}
 use Rattle.columns.specs.Table.{Table, rows_in}
 use Rattle.plan_model.specs.Windows.{IsTime}
-use Rattle.window_state.proofs.tests.batch.Goals as goal
+use Rattle.state_tests.proofs.windows.batch.Goals as goal
 
 pub returns-clause-times : goal.returns-clause-times
 returns-clause-times c =

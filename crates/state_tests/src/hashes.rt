@@ -4,13 +4,14 @@ ghost use Rattle.std.specs.Ordering.{int_eq, on, eq_of_both};
 ghost use Rattle.std.specs.Cmp.Rules.{comparing, hashing};
 ghost use Rattle.std.proofs.Common.{rules};
 
-use super::*;
 use indexmap::IndexMap;
 use plan_model::Pane;
-use std::alloc::AllocError;
 use std::cell::Cell;
-use std::hash::{BuildHasherDefault, FoldHasher, Hash};
+use std::hash::{BuildHasher, BuildHasherDefault, FoldHasher, Hash, Hasher};
+use std::io;
+use std::random::RandomSource;
 use std::test::Fail;
+use window_state::HashKeys;
 
 // A pane that counts how often it is compared.
 #[derive(Clone, Copy)]
@@ -45,13 +46,34 @@ impl Hash for Counted<'_> {
     }
 }
 
-// The digits of pi.
-fn keys() -> HashKeys {
-    HashKeys {
-        start: 0x243f_6a88_85a3_08d3_1319_8a2e_0370_7344,
-        key: 0xa409_3822_299f_31d0_082e_fa98_ec4e_6c89,
-        addend: 0x4528_21e6_38d0_1377_be54_66cf_34e9_0c6c,
+/// Three numbers in turn, those of the digits of pi, in place of random ones.
+#[derive(Drop)]
+struct Digits {
+    drawn: Cell<usize>,
+}
+
+const DIGITS: [u128; 3] = [
+    0x243f_6a88_85a3_08d3_1319_8a2e_0370_7344,
+    0xa409_3822_299f_31d0_082e_fa98_ec4e_6c89,
+    0x4528_21e6_38d0_1377_be54_66cf_34e9_0c6c,
+];
+
+impl RandomSource for Digits {
+    fn fill_bytes(&self, buf: &mut [u8]) -> io::Result<()> {
+        let place = self.drawn.get();
+        self.drawn.set(place.wrapping_add(1));
+        let number = DIGITS.get(place).copied().unwrap_or(0);
+        for (byte, digit) in buf.iter_mut().zip(number.to_le_bytes()) {
+            *byte = digit;
+        }
+        Ok(())
     }
+}
+
+fn keys() -> io::Result<HashKeys> {
+    HashKeys::random(&Digits {
+        drawn: Cell::new(0),
+    })
 }
 
 // These panes have one hash by the kit's own hasher, whose numbers are public.
@@ -86,13 +108,14 @@ fn comparisons<S: BuildHasher + Drop>(
 fn hostile_panes_are_seldom_compared(rt: HostRuntime) -> Result<(), Fail> {
     let public = BuildHasherDefault::<FoldHasher>::new();
     assert_eq!(rt; comparisons(&rt, public, 1000)?, 1000 * 999 / 2);
-    assert!(rt; comparisons(&rt, keys(), 1000)? < 200);
-    assert!(rt; comparisons(&rt, keys(), 20000)? < 4000);
+    assert!(rt; comparisons(&rt, keys()?, 1000)? < 200);
+    assert!(rt; comparisons(&rt, keys()?, 20000)? < 4000);
     Ok(())
 }
 
 #[test]
 fn hashes_are_those_of_the_formula(rt: HostRuntime) -> Result<(), Fail> {
+    let keys = keys()?;
     // Computed by Python's whole numbers.
     for (start, key, hash) in [
         (0, 0, 0x4528_21e6_38d0_1377),
@@ -104,7 +127,7 @@ fn hashes_are_those_of_the_formula(rt: HostRuntime) -> Result<(), Fail> {
             0xd441_b9ac_662d_047a,
         ),
     ] {
-        assert_eq!(rt; keys().hash_one(Pane { start, key }), hash);
+        assert_eq!(rt; keys.hash_one(Pane { start, key }), hash);
     }
     Ok(())
 }
@@ -113,10 +136,9 @@ fn hashes_are_those_of_the_formula(rt: HostRuntime) -> Result<(), Fail> {
 fn drawn_numbers_differ(rt: HostRuntime) -> Result<(), Fail> {
     let keys = HashKeys::random(&rt)?;
     let others = HashKeys::random(&rt)?;
-    assert_ne!(rt; keys.start, keys.key);
-    assert_ne!(rt; keys.key, keys.addend);
-    assert_ne!(rt; keys.start, others.start);
-    assert_ne!(rt; keys.key, others.key);
-    assert_ne!(rt; keys.addend, others.addend);
+    for (start, key) in [(0, 0), (1, 0), (0, 1)] {
+        let pane = Pane { start, key };
+        assert_ne!(rt; keys.hash_one(pane), others.hash_one(pane));
+    }
     Ok(())
 }

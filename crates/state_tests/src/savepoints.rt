@@ -1,4 +1,6 @@
-use super::*;
+use savepoint_codec::{
+    Contents, SaveFault, SavedGroup, SavedPartition, SavedSource, Savepoint, decode, encode,
+};
 use std::alloc::Global;
 use std::process::Abort;
 use std::test::Fail;

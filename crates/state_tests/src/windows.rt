@@ -5,7 +5,6 @@ ghost use Rattle.plan_model.specs.Windows.{IsTime};
 ghost use Rattle.window_state.specs.Windows.{CanAggregate};
 ghost use Rattle.window_state.specs.Parts.{IsPartOf};
 
-use super::*;
 use columns::Batch;
 use plain_data::{Items, Text};
 use plan_model::{Aggregate, Pane, Uid, WindowSpec};
@@ -13,6 +12,7 @@ use std::alloc::{AllocError, Global};
 use std::process::Abort;
 use std::random::RandomSource;
 use std::test::Fail;
+use window_state::{HashKeys, Part, StateFault, WindowState};
 
 /// Windows of times in column 0 and keys in column 1, which count the records and add up their keys.
 fn window(alloc: Global, size: u8, slide: u8) -> Result<WindowSpec, AllocError>
@@ -215,15 +215,28 @@ fn parts_of(
     Ok(state(alloc, keys, window, records)?.parts(alloc)?)
 }
 
-/// The state of windows of 10 that the parts of the state make which the records have reached.
+/// The state that the parts of the state make which the records have reached.
 fn made_again(
+    alloc: Global,
+    keys: HashKeys,
+    window: &WindowSpec,
+    records: &[(i32, i64)],
+) -> Result<WindowState, Fail>
+    requires time { window.now.time ≡ 0 }
+    requires aggregates { CanAggregate 2 window.now }
+{
+    let parts = parts_of(alloc, keys, window, records)?;
+    Ok(WindowState::from_parts(alloc, keys, window, &parts)?)
+}
+
+/// The same of windows of 10.
+fn tens_made_again(
     rt: &(impl AllocGlobal + RandomSource),
     records: &[(i32, i64)],
 ) -> Result<WindowState, Fail> {
     let keys = HashKeys::random(rt)?;
     let window = window(rt.alloc(), 10, 10)?;
-    let parts = parts_of(rt.alloc(), keys, &window, records)?;
-    Ok(WindowState::from_parts(rt.alloc(), keys, &window, &parts)?)
+    made_again(rt.alloc(), keys, &window, records)
 }
 
 #[test]
@@ -243,11 +256,15 @@ fn check_count(
     Ok(())
 }
 
+fn check_made_again(rt: &(impl Abort + AllocGlobal), again: &mut WindowState) -> Result<(), Fail> {
+    check_held(rt, again, &HELD)?;
+    check_count(rt, again, 9, 2)
+}
+
 #[test]
 fn parts_make_the_state_again(rt: HostRuntime) -> Result<(), Fail> {
-    let mut again = made_again(&rt, &RECORDS)?;
-    check_held(&rt, &again, &HELD)?;
-    check_count(&rt, &mut again, 9, 2)
+    let mut again = tens_made_again(&rt, &RECORDS)?;
+    check_made_again(&rt, &mut again)
 }
 
 /// The state that two states' parts make, those of the first before those of the second.
@@ -355,12 +372,16 @@ fn rising_watermarks_fire_each_window_once(rt: HostRuntime) -> Result<(), Fail> 
     check_rising(&rt, &mut state, &RISING)
 }
 
+fn check_in_one_go(rt: &(impl Abort + AllocGlobal), state: &mut WindowState) -> Result<(), Fail> {
+    check_count(rt, state, 999, 100)?;
+    check_held(rt, state, &[])?;
+    check_fired(rt, state, &[(i64::MAX, &[])])
+}
+
 #[test]
 fn all_windows_fire_in_one_go(rt: HostRuntime) -> Result<(), Fail> {
     let mut state = hundred(&rt)?;
-    check_count(&rt, &mut state, 999, 100)?;
-    check_held(&rt, &state, &[])?;
-    check_fired(&rt, &mut state, &[(i64::MAX, &[])])
+    check_in_one_go(&rt, &mut state)
 }
 
 /// What an `add` to a new state answers, and the state.
@@ -390,6 +411,20 @@ fn check_failed(rt: &(impl Abort + AllocGlobal), state: &mut WindowState) -> Res
     Ok(())
 }
 
+fn check_answer(
+    rt: &(impl Abort + AllocGlobal),
+    answer: Result<(), StateFault>,
+    state: &mut WindowState,
+) -> Result<(), Fail>
+    requires { CanAggregate 2 state.old.window }
+{
+    if answer.is_err() {
+        assert_eq!(rt; answer, Err(StateFault::Memory));
+        check_failed(rt, state)?;
+    }
+    Ok(())
+}
+
 fn check_added(
     rt: &(impl Abort + AllocGlobal),
     keys: HashKeys,
@@ -399,11 +434,7 @@ fn check_added(
     requires aggregates { CanAggregate 2 window.now }
 {
     let (answer, mut state) = added(rt.alloc(), keys, window, &[(3, 7), (14, 7), (25, 8)])?;
-    if answer.is_err() {
-        assert_eq!(rt; answer, Err(StateFault::Memory));
-        check_failed(rt, &mut state)?;
-    }
-    Ok(())
+    check_answer(rt, answer, &mut state)
 }
 
 // Where no allocation is made to fail there is memory.
@@ -428,10 +459,14 @@ fn check_kept(
     Ok(())
 }
 
+fn check_fire(rt: &(impl Abort + AllocGlobal), state: &mut WindowState) -> Result<(), Fail> {
+    let before = held(rt.alloc(), state)?;
+    check_kept(rt, state, &before)
+}
+
 // The same.
 #[test]
 fn a_fire_that_found_no_memory_takes_nothing_out(rt: HostRuntime) -> Result<(), Fail> {
     let mut state = hundred(&rt)?;
-    let before = held(rt.alloc(), &state)?;
-    check_kept(&rt, &mut state, &before)
+    check_fire(&rt, &mut state)
 }

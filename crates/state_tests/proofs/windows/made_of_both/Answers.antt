@@ -2,7 +2,7 @@ use Rattle.std.proofs.Common.{◌∙◌, sym, subst}
 use Rattle.std.specs.List.{All}
 use Rattle.std.proofs.lemmas.List.Elements.{All-append}
 use Rattle.window_state.specs.Parts.{IsPartOf}
-use Rattle.window_state.proofs.tests.made_of_both.Goals as goal
+use Rattle.state_tests.proofs.windows.made_of_both.Goals as goal
 
 pub from_parts-requires-clause-parts : goal.from_parts-requires-clause-parts
 from_parts-requires-clause-parts c =
