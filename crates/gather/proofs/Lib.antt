@@ -7,5 +7,4 @@ mod Spelled
 mod RecordLength
 mod Whole
 mod Spread
-mod Started
 pub mod Facts

@@ -7,6 +7,3 @@ pub mod laws;
 mod sources;
 
 pub use gathering::gather;
-
-#[cfg(test)]
-mod tests;

@@ -13,6 +13,3 @@ mod task_start;
 pub use spreading::spread;
 pub use start::Start;
 pub use task_start::{PartitionStart, TaskStart};
-
-#[cfg(test)]
-mod tests;

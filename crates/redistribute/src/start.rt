@@ -98,11 +98,11 @@ impl Start {
         requires partition_in { partition < length (slice_index_or self.now.sources source []) }
         ensures { result ≡ count_at (offsets_of self.now) source partition }
     {
-        self.sources.as_slice()[source as usize].as_slice()[partition as usize].offset
+        self.sources()[source as usize].as_slice()[partition as usize].offset
     }
 
     /// How far the partitions of each source were read, with their watermarks.
-    pub(crate) fn sources(&self) -> &[Items<SavedPartition>]
+    pub fn sources(&self) -> &[Items<SavedPartition>]
         ensures { result.now ≡ self.now.sources }
     {
         self.sources.as_slice()

@@ -3,7 +3,5 @@
 
 pub mod laws;
 mod starting;
-#[cfg(test)]
-mod tests;
 
 pub use starting::restart;

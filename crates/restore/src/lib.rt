@@ -11,8 +11,6 @@ mod fault;
 mod partitions;
 mod requirements;
 mod saved;
-#[cfg(test)]
-mod tests;
 
 pub use checking::check;
 pub use fault::RestoreFault;

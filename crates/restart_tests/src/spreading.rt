@@ -4,14 +4,13 @@ ghost use Rattle.aggregates.specs.Kinds.{is_entry};
 ghost use Rattle.aggregates.specs.declared.kind.Kind.TheVariants.{Count};
 ghost use Rattle.redistribute.specs.StartData.{AreEntries};
 
-use crate::{PartitionStart, Start, TaskStart, spread};
+use crate::dealing::layout_at;
 use aggregates::Kind;
 use leg_lists::{Cut, LegFault, Stop};
 use logical_plan::Plan;
 use plain_data::Items;
-use plan_compiler::compile;
 use plan_model::Pane;
-use plan_scale::Scale;
+use redistribute::{PartitionStart, Start, TaskStart, spread};
 use savepoint_codec::{Entries, Entry, SavedGroup, SavedPartition};
 use std::alloc::{AllocError, Global};
 use std::process::Abort;
@@ -154,8 +153,7 @@ fn spread_in(
     scale: &str,
     start: &Start,
 ) -> Result<Vec<TaskStart>, Fail> {
-    let scale = Scale::read(rt.alloc(), plan, scale.as_bytes())?;
-    let layout = compile(rt.alloc(), plan, &scale)?;
+    let layout = layout_at(rt.alloc(), plan, scale)?;
     Ok(spread(rt.alloc(), plan, start, &layout)?)
 }
 

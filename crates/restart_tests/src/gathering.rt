@@ -1,41 +1,21 @@
-ghost use Rattle.std.specs.Prelude.{◌≡◌, ◌≤◌, map, IfOk};
+ghost use Rattle.std.specs.Prelude.{◌≡◌, map, IfOk};
 ghost use Rattle.aggregates.specs.Kinds.{kind_of};
 ghost use Rattle.gather.specs.Laws.{HasGroups, IsGroupFor};
 
-use crate::gather;
-use crate::gathering::kinds_of;
-use crate::laws::spread_are_parts;
+use crate::dealing::again;
 use aggregates::{Acc, Kind};
 use key_groups::{MaxParallelism, group_of};
 use logical_plan::Plan;
 use plain_data::Items;
-use plan_compiler::compile;
 use plan_model::Pane;
-use plan_scale::Scale;
-use redistribute::{Start, spread};
-use savepoint_codec::{Entries, Entry, SavedGroup, SavedPartition, Savepoint, encode};
+use redistribute::Start;
+use savepoint_codec::{
+    Contents, Entries, Entry, SavedGroup, SavedPartition, SavedSource, Savepoint, encode,
+};
 use std::alloc::{AllocError, Global};
 use std::process::Abort;
 use std::test::Fail;
 use stream_input::Input;
-
-/// What a start comes to that is dealt out at a scale and put together again.
-fn again(
-    alloc: Global,
-    plan: &Plan,
-    start: &Start,
-    scale: &str,
-    number: u64,
-) -> Result<Savepoint, Fail>
-    requires groups { HasGroups plan.now start.now }
-    requires number { 1 ≤ number }
-{
-    let _law = spread_are_parts();
-    let scale = Scale::read(alloc, plan, scale.as_bytes())?;
-    let layout = compile(alloc, plan, &scale)?;
-    let parts = spread(alloc, plan, start, &layout)?;
-    Ok(gather(alloc, plan, &layout, &parts, number)?)
-}
 
 /// The sources stand by uid in the savepoint, and in another order in the plan.
 const TWO_SOURCES: &str =
@@ -54,26 +34,44 @@ fn check_partitions(rt: &impl Abort, partitions: &[SavedPartition], want: &[i64]
     }
 }
 
+/// The start of the plan from nothing.
+fn empty_start(alloc: Global, plan: &Plan) -> Result<Start, Fail>
+    ensures { IfOk result (HasGroups plan.now) }
+{
+    let input = Input::read(alloc, plan, TWO_INPUTS.as_bytes())?;
+    Ok(Start::empty(alloc, plan, &input)?)
+}
+
+fn from_nothing_of(alloc: Global, plan: &Plan) -> Result<Savepoint, Fail> {
+    let start = empty_start(alloc, plan)?;
+    again(alloc, plan, &start, ONE_TWO_TWO, u64::MAX)
+}
+
 fn from_nothing(alloc: Global) -> Result<Savepoint, Fail> {
     let plan = Plan::read(alloc, TWO_SOURCES.as_bytes())?;
-    let input = Input::read(alloc, &plan, TWO_INPUTS.as_bytes())?;
-    let start = Start::empty(alloc, &plan, &input)?;
-    again(alloc, &plan, &start, ONE_TWO_TWO, u64::MAX)
+    from_nothing_of(alloc, &plan)
+}
+
+const LOW: i64 = i64::MIN;
+
+fn check_sources(rt: &impl Abort, sources: &[SavedSource]) {
+    assert_eq!(rt; sources.len(), 2);
+    assert_eq!(rt; sources[0].uid.as_str(), "s");
+    assert_eq!(rt; sources[1].uid.as_str(), "t");
+    check_partitions(rt, sources[0].partitions.as_slice(), &[LOW, i64::MAX, LOW]);
+    check_partitions(rt, sources[1].partitions.as_slice(), &[LOW]);
+}
+
+fn check_contents(rt: &impl Abort, contents: &Contents) {
+    assert_eq!(rt; (contents.number, contents.max), (u64::MAX, 2));
+    assert_eq!(rt; contents.groups.len(), 0);
+    check_sources(rt, contents.sources.as_slice());
 }
 
 #[test]
 fn a_start_from_nothing(rt: HostRuntime) -> Result<(), Fail> {
     let savepoint = from_nothing(rt.alloc())?;
-    let contents = savepoint.contents();
-    assert_eq!(rt; (contents.number, contents.max), (u64::MAX, 2));
-    assert_eq!(rt; contents.groups.len(), 0);
-    let sources = contents.sources.as_slice();
-    assert_eq!(rt; sources.len(), 2);
-    assert_eq!(rt; sources[0].uid.as_str(), "s");
-    assert_eq!(rt; sources[1].uid.as_str(), "t");
-    let low = i64::MIN;
-    check_partitions(&rt, sources[0].partitions.as_slice(), &[low, i64::MAX, low]);
-    check_partitions(&rt, sources[1].partitions.as_slice(), &[low]);
+    check_contents(&rt, savepoint.contents());
     Ok(())
 }
 
@@ -145,11 +143,22 @@ fn partitions_read(alloc: Global) -> Result<Items<Items<SavedPartition>>, AllocE
     Ok(Items::from_vec(sources))
 }
 
+/// The kinds of the plan's aggregates.
+fn kinds_of(alloc: Global, plan: &Plan) -> Result<Items<Kind>, AllocError>
+    ensures { IfOk result (λ kinds. kinds ≡ map kind_of plan.now.window.aggregates) }
+{
+    let mut kinds = Vec::new(alloc);
+    for aggregate in plan.window().aggregates.as_slice() {
+        kinds.push(Kind::of(*aggregate))?;
+    }
+    Ok(Items::from_vec(kinds))
+}
+
 /// The start after the seventh savepoint, where the window from 10 on has two records.
 fn with_two_records(rt: &(impl Abort + AllocGlobal), plan: &Plan) -> Result<Start, AllocError>
     ensures { IfOk result (HasGroups plan.now) }
 {
-    let kinds = kinds_of(rt.alloc(), plan.window().aggregates.as_slice())?;
+    let kinds = kinds_of(rt.alloc(), plan)?;
     let first = group_with(rt, plan, kinds.as_slice(), 0, &[1, -3, -3, -3])?;
     let second = group_with(rt, plan, kinds.as_slice(), 1, &[1, 7, 7, 7])?;
     assert!(rt; first.group != second.group);
@@ -158,6 +167,12 @@ fn with_two_records(rt: &(impl Abort + AllocGlobal), plan: &Plan) -> Result<Star
     groups.push(second)?;
     let sources = partitions_read(rt.alloc())?;
     Ok(Start::from_saved(7, sources, kinds, Items::from_vec(groups)))
+}
+
+fn check_encoded(rt: &(impl Abort + AllocGlobal), savepoint: &Savepoint) -> Result<(), Fail> {
+    let bytes = encode(rt.alloc(), savepoint)?;
+    assert_eq!(rt; bytes.as_slice(), BYTES.as_slice());
+    Ok(())
 }
 
 fn check_bytes(
@@ -169,19 +184,25 @@ fn check_bytes(
     requires { HasGroups plan.now start.now }
 {
     let savepoint = again(rt.alloc(), plan, start, scale, 8)?;
-    assert_eq!(rt;
-        encode(rt.alloc(), &savepoint)?.as_slice(),
-        BYTES.as_slice()
-    );
+    check_encoded(rt, &savepoint)
+}
+
+fn check_each_scale(rt: &(impl Abort + AllocGlobal), plan: &Plan, start: &Start) -> Result<(), Fail>
+    requires { HasGroups plan.now start.now }
+{
+    for scale in &SCALES {
+        check_bytes(rt, plan, start, scale)?;
+    }
     Ok(())
+}
+
+fn check_two_records(rt: &(impl Abort + AllocGlobal), plan: &Plan) -> Result<(), Fail> {
+    let start = with_two_records(rt, plan)?;
+    check_each_scale(rt, plan, &start)
 }
 
 #[test]
 fn the_same_bytes_at_each_scale(rt: HostRuntime) -> Result<(), Fail> {
     let plan = Plan::read(rt.alloc(), PLAN.as_bytes())?;
-    let start = with_two_records(&rt, &plan)?;
-    for scale in SCALES {
-        check_bytes(&rt, &plan, &start, scale)?;
-    }
-    Ok(())
+    check_two_records(&rt, &plan)
 }

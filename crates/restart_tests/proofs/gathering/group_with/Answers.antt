@@ -1,7 +1,7 @@
 use Rattle.std.proofs.Common.{rules, ◌≡◌, true}
 use Rattle.aggregates.specs.Kinds.{is_entry}
-use Rattle.gather.proofs.Started.{one_entry}
-use Rattle.gather.proofs.tests.group_with.Goals as goal
+use Rattle.restart_tests.proofs.Started.{one_entry}
+use Rattle.restart_tests.proofs.gathering.group_with.Goals as goal
 
 pub returns : goal.returns
 returns g c =

@@ -1,13 +1,10 @@
-ghost use Rattle.std.specs.Prelude.{◌≤◌, IfOk};
+ghost use Rattle.std.specs.Prelude.{IfOk};
 ghost use Rattle.gather.specs.Laws.{HasGroups};
 
-use crate::laws::accepted_have_groups;
-use gather::gather;
-use gather::laws::spread_are_parts;
+use crate::dealing::again;
 use logical_plan::Plan;
-use plan_compiler::compile;
-use plan_scale::Scale;
-use redistribute::{Start, spread};
+use redistribute::Start;
+use restarts::laws::accepted_have_groups;
 use restore::check;
 use savepoint_codec::{Savepoint, decode, encode};
 use std::alloc::Global;
@@ -68,22 +65,10 @@ fn accepted(alloc: Global, plan: &Plan, input: &Input, bytes: &[u8]) -> Result<S
     Ok(check(alloc, plan, input, &savepoint)?)
 }
 
-/// What a start comes to that is dealt out at a scale and put together again.
-fn again(
-    alloc: Global,
-    plan: &Plan,
-    start: &Start,
-    scale: &str,
-    number: u64,
-) -> Result<Savepoint, Fail>
-    requires groups { HasGroups plan.now start.now }
-    requires number { 1 ≤ number }
-{
-    let _law = spread_are_parts();
-    let scale = Scale::read(alloc, plan, scale.as_bytes())?;
-    let layout = compile(alloc, plan, &scale)?;
-    let parts = spread(alloc, plan, start, &layout)?;
-    Ok(gather(alloc, plan, &layout, &parts, number)?)
+fn check_encoded(rt: &(impl Abort + AllocGlobal), savepoint: &Savepoint) -> Result<(), Fail> {
+    let bytes = encode(rt.alloc(), savepoint)?;
+    assert_eq!(rt; bytes.as_slice(), BYTES.as_slice());
+    Ok(())
 }
 
 fn check_again(
@@ -95,21 +80,31 @@ fn check_again(
     requires { HasGroups plan.now start.now }
 {
     let savepoint = again(rt.alloc(), plan, start, scale, 1)?;
-    assert_eq!(rt;
-        encode(rt.alloc(), &savepoint)?.as_slice(),
-        BYTES.as_slice()
-    );
+    check_encoded(rt, &savepoint)
+}
+
+fn check_each_scale(rt: &(impl Abort + AllocGlobal), plan: &Plan, start: &Start) -> Result<(), Fail>
+    requires { HasGroups plan.now start.now }
+{
+    for scale in &SCALES {
+        check_again(rt, plan, start, scale)?;
+    }
     Ok(())
+}
+
+fn check_accepted(rt: &(impl Abort + AllocGlobal), plan: &Plan, input: &Input) -> Result<(), Fail> {
+    let start = accepted(rt.alloc(), plan, input, &BYTES)?;
+    assert_eq!(rt; start.number(), 1);
+    check_each_scale(rt, plan, &start)
+}
+
+fn check_plan(rt: &(impl Abort + AllocGlobal), plan: &Plan) -> Result<(), Fail> {
+    let input = Input::read(rt.alloc(), plan, INPUT.as_bytes())?;
+    check_accepted(rt, plan, &input)
 }
 
 #[test]
 fn a_snapshot_goes_round_at_each_scale(rt: HostRuntime) -> Result<(), Fail> {
     let plan = Plan::read(rt.alloc(), PLAN.as_bytes())?;
-    let input = Input::read(rt.alloc(), &plan, INPUT.as_bytes())?;
-    let start = accepted(rt.alloc(), &plan, &input, &BYTES)?;
-    assert_eq!(rt; start.number(), 1);
-    for scale in SCALES {
-        check_again(&rt, &plan, &start, scale)?;
-    }
-    Ok(())
+    check_plan(&rt, &plan)
 }

@@ -1,8 +1,10 @@
-use crate::{RestoreFault, check};
+ghost use Rattle.plan_compiler.specs.LayoutData.{IsLayoutOf};
+
+use crate::dealing::layout_at;
 use logical_plan::Plan;
-use plan_compiler::compile;
-use plan_scale::Scale;
+use plan_compiler::Layout;
 use redistribute::{Start, TaskStart, spread};
+use restore::{RestoreFault, check};
 use savepoint_codec::{Savepoint, decode};
 use std::alloc::Global;
 use std::process::Abort;
@@ -59,6 +61,16 @@ fn fault_with(
     Ok(check(alloc, plan, input, &savepoint).err())
 }
 
+fn fault_on(
+    alloc: Global,
+    plan: &Plan,
+    input: &str,
+    edits: &[(usize, u8)],
+) -> Result<Option<RestoreFault>, Fail> {
+    let input = Input::read(alloc, plan, input.as_bytes())?;
+    fault_with(alloc, plan, &input, edits)
+}
+
 fn fault_of(
     alloc: Global,
     plan: &str,
@@ -66,8 +78,7 @@ fn fault_of(
     edits: &[(usize, u8)],
 ) -> Result<Option<RestoreFault>, Fail> {
     let plan = Plan::read(alloc, plan.as_bytes())?;
-    let input = Input::read(alloc, &plan, input.as_bytes())?;
-    fault_with(alloc, &plan, &input, edits)
+    fault_on(alloc, &plan, input, edits)
 }
 
 fn check_cases(rt: &(impl Abort + AllocGlobal), cases: &[Case]) -> Result<(), Fail> {
@@ -210,24 +221,48 @@ fn check_starts(rt: &impl Abort, starts: &[TaskStart]) {
     }
 }
 
+fn check_spread_over(
+    rt: &(impl Abort + AllocGlobal),
+    plan: &Plan,
+    start: &Start,
+    layout: &Layout,
+) -> Result<(), Fail>
+    requires { IsLayoutOf plan.now layout.now }
+{
+    let starts = spread(rt.alloc(), plan, start, layout)?;
+    check_starts(rt, &starts);
+    Ok(())
+}
+
 /// At three subtasks of the window.
 fn check_spread(rt: &(impl Abort + AllocGlobal), plan: &Plan, start: &Start) -> Result<(), Fail> {
-    let scale = Scale::read(rt.alloc(), plan, SCALE.as_bytes())?;
-    let layout = compile(rt.alloc(), plan, &scale)?;
-    check_starts(rt, &spread(rt.alloc(), plan, start, &layout)?);
-    Ok(())
+    let layout = layout_at(rt.alloc(), plan, SCALE)?;
+    check_spread_over(rt, plan, start, &layout)
+}
+
+fn check_start_from(
+    rt: &(impl Abort + AllocGlobal),
+    plan: &Plan,
+    input: &Input,
+    savepoint: &Savepoint,
+) -> Result<(), Fail> {
+    let start = check(rt.alloc(), plan, input, savepoint)?;
+    assert_eq!(rt; start.number(), 1);
+    check_spread(rt, plan, &start)
 }
 
 fn check_start(rt: &(impl Abort + AllocGlobal), plan: &Plan, input: &Input) -> Result<(), Fail> {
     let savepoint = saved(rt.alloc(), &[])?;
-    let start = check(rt.alloc(), plan, input, &savepoint)?;
-    assert_eq!(rt; start.number(), 1);
-    check_spread(rt, plan, &start)
+    check_start_from(rt, plan, input, &savepoint)
+}
+
+fn check_plan(rt: &(impl Abort + AllocGlobal), plan: &Plan) -> Result<(), Fail> {
+    let input = Input::read(rt.alloc(), plan, INPUT.as_bytes())?;
+    check_start(rt, plan, &input)
 }
 
 #[test]
 fn a_start_has_what_was_saved(rt: HostRuntime) -> Result<(), Fail> {
     let plan = Plan::read(rt.alloc(), PLAN.as_bytes())?;
-    let input = Input::read(rt.alloc(), &plan, INPUT.as_bytes())?;
-    check_start(&rt, &plan, &input)
+    check_plan(&rt, &plan)
 }
