@@ -1,11 +1,12 @@
 -- When all tasks of a leg are done, they leave what can be saved.
-use Rattle.std.proofs.Common.{◌≡◌, ℕ, suc, ◌<◌, ◌≤◌, ℤ, Bool, true, false, List, [], length, Option, Some, None, sym, ap, subst, ◌∙◌, inl, inr, arith}
+use Rattle.std.proofs.Common.{◌≡◌, ℕ, suc, ◌+◌, ◌<◌, ◌≤◌, ℤ, Bool, true, false, List, [], ◌∷◌, length, Option, Some, None, sym, ap, subst, ◌∙◌, inl, inr, arith}
 use Rattle.std.specs.Prelude.{slice_index_or}
 use Rattle.std.specs.FinMap.{get}
 use Rattle.std.proofs.lemmas.Bool.{cases_lt, eq-eqb}
 use Rattle.key_groups.specs.Groups.{key_group}
 use Rattle.key_groups.specs.Laws.{Has}
 use Rattle.plan_model.specs.declared.spec.Pane.{Pane}
+use Rattle.plan_model.specs.declared.spec.Row.{Row}
 use Rattle.plan_model.specs.declared.limits.TheConstants.{MOST_RECORDS}
 use Rattle.plan_model.specs.Aggregates.{Aggregated}
 use Rattle.plan_model.specs.PlanData.{PlanData, IsPlan}
@@ -17,7 +18,6 @@ use Rattle.dataflow_model.specs.Leg.{leg_of}
 use Rattle.dataflow_model.specs.Leg.Until.{TillAsked}
 use Rattle.dataflow_model.specs.State.{State}
 use Rattle.dataflow_model.specs.Steps.{IsDone}
-use Rattle.dataflow_model.specs.History.{IsComplete}
 use Rattle.layout_rules.specs.Layouts.{partition_counts, abstract_layout}
 use Rattle.layout_rules.specs.Rules.{IsCompiled, stages_of, window_of}
 use Rattle.layout_rules.specs.Scale.{ScaleData, IsScale}
@@ -30,7 +30,6 @@ use Rattle.input_flow.proofs.Facts.{full_is_cut}
 use Rattle.dataflow_laws.specs.Compiled.{cut_to, layout_to}
 use Rattle.dataflow_laws.specs.Owned.{HaveOwnPanes}
 use Rattle.dataflow_laws.specs.World as flow
-use Rattle.dataflow_laws.specs.Progress.{IsFinished}
 use Rattle.dataflow_laws.proofs.Facts.{worlds_are_histories, few_before, compiled_leg_keeps_panes}
 use Rattle.leg_lists.specs.declared.stop.Stop.{Stop}
 use Rattle.leg_lists.specs.declared.stop.Stop.TheVariants.{Never, At}
@@ -39,10 +38,13 @@ use Rattle.redistribute.specs.StartData.{StartData, offsets_of}
 use Rattle.redistribute.specs.Stopping.{CanStop}
 use Rattle.redistribute.proofs.Facts.{early, places, has, owns, tasks_have_own_panes}
 use Rattle.task_steps.specs.TaskData.{TaskData}
-use Rattle.leg_tasks.specs.Leaving.{CanLeave, CanSave, HaveStates}
+use Rattle.savepoint_codec.specs.declared.savepoint.Contents.{Contents}
+use Rattle.leg_lists.specs.declared.cut.Cut.{Cut}
+use Rattle.leg_tasks.specs.Leaving.{CanLeave, CanSave, HaveStates, savepoint_left}
 use Rattle.core_steps.specs.Given.{GivenData, layout_in, start_in}
-use Rattle.core_steps.specs.World.{WorldData, world_in, state_at, IsWorld}
-use Rattle.core_steps.specs.Finishing.{HasFinished}
+use Rattle.core_steps.specs.World.{WorldData, world_in, state_at, IsSound, IsWorld}
+use Rattle.core_steps.specs.declared.finish.Finish.TheVariants.{Ended, Stopped}
+use Rattle.core_steps.specs.Finishing.{AreAtEnd, HasFinished, finish_of, finish_with, rows_of, savepoint_of}
 use Rattle.core_steps.proofs.States.{state_here}
 use Rattle.core_steps.proofs.Worlds.{reached_now}
 
@@ -55,35 +57,26 @@ pub never_asked : (stop : Stop) → until_of stop ≡ TillAsked → ⊥
 never_asked Never e = cc
 never_asked (At cut) e = cc
 
--- ---- a world whose tasks are all done
+-- ---- tasks at the end of a complete history
 
-module _ (w : WorldData) (world : IsWorld w) (done : HasFinished w) where
-  abbrev g : GivenData
-  g = w.given
-
+module _ (g : GivenData) (tasks : List TaskData) (sound : IsSound g) (at : AreAtEnd g tasks) where
   abbrev l : AbstractLayout
   l = layout_in g
 
   abbrev stages : List Stage
   stages = g.layout.stages
 
-  end : flow.IsEnd g.plan l (start_in g) (world_in w)
-  end = worlds_are_histories g.plan l g.layout.capacity (start_in g) (world_in w) world.sound.layout (reached_now w world done.going)
-
-  complete : IsComplete end.0
-  complete t m = subst (λ (f : ℕ → State). IsDone (f t)) (sym end.1.tasks) (done.finished t m)
-
-  compiled : IsCompiled g.plan world.sound.given.laid_out.scale stages
-  compiled = subst (IsCompiled g.plan world.sound.given.laid_out.scale) (sym (ap (λ (x : LayoutData). x.stages) world.sound.given.laid_out.is)) (compiled_ever g.plan world.sound.given.laid_out.scale)
+  pub compiled : IsCompiled g.plan sound.given.laid_out.scale stages
+  compiled = subst (IsCompiled g.plan sound.given.laid_out.scale) (sym (ap (λ (x : LayoutData). x.stages) sound.given.laid_out.is)) (compiled_ever g.plan sound.given.laid_out.scale)
 
   -- each of the window's tasks has its own panes, of few records
-  own_panes : HaveOwnPanes l (world_in w).tasks MOST_RECORDS
+  own_panes : HaveOwnPanes l (state_at g tasks) MOST_RECORDS
   own_panes u lo hi q a here =
-      let given = world.sound.given in
+      let given = sound.given in
       let opens = tasks_have_own_panes g.plan g.layout g.input g.start g.stop given.plan given.laid_out given.belongs given.starts in
       let kept = compiled_leg_keeps_panes g.plan given.laid_out.scale g.input g.start.number (offsets_of g.start) (until_of g.stop) stages (start_in g) given.plan given.laid_out.fits compiled given.input given.orderly given.belongs
-      given.starts.cut (end_is_cut g.input (offsets_of g.start) g.stop given.stops) (never_asked g.stop) world.sound.start opens.0 opens.1 end.0 complete in
-      let one = kept.2 u lo hi q a (subst (λ (f : ℕ → State). get (f u).windows q ≡ Some a) (sym end.1.tasks) here) in
+      given.starts.cut (end_is_cut g.input (offsets_of g.start) g.stop given.stops) (never_asked g.stop) sound.start opens.0 opens.1 at.history at.complete in
+      let one = kept.2 u lo hi q a (subst (λ (f : ℕ → State). get (f u).windows q ≡ Some a) (sym at.ends) here) in
       let few = few_before g.input (cut_to g.input (until_of g.stop)) given.input in
       (one.0, omega (arith, one.1, few))
 
@@ -93,50 +86,84 @@ module _ (w : WorldData) (world : IsWorld w) (done : HasFinished w) where
       elim (cases_lt t l.before) [
         | inl b ↦ absurd (
             let source : task_role stages t ≡ role.Source → ⊥ = λ y. let z : role.Source ≡ role.Window = sym y ∙ h in cc in
-            let z : role.Chain ≡ role.Window = sym (world.sound.layout.roles_before t b source) ∙ h in
+            let z : role.Chain ≡ role.Window = sym (sound.layout.roles_before t b source) ∙ h in
             cc)
         | inr b ↦ elim (cases_lt t l.sink) [
           | inl s ↦ (b, s)
           | inr s ↦ absurd (
-              let last : t ≡ l.sink = (let c = world.sound.count in omega (arith, k, s, c)) in
-              let z : role.Sink ≡ role.Window = sym world.sound.layout.role_sink ∙ ap (task_role stages) (sym last) ∙ h in
+              let last : t ≡ l.sink = (let c = sound.count in omega (arith, k, s, c)) in
+              let z : role.Sink ≡ role.Window = sym sound.layout.role_sink ∙ ap (task_role stages) (sym last) ∙ h in
               cc)
         ]
       ]
 
   -- what holds of the compiled layout holds of the world's
-  by_scale : (R : LayoutData → Type 0) → R (layout_of g.plan world.sound.given.laid_out.scale) → R g.layout
-  by_scale R r = subst R (sym world.sound.given.laid_out.is) r
+  by_scale : (R : LayoutData → Type 0) → R (layout_of g.plan sound.given.laid_out.scale) → R g.layout
+  by_scale R r = subst R (sym sound.given.laid_out.is) r
 
   partitions_read : (t : ℕ) → task_role stages t ≡ role.Source → length (partitions_of (partition_counts g.plan) stages t) ≡ (l.task t).inputs
   partitions_read =
-      let given = world.sound.given in
+      let given = sound.given in
       let c = given.laid_out.scale in
       by_scale (λ m. (t : ℕ) → task_role m.stages t ≡ role.Source → length (partitions_of (partition_counts g.plan) m.stages t) ≡ ((layout_to g.plan g.input g.start.number (until_of g.stop) m.stages).task t).inputs)
       (λ t h. places g.plan c (entries_of g.input) (leg_of g.start.number [] (until_of g.stop) (entries_of g.input).size) given.plan given.laid_out.fits (compiled_ever g.plan c) t h)
 
   groups_are : (u : ℕ) (key : ℤ) → l.before ≤ u → u < l.sink → l.owner key ≡ u → Has (groups_of g.plan.max stages u) (key_group g.plan.max key)
   groups_are =
-      let given = world.sound.given in
+      let given = sound.given in
       let c = given.laid_out.scale in
       by_scale (λ m. let a = layout_to g.plan g.input g.start.number (until_of g.stop) m.stages in (u : ℕ) (key : ℤ) → a.before ≤ u → u < a.sink → a.owner key ≡ u → Has (groups_of g.plan.max m.stages u) (key_group g.plan.max key))
       (λ u key lo hi own. has (groups_of g.plan.max (stages_of g.plan c) u) (key_group g.plan.max key) (owns g.plan c u key given.plan given.laid_out.fits lo hi ∙ eq-eqb _ u own))
 
-  pub can_save : CanSave g.plan stages w.tasks
+  pub can_save : CanSave g.plan stages tasks
   can_save = record {
-    count = world.built.count;
+    count = at.count;
     each = λ t d k.
-        let placed = world.built.placed t d k in
+        let placed = at.placed t d k in
         record {
           role = placed.stands.role;
           inputs = λ h. placed.stands.inputs ∙ sym (partitions_read t h);
           window = placed.stands.window;
           panes = λ q a h e.
               let m = is_window t k h in
-              let one = own_panes t m.0 m.1 q a (subst (λ (s : State). get s.windows q ≡ Some a) (sym (state_here g w.tasks t d (let n = world.built.count in omega (arith, k, n)))) e) in
+              let one = own_panes t m.0 m.1 q a (subst (λ (s : State). get s.windows q ≡ Some a) (sym (state_here g tasks t d (let n = at.count in omega (arith, k, n)))) e) in
               (groups_are t q.key m.0 m.1 one.0, one.1);
         };
   }
 
-  pub have_states : HaveStates stages w.tasks (world_in w).tasks
-  have_states t d k = sym (state_here g w.tasks t d (let n = world.built.count in omega (arith, k, n)))
+  pub have_states : HaveStates stages tasks (state_at g tasks)
+  have_states t d k = sym (state_here g tasks t d (let n = at.count in omega (arith, k, n)))
+
+-- ---- a world whose tasks are all done
+
+pub at_end : (w : WorldData) → IsWorld w → HasFinished w → AreAtEnd w.given w.tasks
+at_end w world done =
+    let g = w.given in
+    let end : flow.IsEnd g.plan (layout_in g) (start_in g) (world_in w) = worlds_are_histories g.plan (layout_in g) g.layout.capacity (start_in g) (world_in w) world.sound.layout (reached_now w world done.going) in
+    record {
+      count = world.built.count;
+      placed = world.built.placed;
+      history = end.0;
+      ends = end.1.tasks;
+      complete = λ t m. subst (λ (f : ℕ → State). IsDone (f t)) (sym end.1.tasks) (done.finished t m);
+    }
+
+-- ---- what the calls are made of
+
+module _ (g : GivenData) (tasks : List TaskData) (sound : IsSound g) (at : AreAtEnd g tasks) (rows : List Row) (last : (t : ℕ) (d : TaskData) → suc t ≡ length tasks → rows ≡ (slice_index_or tasks t d).state.rows) where
+  -- the rows of the last task are those of the sink
+  last_rows : (ts : List TaskData) (t : ℕ) → suc t ≡ length ts → ((d : TaskData) → rows ≡ (slice_index_or ts t d).state.rows) → rows ≡ (state_at g ts t).rows
+  last_rows [] t l is = absurd (omega (arith, l))
+  last_rows (d ∷ ts) t l is = is d ∙ ap (λ (s : State). s.rows) (sym (state_here g (d ∷ ts) t d (omega (arith, l))))
+
+  rows_are : rows ≡ rows_of g (state_at g tasks)
+  rows_are = let all : suc (layout_in g).sink ≡ length tasks = sym (at.count ∙ sound.count) in last_rows tasks (layout_in g).sink all (λ d. last (layout_in g).sink d all)
+
+  pub ended_is : g.stop ≡ Never → Ended rows ≡ finish_of g (state_at g tasks)
+  ended_is never = ap Ended rows_are ∙ ap (λ (x : Stop). finish_with x (rows_of g (state_at g tasks)) (savepoint_of g (state_at g tasks))) (sym never)
+
+  pub stopped_is : (savepoint : Contents) (given : List TaskData) (n : ℕ) {cut : Cut} → given ≡ tasks → ((states : ℕ → State) → HaveStates g.layout.stages given states → savepoint ≡ savepoint_left g.plan g.layout.stages states (n + 1)) → n ≡ g.start.number → g.stop ≡ At cut
+      → Stopped rows savepoint ≡ finish_of g (state_at g tasks)
+  stopped_is savepoint given n {cut = cut} same is number stops =
+      let saved : savepoint ≡ savepoint_of g (state_at g tasks) = is (state_at g tasks) (subst (λ ts. HaveStates g.layout.stages ts (state_at g tasks)) (sym same) (have_states g tasks sound at)) ∙ ap (λ k. savepoint_left g.plan g.layout.stages (state_at g tasks) (k + 1)) number in
+      (λ j. Stopped (rows_are j) (saved j)) ∙ ap (λ (x : Stop). finish_with x (rows_of g (state_at g tasks)) (savepoint_of g (state_at g tasks))) (sym stops)

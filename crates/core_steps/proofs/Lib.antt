@@ -13,4 +13,5 @@ pub mod Enabled
 pub mod Ready
 pub mod Sound
 pub mod Ending
+pub mod Delivered
 pub mod Legs

@@ -1,31 +1,53 @@
 -- How a leg ends.
-use Rattle.std.specs.Prelude.{◌≡◌, ◌+◌, List, false}
+use Rattle.std.specs.Prelude.{◌≡◌, ℕ, ◌+◌, ◌<◌, List, length, slice_index_or, false}
 use Rattle.plan_model.specs.declared.spec.Row.{Row}
+use Rattle.dataflow_model.specs.State.{State}
+use Rattle.dataflow_model.specs.History.{History, IsComplete}
 use Rattle.dataflow_laws.specs.Progress.{IsFinished}
+use Rattle.layout_rules.specs.Stages.{task_count}
 use Rattle.savepoint_codec.specs.declared.savepoint.Contents.{Contents}
+use Rattle.task_steps.specs.TaskData.{TaskData}
 use Rattle.leg_tasks.specs.Leaving.{savepoint_left}
 use Rattle.leg_lists.specs.declared.stop.Stop.{Stop}
 use Rattle.leg_lists.specs.declared.stop.Stop.TheVariants.{Never, At}
 use Rattle.core_steps.specs.declared.finish.Finish.{Finish}
 use Rattle.core_steps.specs.declared.finish.Finish.TheVariants.{Ended, Stopped}
-use Rattle.core_steps.specs.Given.{layout_in}
-use Rattle.core_steps.specs.World.{WorldData, world_in}
+use Rattle.core_steps.specs.Given.{GivenData, layout_in, start_in}
+use Rattle.core_steps.specs.World.{WorldData, world_in, state_at, IsPlaced}
 
--- the rows that the sink has collected
-abbrev pub rows_in : WorldData → List Row
-rows_in w = ((world_in w).tasks (layout_in w.given).sink).rows
+-- the rows that the sink has collected, where tasks are in these states
+abbrev pub rows_of : GivenData → (ℕ → State) → List Row
+rows_of g states = (states (layout_in g).sink).rows
 
--- the savepoint that its tasks leave, which follows the one that the leg went on from
-abbrev pub savepoint_in : WorldData → Contents
-savepoint_in w = savepoint_left w.given.plan w.given.layout.stages (world_in w).tasks (w.given.start.number + 1)
+-- the savepoint that they leave, which follows the one that the leg went on from
+abbrev pub savepoint_of : GivenData → (ℕ → State) → Contents
+savepoint_of g states = savepoint_left g.plan g.layout.stages states (g.start.number + 1)
 
 -- how a leg ended that was to stop so, with these rows and, if it stopped, this savepoint
 abbrev pub finish_with : Stop → List Row → Contents → Finish
 finish_with Never rows savepoint = Ended rows
 finish_with (At cut) rows savepoint = Stopped rows savepoint
 
-abbrev pub finish_of : WorldData → Finish
-finish_of w = finish_with w.given.stop (rows_in w) (savepoint_in w)
+abbrev pub finish_of : GivenData → (ℕ → State) → Finish
+finish_of g states = finish_with g.stop (rows_of g states) (savepoint_of g states)
+
+-- tasks of a leg stand where a complete history ends: each where its own steps have led it from where it began, what was taken from each ring is the older part of what was put on it, and all are done
+pub record AreAtEnd (g : GivenData) (tasks : List TaskData) : Type 0 where
+  pub count : length tasks ≡ task_count g.layout.stages
+  pub placed : (t : ℕ) (d : TaskData) → t < task_count g.layout.stages → IsPlaced g.plan g.input ((layout_in g).task t) (slice_index_or tasks t d)
+  pub history : History g.plan (layout_in g) (start_in g)
+  pub ends : history.end ≡ state_at g tasks
+  pub complete : IsComplete history
+
+-- the same of a world
+abbrev pub rows_in : WorldData → List Row
+rows_in w = rows_of w.given (world_in w).tasks
+
+abbrev pub savepoint_in : WorldData → Contents
+savepoint_in w = savepoint_of w.given (world_in w).tasks
+
+abbrev pub finish_in : WorldData → Finish
+finish_in w = finish_of w.given (world_in w).tasks
 
 -- all tasks are done, and none was stopped by want of memory
 pub record HasFinished (w : WorldData) : Type 0 where

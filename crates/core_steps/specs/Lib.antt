@@ -6,3 +6,4 @@ pub mod Beginning
 pub mod Answers
 pub mod RingSteps
 pub mod Finishing
+pub mod Ending

@@ -9,9 +9,6 @@ mod given;
 mod rings;
 mod world;
 
-pub use finish::Finish;
+pub use finish::{Finish, finish_of};
 pub use given::Given;
 pub use world::World;
-
-#[cfg(test)]
-mod tests;

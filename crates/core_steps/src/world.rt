@@ -1,17 +1,14 @@
 //! All tasks of a leg and the rings between them.
 
-ghost use Rattle.std.specs.Prelude.{◌≡◌, ◌↔◌, true, false, IsTrue, MatchOption, IfErr, IfOk, OnOk};
+ghost use Rattle.std.specs.Prelude.{◌≡◌, ◌↔◌, true, false, IsTrue, MatchOption, IfErr, IfOk, IfSome, OnOk};
 ghost use Rattle.core_steps.specs.Answers.{is_memory};
 
-use crate::finish::Finish;
+use crate::finish::{Finish, finish_of};
 use crate::given::Given;
 use crate::rings::Rings;
 use dataflow_laws::Step;
 use leg_lists::{LegFault, Stop};
-use leg_tasks::{save, tasks};
-use plain_data::Items;
-use plan_model::Row;
-use savepoint_codec::Savepoint;
+use leg_tasks::tasks;
 use std::alloc::{AllocError, Global};
 use std::marker::Model;
 use task_setups::Leg;
@@ -57,13 +54,15 @@ impl<'a> World<'a> {
     ghost use Rattle.dataflow_laws.specs.World as flow;
     ghost use Rattle.stream_model.specs.InputData.{BelongsTo};
     ghost use Rattle.redistribute.specs.StartData.{offsets_of};
-    ghost use Rattle.redistribute.specs.Begins.{IsStartIn};
+    ghost use Rattle.redistribute.specs.Begins.{IsStartIn, IsFromNothing};
+    ghost use Rattle.leg_lists.specs.declared.stop.Stop.TheVariants.{Never};
     ghost use Rattle.redistribute.specs.Stopping.{CanStop, IsRefusal};
     ghost use Rattle.task_setups.specs.Legs.{IsLayoutOf};
     ghost use Rattle.core_steps.specs.Given.{given_data, layout_in};
     ghost use Rattle.core_steps.specs.World.{world_in, IsWorld};
     ghost use Rattle.core_steps.specs.Beginning.{IsNewWorld};
-    ghost use Rattle.core_steps.specs.Finishing.{finish_of, rows_in, savepoint_in, HasFinished};
+    ghost use Rattle.core_steps.specs.Finishing.{finish_in, HasFinished};
+    ghost use Rattle.core_steps.specs.Ending.{IsEndOf, IsWholeRun};
     ghost use Rattle.core_steps.specs.Answers.{LeadsTo, CanMake, StepAnswers};
     ghost use Rattle.core_steps.specs.RingSteps.{IsPuttable, IsTakeable};
 
@@ -360,33 +359,6 @@ impl<'a> World<'a> {
         *has_failed
     }
 
-    /// The rows that the sink has collected, in the order in which they came.
-    fn into_rows(self) -> Items<Row>
-        ensures { result ≡ rows_in self.entry }
-    {
-        let mut tasks = self.tasks;
-        Items::from_vec(tasks.pop().unwrap().into_rows())
-    }
-
-    /// The savepoint that the tasks leave: the one after that which the leg went on from.
-    ///
-    /// # Errors
-    ///
-    /// Only where memory runs out.
-    fn savepoint(&self, alloc: Global) -> Result<Savepoint, AllocError>
-        requires { HasFinished self.now }
-        ensures { IfOk result (λ savepoint. savepoint ≡ savepoint_in self.now) }
-    {
-        let Given {
-            plan,
-            start,
-            layout,
-            ..
-        } = self.given;
-        let number = start.number() + 1;
-        save(alloc, plan, layout, self.tasks.as_slice(), number)
-    }
-
     /// How the leg ended, with the rows that it has delivered and the savepoint that it leaves where it stopped; `None` where
     /// not every task is done, or the world has failed.
     ///
@@ -394,18 +366,20 @@ impl<'a> World<'a> {
     ///
     /// Only where memory runs out.
     pub fn finish(self, alloc: Global) -> Result<Option<Finish>, AllocError>
-        ensures { IfOk result (λ answer. MatchOption answer (HasFinished self.entry → ⊥) (λ finish. HasFinished self.entry × (finish ≡ finish_of self.entry))) }
+        ensures is { IfOk result (λ answer. MatchOption answer (HasFinished self.entry → ⊥) (λ finish. HasFinished self.entry × (finish ≡ finish_in self.entry))) }
+        ensures ends { let g = self.entry.given in IfOk result (λ answer. IfSome answer (λ finish. IsEndOf g.plan g.input g.start g.stop finish)) }
+        ensures whole { let g = self.entry.given in IfOk result (λ answer. IfSome answer (λ finish. IsFromNothing g.input g.start → g.stop ≡ Never → IsWholeRun g.plan g.input finish)) }
     {
         if self.has_failed() || !self.is_finished() {
             return Ok(None);
         }
-        match self.leg.stop {
-            Stop::Never => Ok(Some(Finish::Ended(self.into_rows()))),
-            Stop::At(_) => {
-                let savepoint = self.savepoint(alloc)?;
-                Ok(Some(Finish::Stopped(self.into_rows(), savepoint)))
-            }
-        }
+        let World {
+            given,
+            leg,
+            tasks,
+            ..
+        } = self;
+        Ok(Some(finish_of(alloc, given, &leg.stop, tasks)?))
     }
 
     /// Whether every task is done. Where not, and the world has not failed, there is a step.

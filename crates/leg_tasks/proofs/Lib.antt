@@ -3,5 +3,4 @@ mod Saving
 mod Known
 mod Suiting
 mod Starting
-mod Readable
 pub mod Facts

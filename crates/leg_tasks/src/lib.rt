@@ -13,6 +13,3 @@ mod opening;
 pub use beginning::{begin, tasks};
 pub use leaving::save;
 pub use opening::Opening;
-
-#[cfg(test)]
-mod tests;

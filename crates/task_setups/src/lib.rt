@@ -11,6 +11,3 @@ mod setups;
 
 pub use leg::Leg;
 pub use setups::setup_of;
-
-#[cfg(test)]
-mod tests;

@@ -4,16 +4,15 @@ ghost use Rattle.stream_model.specs.InputData.{BelongsTo};
 ghost use Rattle.task_setups.specs.Legs.{IsLayoutOf};
 ghost use Rattle.leg_tasks.specs.Reading.{CanBeRead};
 
-use crate::tasks;
+use crate::making::{layout_at, stop_at};
 use columns::Batch;
 use dataflow_model::Message;
-use leg_lists::{Cut, LegFault, Stop};
+use leg_lists::{LegFault, Stop};
+use leg_tasks::tasks;
 use logical_plan::Plan;
-use plain_data::Items;
-use plan_compiler::{Layout, compile};
-use plan_scale::Scale;
+use plan_compiler::Layout;
 use redistribute::Start;
-use std::alloc::{AllocError, Global};
+use std::alloc::Global;
 use std::process::Abort;
 use std::random::RandomSource;
 use std::test::Fail;
@@ -166,47 +165,19 @@ fn check_steps<R: AllocGlobal + Abort>(
     Ok(())
 }
 
-/// A plan, its input, and its layout at a scale.
-#[derive(Drop)]
-struct Job {
-    plan: Plan,
-    input: Input,
-    layout: Layout,
-}
-
-fn layout_at(alloc: Global, plan: &Plan, scale: &str) -> Result<Layout, Fail>
-    ensures { IfOk result (λ layout. IsLayoutOf plan.now layout) }
-{
-    let scale = Scale::read(alloc, plan, scale.as_bytes())?;
-    Ok(compile(alloc, plan, &scale)?)
-}
-
-/// The job of a plan, a scale and an input.
-fn job_of(alloc: Global, texts: (&str, &str, &str)) -> Result<Job, Fail>
-    ensures belongs { IfOk result (λ job. BelongsTo job.plan job.input) }
-    ensures laid_out { IfOk result (λ job. IsLayoutOf job.plan job.layout) }
-{
-    let plan = Plan::read(alloc, texts.0.as_bytes())?;
-    let layout = layout_at(alloc, &plan, texts.1)?;
-    let input = Input::read(alloc, &plan, texts.2.as_bytes())?;
-    Ok(Job {
-        plan,
-        input,
-        layout,
-    })
-}
-
 /// The tasks of a leg of a job from nothing.
-fn tasks_of(alloc: Global, keys: HashKeys, job: &Job, stop: Stop) -> Result<Vec<Task>, LegFault>
-    requires belongs { BelongsTo job.now.plan job.now.input }
-    requires laid_out { IsLayoutOf job.now.plan job.now.layout }
-    ensures { IfOk result (λ made. All (λ t. CanBeRead job.now.input t.setup) made.items) }
+fn tasks_of(
+    alloc: Global,
+    keys: HashKeys,
+    plan: &Plan,
+    layout: &Layout,
+    input: &Input,
+    stop: Stop,
+) -> Result<Vec<Task>, LegFault>
+    requires belongs { BelongsTo plan.now input.now }
+    requires laid_out { IsLayoutOf plan.now layout.now }
+    ensures { IfOk result (λ made. All (λ t. CanBeRead input.now t.setup) made.items) }
 {
-    let Job {
-        plan,
-        input,
-        layout,
-    } = job;
     let start = Start::empty(alloc, plan, input)?;
     let leg = Leg {
         number: start.number(),
@@ -215,21 +186,84 @@ fn tasks_of(alloc: Global, keys: HashKeys, job: &Job, stop: Stop) -> Result<Vec<
     Ok(tasks(alloc, keys, plan, input, &start, layout, &leg)?)
 }
 
-/// Steps of one task of a leg from nothing, each with what comes of it, and whether the task is done after the last.
-fn check<R: AllocGlobal + Abort + RandomSource>(
-    rt: &R,
-    texts: (&str, &str, &str),
-    stop: Stop,
+/// What is tried of a plan, an input and a scale: a leg from nothing, to where so many entries were read or to its end, steps of
+/// one of its tasks, each with what comes of it, and whether the task is done after the last.
+#[derive(Clone, Copy)]
+struct Case<'a> {
+    plan: &'a str,
+    scale: &'a str,
+    input: &'a str,
+    stop: Option<&'a [u64]>,
     number: usize,
-    steps: &[(Step, Seen)],
+    steps: &'a [(Step, Seen)],
     done: bool,
-) -> Result<(), Fail> {
-    let job = job_of(rt.alloc(), texts)?;
+}
+
+fn check_task<R: AllocGlobal + Abort>(
+    rt: &R,
+    mut tasks: Vec<Task>,
+    input: &Input,
+    case: &Case<'_>,
+) -> Result<(), Fail>
+    requires { All (λ t. CanBeRead input.now t.setup) tasks.items }
+{
+    assert!(rt; case.number < tasks.len());
+    let task = tasks.swap_remove(case.number);
+    check_steps(rt, task, input, case.steps, case.done)
+}
+
+fn check_input<R: AllocGlobal + Abort + RandomSource>(
+    rt: &R,
+    plan: &Plan,
+    layout: &Layout,
+    input: &Input,
+    case: &Case<'_>,
+) -> Result<Result<(), LegFault>, Fail>
+    requires belongs { BelongsTo plan.now input.now }
+    requires laid_out { IsLayoutOf plan.now layout.now }
+{
     let keys = HashKeys::random(rt)?;
-    let mut tasks = tasks_of(rt.alloc(), keys, &job, stop)?;
-    assert!(rt; number < tasks.len());
-    let task = tasks.swap_remove(number);
-    check_steps(rt, task, &job.input, steps, done)
+    let stop = stop_at(rt.alloc(), case.stop)?;
+    match tasks_of(rt.alloc(), keys, plan, layout, input, stop) {
+        Ok(tasks) => check_task(rt, tasks, input, case)?,
+        Err(fault) => return Ok(Err(fault)),
+    }
+    Ok(Ok(()))
+}
+
+fn check_layout<R: AllocGlobal + Abort + RandomSource>(
+    rt: &R,
+    plan: &Plan,
+    layout: &Layout,
+    case: &Case<'_>,
+) -> Result<Result<(), LegFault>, Fail>
+    requires { IsLayoutOf plan.now layout.now }
+{
+    let input = Input::read(rt.alloc(), plan, case.input.as_bytes())?;
+    check_input(rt, plan, layout, &input, case)
+}
+
+fn check_plan<R: AllocGlobal + Abort + RandomSource>(
+    rt: &R,
+    plan: &Plan,
+    case: &Case<'_>,
+) -> Result<Result<(), LegFault>, Fail> {
+    let layout = layout_at(rt.alloc(), plan, case.scale)?;
+    check_layout(rt, plan, &layout, case)
+}
+
+fn outcome<R: AllocGlobal + Abort + RandomSource>(
+    rt: &R,
+    case: Case<'_>,
+) -> Result<Result<(), LegFault>, Fail> {
+    let plan = Plan::read(rt.alloc(), case.plan.as_bytes())?;
+    check_plan(rt, &plan, &case)
+}
+
+/// Tries a case, whose leg can stop where it is to.
+fn check<R: AllocGlobal + Abort + RandomSource>(rt: &R, case: Case<'_>) -> Result<(), Fail> {
+    assert_eq!(rt; outcome(rt, case)?, Ok(()));
+    Ok(())
 }
 
 const READS_ONE: &[(Step, Seen)] = &[
@@ -268,8 +302,16 @@ const READS_ONE: &[(Step, Seen)] = &[
 
 #[test]
 fn a_source_reads_its_own_partition(rt: HostRuntime) -> Result<(), Fail> {
-    let texts = (USAGE, TWO_THREE, THREE_AND_THREE);
-    check(&rt, texts, Stop::Never, 1, READS_ONE, true)
+    let case = Case {
+        plan: USAGE,
+        scale: TWO_THREE,
+        input: THREE_AND_THREE,
+        stop: None,
+        number: 1,
+        steps: READS_ONE,
+        done: true,
+    };
+    check(&rt, case)
 }
 
 const READS_ZERO: &[(Step, Seen)] = &[
@@ -288,8 +330,16 @@ const READS_ZERO: &[(Step, Seen)] = &[
 
 #[test]
 fn its_other_subtask_reads_the_other(rt: HostRuntime) -> Result<(), Fail> {
-    let texts = (USAGE, TWO_THREE, THREE_AND_THREE);
-    check(&rt, texts, Stop::Never, 0, READS_ZERO, false)
+    let case = Case {
+        plan: USAGE,
+        scale: TWO_THREE,
+        input: THREE_AND_THREE,
+        stop: None,
+        number: 0,
+        steps: READS_ZERO,
+        done: false,
+    };
+    check(&rt, case)
 }
 
 const READS_NOTHING: &[(Step, Seen)] = &[
@@ -303,8 +353,16 @@ const READS_NOTHING: &[(Step, Seen)] = &[
 
 #[test]
 fn an_empty_partition_is_at_its_end(rt: HostRuntime) -> Result<(), Fail> {
-    let texts = (USAGE, TWO_ONE, NONE_AND_ONE);
-    check(&rt, texts, Stop::Never, 0, READS_NOTHING, true)
+    let case = Case {
+        plan: USAGE,
+        scale: TWO_ONE,
+        input: NONE_AND_ONE,
+        stop: None,
+        number: 0,
+        steps: READS_NOTHING,
+        done: true,
+    };
+    check(&rt, case)
 }
 
 const FIRES: &[(Step, Seen)] = &[
@@ -333,8 +391,16 @@ const FIRES: &[(Step, Seen)] = &[
 
 #[test]
 fn a_window_fires_by_the_least_watermark(rt: HostRuntime) -> Result<(), Fail> {
-    let texts = (USAGE, TWO_ONE, THREE_AND_THREE);
-    check(&rt, texts, Stop::Never, 2, FIRES, true)
+    let case = Case {
+        plan: USAGE,
+        scale: TWO_ONE,
+        input: THREE_AND_THREE,
+        stop: None,
+        number: 2,
+        steps: FIRES,
+        done: true,
+    };
+    check(&rt, case)
 }
 
 const FILTERS: &[(Step, Seen)] = &[
@@ -352,8 +418,16 @@ const FILTERS: &[(Step, Seen)] = &[
 
 #[test]
 fn a_chain_filters_and_deals_by_key(rt: HostRuntime) -> Result<(), Fail> {
-    let texts = (FILTERED, ONE_CHAINED, THREE_AND_THREE);
-    check(&rt, texts, Stop::Never, 2, FILTERS, false)
+    let case = Case {
+        plan: FILTERED,
+        scale: ONE_CHAINED,
+        input: THREE_AND_THREE,
+        stop: None,
+        number: 2,
+        steps: FILTERS,
+        done: false,
+    };
+    check(&rt, case)
 }
 
 const COLLECTS: &[(Step, Seen)] = &[
@@ -369,15 +443,16 @@ const COLLECTS: &[(Step, Seen)] = &[
 
 #[test]
 fn the_sink_ends_with_its_inputs(rt: HostRuntime) -> Result<(), Fail> {
-    let texts = (USAGE, TWO_THREE, THREE_AND_THREE);
-    check(&rt, texts, Stop::Never, 5, COLLECTS, true)
-}
-
-/// A stop where so many entries of each partition were read.
-fn stop_at(alloc: Global, counts: &[u64]) -> Result<Stop, AllocError> {
-    let source = Items::from_vec(Vec::from_slice(alloc, counts)?);
-    let counts = Items::from_vec(vec![in alloc; source]?);
-    Ok(Stop::At(Cut { counts }))
+    let case = Case {
+        plan: USAGE,
+        scale: TWO_THREE,
+        input: THREE_AND_THREE,
+        stop: None,
+        number: 5,
+        steps: COLLECTS,
+        done: true,
+    };
+    check(&rt, case)
 }
 
 const STOPS: &[(Step, Seen)] = &[
@@ -398,9 +473,16 @@ const STOPS: &[(Step, Seen)] = &[
 
 #[test]
 fn a_source_stops_at_its_cut(rt: HostRuntime) -> Result<(), Fail> {
-    let stop = stop_at(rt.alloc(), &[1, 2])?;
-    let texts = (USAGE, TWO_THREE, THREE_AND_THREE);
-    check(&rt, texts, stop, 0, STOPS, true)
+    let case = Case {
+        plan: USAGE,
+        scale: TWO_THREE,
+        input: THREE_AND_THREE,
+        stop: Some(&[1, 2]),
+        number: 0,
+        steps: STOPS,
+        done: true,
+    };
+    check(&rt, case)
 }
 
 const ALIGNS: &[(Step, Seen)] = &[
@@ -419,17 +501,29 @@ const ALIGNS: &[(Step, Seen)] = &[
 
 #[test]
 fn a_window_waits_for_each_barrier(rt: HostRuntime) -> Result<(), Fail> {
-    let stop = stop_at(rt.alloc(), &[1, 2])?;
-    let texts = (USAGE, TWO_ONE, THREE_AND_THREE);
-    check(&rt, texts, stop, 2, ALIGNS, true)
+    let case = Case {
+        plan: USAGE,
+        scale: TWO_ONE,
+        input: THREE_AND_THREE,
+        stop: Some(&[1, 2]),
+        number: 2,
+        steps: ALIGNS,
+        done: true,
+    };
+    check(&rt, case)
 }
 
 #[test]
 fn a_leg_stops_at_no_cut_past_the_end(rt: HostRuntime) -> Result<(), Fail> {
-    let job = job_of(rt.alloc(), (USAGE, TWO_THREE, THREE_AND_THREE))?;
-    let stop = stop_at(rt.alloc(), &[3, 4])?;
-    let keys = HashKeys::random(&rt)?;
-    let made = tasks_of(rt.alloc(), keys, &job, stop);
-    assert!(rt; matches!(made, Err(LegFault::StopRange)));
+    let case = Case {
+        plan: USAGE,
+        scale: TWO_THREE,
+        input: THREE_AND_THREE,
+        stop: Some(&[3, 4]),
+        number: 0,
+        steps: &[],
+        done: false,
+    };
+    assert_eq!(rt; outcome(&rt, case)?, Err(LegFault::StopRange));
     Ok(())
 }

@@ -1,16 +1,17 @@
 ghost use Rattle.std.specs.Prelude.{◌<◌};
+ghost use Rattle.task_setups.specs.Legs.{IsLayoutOf};
 
-use crate::{Leg, setup_of};
+use crate::making::layout_at;
 use dataflow_model::{Ending, Role};
 use lane_kernels::Cmp;
 use leg_lists::{Cut, Stop};
 use logical_plan::Plan;
 use plain_data::Items;
-use plan_compiler::compile;
-use plan_scale::Scale;
+use plan_compiler::Layout;
 use std::process::Abort;
 use std::test::Fail;
 use stream_input::Input;
+use task_setups::{Leg, setup_of};
 use task_steps::Setup;
 
 const NO_FILTER: &str =
@@ -36,6 +37,36 @@ const THREE_AND_TWO: &str =
 const ONE_AND_NONE: &str =
     r#"{"r":[[{"watermark":9}]],"s":[[],[{"watermark":5},{"watermark":7}]]}"#;
 
+fn told_on(
+    rt: &(impl AllocGlobal + Abort),
+    plan: &Plan,
+    layout: &Layout,
+    input: &str,
+    leg: &Leg,
+    task: u32,
+) -> Result<Setup, Fail>
+    requires number { leg.now.number < u64.MAX }
+    requires laid_out { IsLayoutOf plan.now layout.now }
+{
+    let input = Input::read(rt.alloc(), plan, input.as_bytes())?;
+    assert!(rt; task < layout.task_count());
+    Ok(setup_of(rt.alloc(), plan, &input, layout, leg, task)?)
+}
+
+fn told_by(
+    rt: &(impl AllocGlobal + Abort),
+    plan: &Plan,
+    scale: &str,
+    input: &str,
+    leg: &Leg,
+    task: u32,
+) -> Result<Setup, Fail>
+    requires { leg.now.number < u64.MAX }
+{
+    let layout = layout_at(rt.alloc(), plan, scale)?;
+    told_on(rt, plan, &layout, input, leg, task)
+}
+
 /// What a task is told of a leg over an input, by a plan at a scale.
 fn told(
     rt: &(impl AllocGlobal + Abort),
@@ -48,11 +79,7 @@ fn told(
     requires { leg.now.number < u64.MAX }
 {
     let plan = Plan::read(rt.alloc(), plan.as_bytes())?;
-    let scale = Scale::read(rt.alloc(), &plan, scale.as_bytes())?;
-    let input = Input::read(rt.alloc(), &plan, input.as_bytes())?;
-    let layout = compile(rt.alloc(), &plan, &scale)?;
-    assert!(rt; task < layout.task_count());
-    Ok(setup_of(rt.alloc(), &plan, &input, &layout, leg, task)?)
+    told_by(rt, &plan, scale, input, leg, task)
 }
 
 /// Its role, its inputs and outputs, by how many subtasks it deals out records, its partitions, and how far

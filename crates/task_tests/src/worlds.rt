@@ -1,18 +1,15 @@
-ghost use Rattle.std.specs.Prelude.{◌≡◌, IfOk};
 ghost use Rattle.stream_model.specs.InputData.{BelongsTo};
 ghost use Rattle.redistribute.specs.Begins.{IsStartIn};
 ghost use Rattle.task_setups.specs.Legs.{IsLayoutOf};
 
-use crate::{Finish, Given, World};
+use crate::making::{layout_at, stop_at};
+use core_steps::{Finish, Given, World};
 use dataflow_laws::Step;
-use leg_lists::{Cut, LegFault, Stop};
+use leg_lists::{LegFault, Stop};
 use logical_plan::Plan;
-use plain_data::Items;
-use plan_compiler::{Layout, compile};
 use plan_model::Row;
-use plan_scale::Scale;
 use redistribute::Start;
-use std::alloc::{AllocError, Global};
+use std::alloc::AllocError;
 use std::process::Abort;
 use std::random::RandomSource;
 use std::test::Fail;
@@ -33,68 +30,6 @@ const TWO_THREE_SHORT: &str =
 /// Both keys are of the last of three subtasks of the window.
 const THREE_AND_THREE: &str =
     r#"{"s":[[{"rows":[[1,1,5],[12,1,7]]},{"watermark":9},{"rows":[[15,0,-3]]}],[{"rows":[[3,0,4]]},{"watermark":11},{"rows":[[13,1,2]]}]]}"#;
-
-/// A plan, its input, the start from nothing, and the plan's layout at a scale.
-#[derive(Drop)]
-struct Job {
-    plan: Plan,
-    input: Input,
-    start: Start,
-    layout: Layout,
-}
-
-fn layout_at(alloc: Global, plan: &Plan, scale: &str) -> Result<Layout, Fail>
-    ensures { IfOk result (λ layout. IsLayoutOf plan.now layout) }
-{
-    let scale = Scale::read(alloc, plan, scale.as_bytes())?;
-    Ok(compile(alloc, plan, &scale)?)
-}
-
-/// The job of the plan and the input at a scale.
-fn job_at(alloc: Global, scale: &str) -> Result<Job, Fail>
-    ensures belongs { IfOk result (λ job. BelongsTo job.plan job.input) }
-    ensures starts { IfOk result (λ job. IsStartIn job.plan job.input job.start) }
-    ensures laid_out { IfOk result (λ job. IsLayoutOf job.plan job.layout) }
-{
-    let plan = Plan::read(alloc, USAGE.as_bytes())?;
-    let layout = layout_at(alloc, &plan, scale)?;
-    let input = Input::read(alloc, &plan, THREE_AND_THREE.as_bytes())?;
-    let start = Start::empty(alloc, &plan, &input)?;
-    Ok(Job {
-        plan,
-        input,
-        start,
-        layout,
-    })
-}
-
-/// The world of a job as it opens.
-fn world_of(alloc: Global, keys: HashKeys, job: &Job, stop: Stop) -> Result<World, LegFault>
-    requires belongs { BelongsTo job.now.plan job.now.input }
-    requires starts { IsStartIn job.now.plan job.now.input job.now.start }
-    requires laid_out { IsLayoutOf job.now.plan job.now.layout }
-{
-    let Job {
-        plan,
-        input,
-        start,
-        layout,
-    } = job;
-    let given = Given {
-        plan,
-        input,
-        start,
-        layout,
-    };
-    World::new(alloc, keys, given, stop)
-}
-
-/// A stop where so many entries of each partition were read.
-fn stop_at(alloc: Global, counts: &[u64]) -> Result<Stop, AllocError> {
-    let source = Items::from_vec(Vec::from_slice(alloc, counts)?);
-    let counts = Items::from_vec(vec![in alloc; source]?);
-    Ok(Stop::At(Cut { counts }))
-}
 
 /// Each step can be made now, or cannot, as it is said.
 fn check_enabled<R: Abort>(rt: &R, world: &World, listed: &[(Step, bool)]) {
@@ -226,38 +161,97 @@ fn check_end<R: AllocGlobal + Abort>(
     Ok(())
 }
 
-/// What is done to the world of a job, from its opening on, and how it has ended then.
+/// What is tried: a leg of the job at a scale, to where so many entries were read or to its end, what is done to its world,
+/// from its opening on, and how that has ended then.
+#[derive(Clone, Copy)]
+struct Case<'a> {
+    scale: &'a str,
+    stop: Option<&'a [u64]>,
+    parts: &'a [Part],
+    ending: Ending,
+}
+
 fn check_world<R: AllocGlobal + Abort>(
     rt: &R,
     keys: HashKeys,
-    job: &Job,
+    given: Given<'_>,
     stop: Stop,
-    parts: &[Part],
-    ending: &Ending,
+    case: &Case<'_>,
 ) -> Result<(), LegFault>
-    requires belongs { BelongsTo job.now.plan job.now.input }
-    requires starts { IsStartIn job.now.plan job.now.input job.now.start }
-    requires laid_out { IsLayoutOf job.now.plan job.now.layout }
+    requires belongs { BelongsTo given.plan.now given.input.now }
+    requires starts { IsStartIn given.plan.now given.input.now given.start.now }
+    requires laid_out { IsLayoutOf given.plan.now given.layout.now }
 {
-    let mut world = world_of(rt.alloc(), keys, job, stop)?;
-    for part in parts {
+    let mut world = World::new(rt.alloc(), keys, given, stop)?;
+    for part in case.parts {
         play_part(rt, &mut world, part);
     }
-    check_end(rt, world, ending)?;
+    check_end(rt, world, &case.ending)?;
     Ok(())
 }
 
-/// The same of the job at a scale.
+fn check_given<R: AllocGlobal + Abort + RandomSource>(
+    rt: &R,
+    given: Given<'_>,
+    case: &Case<'_>,
+) -> Result<Result<(), LegFault>, Fail>
+    requires belongs { BelongsTo given.plan.now given.input.now }
+    requires starts { IsStartIn given.plan.now given.input.now given.start.now }
+    requires laid_out { IsLayoutOf given.plan.now given.layout.now }
+{
+    let keys = HashKeys::random(rt)?;
+    let stop = stop_at(rt.alloc(), case.stop)?;
+    Ok(check_world(rt, keys, given, stop, case))
+}
+
+fn check_start<R: AllocGlobal + Abort + RandomSource>(
+    rt: &R,
+    plan: &Plan,
+    input: &Input,
+    start: &Start,
+    case: &Case<'_>,
+) -> Result<Result<(), LegFault>, Fail>
+    requires belongs { BelongsTo plan.now input.now }
+    requires starts { IsStartIn plan.now input.now start.now }
+{
+    let layout = layout_at(rt.alloc(), plan, case.scale)?;
+    let given = Given {
+        plan,
+        input,
+        start,
+        layout: &layout,
+    };
+    check_given(rt, given, case)
+}
+
+fn check_input<R: AllocGlobal + Abort + RandomSource>(
+    rt: &R,
+    plan: &Plan,
+    input: &Input,
+    case: &Case<'_>,
+) -> Result<Result<(), LegFault>, Fail>
+    requires { BelongsTo plan.now input.now }
+{
+    let start = Start::empty(rt.alloc(), plan, input)?;
+    check_start(rt, plan, input, &start, case)
+}
+
+fn check_plan<R: AllocGlobal + Abort + RandomSource>(
+    rt: &R,
+    plan: &Plan,
+    case: &Case<'_>,
+) -> Result<Result<(), LegFault>, Fail> {
+    let input = Input::read(rt.alloc(), plan, THREE_AND_THREE.as_bytes())?;
+    check_input(rt, plan, &input, case)
+}
+
+/// Tries a case of the plan and the input.
 fn check<R: AllocGlobal + Abort + RandomSource>(
     rt: &R,
-    scale: &str,
-    stop: Stop,
-    parts: &[Part],
-    ending: &Ending,
+    case: Case<'_>,
 ) -> Result<Result<(), LegFault>, Fail> {
-    let job = job_at(rt.alloc(), scale)?;
-    let keys = HashKeys::random(rt)?;
-    Ok(check_world(rt, keys, &job, stop, parts, ending))
+    let plan = Plan::read(rt.alloc(), USAGE.as_bytes())?;
+    check_plan(rt, &plan, &case)
 }
 
 const OPENS: &[(Step, bool)] = &[
@@ -290,11 +284,13 @@ const OPENS: &[(Step, bool)] = &[
 
 #[test]
 fn only_sources_can_do_something_as_it_opens(rt: HostRuntime) -> Result<(), Fail> {
-    let parts = [Part::Listed(OPENS)];
-    assert_eq!(rt;
-        check(&rt, TWO_THREE, Stop::Never, &parts, &Ending::GoesOn)?,
-        Ok(())
-    );
+    let case = Case {
+        scale: TWO_THREE,
+        stop: None,
+        parts: &[Part::Listed(OPENS)],
+        ending: Ending::GoesOn,
+    };
+    assert_eq!(rt; check(&rt, case)?, Ok(()));
     Ok(())
 }
 
@@ -315,11 +311,13 @@ const READS: &[(Step, Option<StepFault>)] = &[
 
 #[test]
 fn a_subtask_reads_its_own_partitions(rt: HostRuntime) -> Result<(), Fail> {
-    let parts = [Part::Steps(READS)];
-    assert_eq!(rt;
-        check(&rt, TWO_THREE, Stop::Never, &parts, &Ending::GoesOn)?,
-        Ok(())
-    );
+    let case = Case {
+        scale: TWO_THREE,
+        stop: None,
+        parts: &[Part::Steps(READS)],
+        ending: Ending::GoesOn,
+    };
+    assert_eq!(rt; check(&rt, case)?, Ok(()));
     Ok(())
 }
 
@@ -339,11 +337,13 @@ const MOVES: &[(Step, Option<StepFault>)] = &[
 
 #[test]
 fn a_record_is_put_and_taken(rt: HostRuntime) -> Result<(), Fail> {
-    let parts = [Part::Steps(MOVES)];
-    assert_eq!(rt;
-        check(&rt, TWO_THREE, Stop::Never, &parts, &Ending::GoesOn)?,
-        Ok(())
-    );
+    let case = Case {
+        scale: TWO_THREE,
+        stop: None,
+        parts: &[Part::Steps(MOVES)],
+        ending: Ending::GoesOn,
+    };
+    assert_eq!(rt; check(&rt, case)?, Ok(()));
     Ok(())
 }
 
@@ -364,11 +364,13 @@ const FILLS: &[(Step, Option<StepFault>)] = &[
 
 #[test]
 fn a_full_ring_takes_no_more(rt: HostRuntime) -> Result<(), Fail> {
-    let parts = [Part::Steps(FILLS)];
-    assert_eq!(rt;
-        check(&rt, TWO_THREE_SHORT, Stop::Never, &parts, &Ending::GoesOn)?,
-        Ok(())
-    );
+    let case = Case {
+        scale: TWO_THREE_SHORT,
+        stop: None,
+        parts: &[Part::Steps(FILLS)],
+        ending: Ending::GoesOn,
+    };
+    assert_eq!(rt; check(&rt, case)?, Ok(()));
     Ok(())
 }
 
@@ -430,11 +432,13 @@ const ROWS: &[Shown] = &[
 
 #[test]
 fn it_ends_with_all_rows(rt: HostRuntime) -> Result<(), Fail> {
-    let parts = [Part::Steps(TO_THE_CUT), Part::Steps(TO_THE_END)];
-    assert_eq!(rt;
-        check(&rt, ONE_ONE, Stop::Never, &parts, &Ending::Ended(ROWS))?,
-        Ok(())
-    );
+    let case = Case {
+        scale: ONE_ONE,
+        stop: None,
+        parts: &[Part::Steps(TO_THE_CUT), Part::Steps(TO_THE_END)],
+        ending: Ending::Ended(ROWS),
+    };
+    assert_eq!(rt; check(&rt, case)?, Ok(()));
     Ok(())
 }
 
@@ -454,12 +458,13 @@ const FIRST_ROWS: &[Shown] = &[(0, 0, [1, 4]), (0, 1, [1, 5])];
 
 #[test]
 fn it_stops_at_its_cut(rt: HostRuntime) -> Result<(), Fail> {
-    let stop = stop_at(rt.alloc(), &[2, 2])?;
-    let parts = [Part::Steps(TO_THE_CUT), Part::Steps(AT_THE_CUT)];
-    assert_eq!(rt;
-        check(&rt, ONE_ONE, stop, &parts, &Ending::Stopped(FIRST_ROWS))?,
-        Ok(())
-    );
+    let case = Case {
+        scale: ONE_ONE,
+        stop: Some(&[2, 2]),
+        parts: &[Part::Steps(TO_THE_CUT), Part::Steps(AT_THE_CUT)],
+        ending: Ending::Stopped(FIRST_ROWS),
+    };
+    assert_eq!(rt; check(&rt, case)?, Ok(()));
     Ok(())
 }
 
@@ -468,8 +473,13 @@ const OUT_OF_RANGE: &[&[u64]] = &[&[4, 3], &[3, 4], &[3], &[3, 3, 0], &[]];
 #[test]
 fn it_stops_only_at_a_cut_of_the_input(rt: HostRuntime) -> Result<(), Fail> {
     for counts in OUT_OF_RANGE {
-        let stop = stop_at(rt.alloc(), counts)?;
-        let answer = check(&rt, ONE_ONE, stop, &[], &Ending::GoesOn)?;
+        let case = Case {
+            scale: ONE_ONE,
+            stop: Some(counts),
+            parts: &[],
+            ending: Ending::GoesOn,
+        };
+        let answer = check(&rt, case)?;
         assert_eq!(rt; answer, Err(LegFault::StopRange), "{counts:?}");
     }
     Ok(())
@@ -478,8 +488,13 @@ fn it_stops_only_at_a_cut_of_the_input(rt: HostRuntime) -> Result<(), Fail> {
 // Where no allocation is made to fail there is memory.
 #[test]
 fn a_world_that_found_no_memory_has_failed(rt: HostRuntime) -> Result<(), Fail> {
-    let parts = [Part::Failing(TO_THE_CUT, OPENS)];
-    let answer = check(&rt, ONE_ONE, Stop::Never, &parts, &Ending::GoesOn)?;
+    let case = Case {
+        scale: ONE_ONE,
+        stop: None,
+        parts: &[Part::Failing(TO_THE_CUT, OPENS)],
+        ending: Ending::GoesOn,
+    };
+    let answer = check(&rt, case)?;
     assert!(rt; matches!(answer, Ok(()) | Err(LegFault::Memory)));
     Ok(())
 }

@@ -1,5 +1,5 @@
 use Rattle.std.proofs.Common.{◌≡◌}
-use Rattle.leg_tasks.proofs.tests.check_steps.Given as goal
+use Rattle.task_tests.proofs.openings.check_steps.Given as goal
 
 abbrev pub invariant-loop-step : goal.invariant-loop-step
 invariant-loop-step g l = l.task.setup ≡ l.initial.task.setup
