@@ -1,3 +1,2 @@
 mod Orders
 mod Falling
-mod Delivered

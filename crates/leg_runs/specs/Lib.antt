@@ -1,3 +1,2 @@
 pub mod Order
 pub mod Running
-pub mod Ending

@@ -1,6 +1,6 @@
 //! A leg of a job, run in one thread.
 
-ghost use Rattle.std.specs.Prelude.{◌≡◌, IfErr, IfOk, MatchResult, OnOk};
+ghost use Rattle.std.specs.Prelude.{◌≡◌, IfErr, IfOk, MatchResult, OnOk, false};
 ghost use Rattle.plan_model.specs.Rows.{AreRowsOf};
 ghost use Rattle.stream_model.specs.InputData.{BelongsTo};
 ghost use Rattle.stream_model.specs.PlanRows.{plan_rows};
@@ -10,22 +10,48 @@ ghost use Rattle.leg_lists.specs.declared.stop.Stop.TheVariants.{Never};
 ghost use Rattle.redistribute.specs.StartData.{offsets_of};
 ghost use Rattle.redistribute.specs.Begins.{IsStartIn, IsFromNothing};
 ghost use Rattle.redistribute.specs.Stopping.{CanStop, IsRefusal};
-ghost use Rattle.leg_runs.specs.Ending.{IsEndOf, IsWholeRun};
+ghost use Rattle.task_setups.specs.Legs.{IsLayoutOf};
+ghost use Rattle.core_steps.specs.Ending.{IsEndOf, IsWholeRun};
 
-use crate::running::run;
+use crate::running::{follow, run};
 use core_steps::{Finish, Given, World};
-use leg_lists::{LegFault, Stop};
+use leg_lists::{Choice, LegFault, Stop};
 use logical_plan::Plan;
 use plain_data::Items;
-use plan_compiler::{Scale, compile};
+use plan_compiler::{Layout, Scale, compile};
 use plan_model::Row;
 use redistribute::Start;
-use std::alloc::Global;
+use std::alloc::{AllocError, Global};
 use stream_input::Input;
 use window_state::HashKeys;
 
+/// What a world comes to that has just opened: the steps that the choices pick are made, then others until there is none.
+fn finish_by(
+    alloc: Global,
+    mut world: World<'_>,
+    layout: &Layout,
+    choices: &[Choice],
+) -> Result<Finish, AllocError>
+    requires same { layout.now ≡ world.given.layout }
+    requires laid_out { IsLayoutOf world.given.plan layout.now }
+    requires going { world.has_failed ≡ false }
+    ensures ends { let g = world.entry.given in IfOk result (λ finish. IsEndOf g.plan g.input g.start g.stop finish) }
+    ensures whole { let g = world.entry.given in IfOk result (λ finish. IsFromNothing g.input g.start → g.stop ≡ Never → IsWholeRun g.plan g.input finish) }
+{
+    follow(alloc, &mut world, layout, choices)?;
+    run(alloc, &mut world, layout)?;
+    let _failed = world.has_failed();
+    match world.finish(alloc)? {
+        Some(finish) => Ok(finish),
+        None => unreachable!(),
+    }
+}
+
 /// Runs a leg that begins at a start, on the layout of the plan at a scale, to the end of its input or to the cut where it
 /// stops and leaves a savepoint: steps are made until there is none. The panes of the windows are hashed by the keys.
+///
+/// Each choice in turn says which step is made, of all that could be made in the order of tasks, then of `Step`'s kinds, then of
+/// partitions or inputs. Where they are at an end, messages are taken as soon as may be.
 ///
 /// The input and the scale were read by the plan, and the start is one of the input.
 ///
@@ -40,6 +66,7 @@ pub fn run_leg_by(
     start: &Start,
     scale: &Scale,
     stop: Stop,
+    choices: &[Choice],
 ) -> Result<Finish, LegFault>
     requires belongs { BelongsTo plan.now input.now }
     requires scale { IsScale plan.now scale.now }
@@ -59,14 +86,8 @@ pub fn run_leg_by(
     };
     let _columns = plan.columns();
     let _sources = input.sources();
-    let mut world = World::new(alloc, keys, given, stop)?;
-    run(alloc, &mut world, &layout)?;
-    let _failed = world.has_failed();
-    let finished = world.finish(alloc)?;
-    match finished {
-        Some(finish) => Ok(finish),
-        None => unreachable!(),
-    }
+    let world = World::new(alloc, keys, given, stop)?;
+    Ok(finish_by(alloc, world, &layout, choices)?)
 }
 
 /// The rows of a leg that starts from nothing and runs to the end of an input, in the order in which they came: those of a
@@ -89,7 +110,7 @@ pub fn run_leg(
     ensures { MatchResult result (λ rows. AreRowsOf (plan_rows plan.now input.now.sources) rows) (λ cause. cause ≡ fault.Memory) }
 {
     let start = Start::empty(alloc, plan, input)?;
-    match run_leg_by(alloc, keys, plan, input, &start, scale, Stop::Never)? {
+    match run_leg_by(alloc, keys, plan, input, &start, scale, Stop::Never, &[])? {
         Finish::Ended(rows) => Ok(rows),
         Finish::Stopped(..) => unreachable!(),
     }

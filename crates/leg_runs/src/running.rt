@@ -1,6 +1,6 @@
 //! A leg run to its end.
 
-ghost use Rattle.std.specs.Prelude.{◌≡◌, MatchOption, IfOk, false};
+ghost use Rattle.std.specs.Prelude.{◌≡◌, MatchOption, IfOk, OnOk, false};
 ghost use Rattle.dataflow_laws.specs.declared.step.Step.{Step};
 ghost use Rattle.task_setups.specs.Legs.{IsLayoutOf};
 ghost use Rattle.core_steps.specs.Answers.{CanMake};
@@ -8,8 +8,10 @@ ghost use Rattle.leg_runs.specs.Running.{HasRun};
 
 use crate::hints::{hinted, note};
 use crate::order::step_from;
+use crate::schedule::{Schedule, other_end};
 use core_steps::World;
 use dataflow_laws::Step;
+use leg_lists::Choice;
 use plan_compiler::Layout;
 use std::alloc::{AllocError, Global};
 
@@ -29,6 +31,32 @@ fn next_step(world: &World, layout: &Layout, hints: &mut Vec<Step>) -> Option<St
         let _ = hints.pop();
     }
     step_from(world, layout, 0)
+}
+
+/// Makes the step of each choice in turn, as long as there is one.
+pub(crate) fn follow(
+    alloc: Global,
+    world: &mut World,
+    layout: &Layout,
+    choices: &[Choice],
+) -> Result<(), AllocError>
+    requires going { world.old.has_failed ≡ false }
+    ensures given { OnOk result (world.new.given ≡ world.old.given) }
+    ensures going { OnOk result (world.new.has_failed ≡ false) }
+{
+    let mut schedule = Schedule::new(alloc, world, layout)?;
+    for choice in choices {
+        let Some(step) = schedule.chosen(world, layout, *choice) else {
+            break;
+        };
+        let other = other_end(world, layout, step);
+        match world.apply(step) {
+            Ok(()) => {}
+            Err(_) => return Err(AllocError),
+        }
+        schedule.note(world, layout, step.task(), other);
+    }
+    Ok(())
 }
 
 /// Makes steps until all tasks are done.

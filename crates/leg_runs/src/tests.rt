@@ -1,21 +1,25 @@
-ghost use Rattle.std.specs.Prelude.{IfOk};
-ghost use Rattle.layout_rules.specs.Scale.{IsScale};
+//! Tests of the steps that choices make.
+
+ghost use Rattle.std.specs.Prelude.{◌≡◌, ◌<◌, IfOk, false};
+ghost use Rattle.layout_rules.specs.Stages.{task_count};
 ghost use Rattle.redistribute.specs.Begins.{IsStartIn};
 ghost use Rattle.stream_model.specs.InputData.{BelongsTo};
+ghost use Rattle.task_setups.specs.Legs.{IsLayoutOf};
 
-use crate::{Finish, run_leg, run_leg_by};
-use leg_lists::{Cut, LegFault, Stop};
+use crate::schedule::{Schedule, other_end};
+use core_steps::{Given, World};
+use dataflow_laws::Step;
+use leg_lists::{Choice, Cut, Stop};
 use logical_plan::Plan;
 use plain_data::Items;
-use plan_compiler::Scale;
-use plan_model::Row;
+use plan_compiler::{Layout, Scale, compile};
 use redistribute::Start;
-use savepoint_codec::encode;
 use std::alloc::{AllocError, Global};
 use std::process::Abort;
 use std::random::RandomSource;
 use std::test::Fail;
 use stream_input::Input;
+use task_steps::StepFault;
 use window_state::HashKeys;
 
 const USAGE: &str =
@@ -41,219 +45,221 @@ const FILTERED_SCALES: &[&str] = &[
 const THREE_AND_THREE: &str =
     r#"{"s":[[{"rows":[[1,1,5],[12,1,7]]},{"watermark":9},{"rows":[[15,0,-3]]}],[{"rows":[[3,0,4]]},{"watermark":11},{"rows":[[13,1,2]]}]]}"#;
 
-const NOTHING: &str = r#"{"s":[[],[]]}"#;
-
-/// The start, the end, the key and the numbers of a row.
-type Want = (i64, i64, i64, [i128; 4]);
-
-const ROWS: &[Want] = &[
-    (0, 10, 0, [1, 4, 4, 4]),
-    (0, 10, 1, [1, 5, 5, 5]),
-    (10, 20, 0, [1, -3, -3, -3]),
-    (10, 20, 1, [2, 9, 2, 7]),
-];
-
-const FILTERED_ROWS: &[Want] = &[
-    (0, 10, 0, [1, 4, 4, 4]),
-    (0, 10, 1, [1, 5, 5, 5]),
-    (10, 20, 1, [2, 9, 2, 7]),
-];
-
-/// A plan, a scale, its input, and the start from nothing.
-#[derive(Drop)]
-struct Job {
-    plan: Plan,
-    scale: Scale,
-    input: Input,
-    start: Start,
+/// Adds a step, if it could be made.
+fn add(steps: &mut Vec<Step>, world: &World, step: Step) -> Result<(), AllocError> {
+    if world.enabled(step) {
+        steps.push(step)?;
+    }
+    Ok(())
 }
 
-/// The job of a plan, a scale and an input.
-fn job_of(alloc: Global, plan: &str, scale: &str, input: &str) -> Result<Job, Fail>
-    ensures belongs { IfOk result (λ job. BelongsTo job.plan job.input) }
-    ensures scale { IfOk result (λ job. IsScale job.plan job.scale) }
-    ensures starts { IfOk result (λ job. IsStartIn job.plan job.input job.start) }
+fn add_reads(
+    steps: &mut Vec<Step>,
+    world: &World,
+    layout: &Layout,
+    task: u32,
+) -> Result<(), AllocError>
+    requires { task < task_count layout.now.stages }
 {
-    let plan = Plan::read(alloc, plan.as_bytes())?;
-    let scale = Scale::read(alloc, &plan, scale.as_bytes())?;
-    let input = Input::read(alloc, &plan, input.as_bytes())?;
-    let start = Start::empty(alloc, &plan, &input)?;
-    Ok(Job {
-        plan,
-        scale,
-        input,
-        start,
-    })
+    for partition in layout.partitions_of(task) {
+        add(steps, world, Step::Read(task, *partition))?;
+    }
+    Ok(())
 }
 
-fn rows_in(alloc: Global, keys: HashKeys, job: &Job) -> Result<Items<Row>, LegFault>
-    requires belongs { BelongsTo job.now.plan job.now.input }
-    requires scale { IsScale job.now.plan job.now.scale }
+fn add_takes(
+    steps: &mut Vec<Step>,
+    world: &World,
+    layout: &Layout,
+    task: u32,
+) -> Result<(), AllocError>
+    requires { task < task_count layout.now.stages }
 {
-    let Job {
-        plan,
-        scale,
-        input,
-        ..
-    } = job;
-    run_leg(alloc, keys, plan, input, scale)
+    let mut input = 0u32;
+    for _ in layout.inputs_of(task) {
+        add(steps, world, Step::Take(task, input))?;
+        input = input.saturating_add(1);
+    }
+    Ok(())
 }
 
-/// The rows of a leg of a plan over an input at a scale, in the order in which they came.
-fn rows_of<R: AllocGlobal + Abort + RandomSource>(
-    rt: &R,
-    plan: &str,
-    scale: &str,
-    input: &str,
-) -> Result<Items<Row>, Fail> {
-    let job = job_of(rt.alloc(), plan, scale, input)?;
-    let keys = HashKeys::random(rt)?;
-    Ok(rows_in(rt.alloc(), keys, &job)?)
+/// All steps that could be made: by task, then as `Step` lists them, then by partition or input.
+fn all_steps(alloc: Global, world: &World, layout: &Layout) -> Result<Vec<Step>, AllocError> {
+    let mut steps = Vec::new(alloc);
+    for task in 0..layout.task_count() {
+        add(&mut steps, world, Step::Open(task))?;
+        add_reads(&mut steps, world, layout, task)?;
+        add(&mut steps, world, Step::Stop(task))?;
+        add(&mut steps, world, Step::Close(task))?;
+        add_takes(&mut steps, world, layout, task)?;
+        add(&mut steps, world, Step::Put(task))?;
+    }
+    Ok(steps)
 }
 
-/// A stop where so many entries of each partition were read.
-fn stop_at(alloc: Global, counts: &[u64]) -> Result<Stop, AllocError> {
+/// Makes the step of a choice, which is just the one that stands at its place among all: whether there was one.
+fn follow_one(
+    rt: &(impl AllocGlobal + Abort),
+    world: &mut World,
+    layout: &Layout,
+    schedule: &mut Schedule,
+    number: u32,
+) -> Result<bool, Fail>
+    requires { world.old.has_failed ≡ false }
+{
+    let steps = all_steps(rt.alloc(), world, layout)?;
+    let chosen = schedule.chosen(world, layout, Choice { number });
+    let Some(step) = chosen else {
+        assert!(rt; steps.is_empty());
+        return Ok(false);
+    };
+    let place = number as usize % steps.len().max(1);
+    assert_eq!(rt; steps.get(place).copied(), chosen, "at {number}");
+    let other = other_end(world, layout, step);
+    let answer = world.apply(step);
+    assert!(rt; !matches!(answer, Err(StepFault::NotEnabled)));
+    schedule.note(world, layout, step.task(), other);
+    Ok(true)
+}
+
+/// Follows choices to the end of a leg.
+fn follow_all(
+    rt: &(impl AllocGlobal + Abort),
+    world: &mut World,
+    layout: &Layout,
+    seed: u32,
+) -> Result<(), Fail> {
+    let mut schedule = Schedule::new(rt.alloc(), world, layout)?;
+    let mut number = seed;
+    for _ in 0..100000 {
+        if world.has_failed() {
+            return Err(AllocError.into());
+        }
+        if !follow_one(rt, world, layout, &mut schedule, number)? {
+            return Ok(());
+        }
+        number = number.wrapping_mul(1664525).wrapping_add(1013904223);
+    }
+    assert!(rt; false, "the leg does not end");
+    Ok(())
+}
+
+/// A leg from nothing whose steps are chosen: of a plan at a scale, to where so many entries of each partition were read or to
+/// its end, by choices from a seed.
+#[derive(Clone, Copy)]
+struct Case<'a> {
+    plan: &'a str,
+    scale: &'a str,
+    stop: Option<&'a [u64]>,
+    seed: u32,
+}
+
+fn stop_at(alloc: Global, counts: Option<&[u64]>) -> Result<Stop, AllocError> {
+    let Some(counts) = counts else {
+        return Ok(Stop::Never);
+    };
     let source = Items::from_vec(Vec::from_slice(alloc, counts)?);
     let counts = Items::from_vec(vec![in alloc; source]?);
     Ok(Stop::At(Cut { counts }))
 }
 
-fn end_in(alloc: Global, keys: HashKeys, job: &Job, stop: Stop) -> Result<Finish, LegFault>
-    requires belongs { BelongsTo job.now.plan job.now.input }
-    requires scale { IsScale job.now.plan job.now.scale }
-    requires starts { IsStartIn job.now.plan job.now.input job.now.start }
+fn layout_at(alloc: Global, plan: &Plan, scale: &str) -> Result<Layout, Fail>
+    ensures { IfOk result (λ layout. IsLayoutOf plan.now layout) }
 {
-    let Job {
-        plan,
-        scale,
-        input,
-        start,
-    } = job;
-    run_leg_by(alloc, keys, plan, input, start, scale, stop)
+    let scale = Scale::read(alloc, plan, scale.as_bytes())?;
+    Ok(compile(alloc, plan, &scale)?)
 }
 
-/// How a leg from nothing ends.
-fn end_of<R: AllocGlobal + Abort + RandomSource>(
+fn follow_given<R: AllocGlobal + Abort + RandomSource>(
     rt: &R,
-    scale: &str,
-    stop: Stop,
-) -> Result<Result<Finish, LegFault>, Fail> {
-    let job = job_of(rt.alloc(), USAGE, scale, THREE_AND_THREE)?;
+    given: Given<'_>,
+    case: &Case<'_>,
+) -> Result<(), Fail>
+    requires belongs { BelongsTo given.plan.now given.input.now }
+    requires starts { IsStartIn given.plan.now given.input.now given.start.now }
+    requires laid_out { IsLayoutOf given.plan.now given.layout.now }
+{
     let keys = HashKeys::random(rt)?;
-    Ok(end_in(rt.alloc(), keys, &job, stop))
+    let stop = stop_at(rt.alloc(), case.stop)?;
+    let layout = given.layout;
+    let mut world = World::new(rt.alloc(), keys, given, stop)?;
+    follow_all(rt, &mut world, layout, case.seed)
 }
 
-fn has_row(rows: &[Row], want: &Want) -> bool {
-    rows.iter().any(|row| {
-        (row.start, row.end, row.key) == (want.0, want.1, want.2)
-            && row.values.as_slice() == want.3.as_slice()
-    })
-}
-
-fn are_rows(rows: &[Row], want: &[Want]) -> bool {
-    rows.len() == want.len() && want.iter().all(|row| has_row(rows, row))
-}
-
-/// The rows are these, in any order.
-fn check<R: AllocGlobal + Abort + RandomSource>(
+fn follow_input<R: AllocGlobal + Abort + RandomSource>(
     rt: &R,
-    plan: &str,
-    scale: &str,
-    input: &str,
-    want: &[Want],
+    plan: &Plan,
+    layout: &Layout,
+    input: &Input,
+    case: &Case<'_>,
+) -> Result<(), Fail>
+    requires belongs { BelongsTo plan.now input.now }
+    requires laid_out { IsLayoutOf plan.now layout.now }
+{
+    let start = Start::empty(rt.alloc(), plan, input)?;
+    let given = Given {
+        plan,
+        input,
+        start: &start,
+        layout,
+    };
+    follow_given(rt, given, case)
+}
+
+fn follow_layout<R: AllocGlobal + Abort + RandomSource>(
+    rt: &R,
+    plan: &Plan,
+    layout: &Layout,
+    case: &Case<'_>,
+) -> Result<(), Fail>
+    requires { IsLayoutOf plan.now layout.now }
+{
+    let input = Input::read(rt.alloc(), plan, THREE_AND_THREE.as_bytes())?;
+    follow_input(rt, plan, layout, &input, case)
+}
+
+fn follow_plan<R: AllocGlobal + Abort + RandomSource>(
+    rt: &R,
+    plan: &Plan,
+    case: &Case<'_>,
 ) -> Result<(), Fail> {
-    let rows = rows_of(rt, plan, scale, input)?;
-    assert!(rt; are_rows(rows.as_slice(), want));
-    Ok(())
+    let layout = layout_at(rt.alloc(), plan, case.scale)?;
+    follow_layout(rt, plan, &layout, case)
+}
+
+fn follow_case<R: AllocGlobal + Abort + RandomSource>(rt: &R, case: Case<'_>) -> Result<(), Fail> {
+    let plan = Plan::read(rt.alloc(), case.plan.as_bytes())?;
+    follow_plan(rt, &plan, &case)
 }
 
 #[test]
-fn the_same_rows_at_every_scale(rt: HostRuntime) -> Result<(), Fail> {
+fn a_choice_makes_the_step_at_its_place(rt: HostRuntime) -> Result<(), Fail> {
     for scale in SCALES {
-        check(&rt, USAGE, scale, THREE_AND_THREE, ROWS)?;
+        for seed in [0, 1, 4294967295] {
+            for stop in [None, Some([2, 2].as_slice())] {
+                let case = Case {
+                    plan: USAGE,
+                    scale,
+                    stop,
+                    seed,
+                };
+                follow_case(&rt, case)?;
+            }
+        }
     }
     Ok(())
 }
 
 #[test]
-fn filters_in_stages_of_their_own(rt: HostRuntime) -> Result<(), Fail> {
+fn so_it_does_behind_filters(rt: HostRuntime) -> Result<(), Fail> {
     for scale in FILTERED_SCALES {
-        check(&rt, FILTERED, scale, THREE_AND_THREE, FILTERED_ROWS)?;
-    }
-    Ok(())
-}
-
-#[test]
-fn an_empty_input_gives_no_rows(rt: HostRuntime) -> Result<(), Fail> {
-    for scale in SCALES {
-        check(&rt, USAGE, scale, NOTHING, &[])?;
-    }
-    Ok(())
-}
-
-fn has_stopped_with(end: &Result<Finish, LegFault>, want: &[Want]) -> bool {
-    match end {
-        Ok(Finish::Stopped(rows, _)) => are_rows(rows.as_slice(), want),
-        _ => false,
-    }
-}
-
-const CUTS: &[([u64; 2], &[Want])] = &[
-    ([0, 0], &[]),
-    ([2, 1], &[]),
-    ([2, 2], FIRST_ROWS),
-    ([3, 2], FIRST_ROWS),
-    ([3, 3], ROWS),
-];
-
-const FIRST_ROWS: &[Want] = &[(0, 10, 0, [1, 4, 4, 4]), (0, 10, 1, [1, 5, 5, 5])];
-
-#[test]
-fn it_stops_with_the_rows_up_to_a_cut(rt: HostRuntime) -> Result<(), Fail> {
-    for scale in SCALES {
-        for (counts, want) in CUTS {
-            let stop = stop_at(rt.alloc(), counts)?;
-            let end = end_of(&rt, scale, stop)?;
-            assert!(rt; has_stopped_with(&end, want), "{counts:?}");
-        }
-    }
-    Ok(())
-}
-
-/// The bytes of the savepoint that the leg leaves at a cut; none where it leaves none.
-fn saved_at<R: AllocGlobal + Abort + RandomSource>(
-    rt: &R,
-    scale: &str,
-    counts: &[u64],
-) -> Result<Vec<u8>, Fail> {
-    let stop = stop_at(rt.alloc(), counts)?;
-    match end_of(rt, scale, stop)? {
-        Ok(Finish::Stopped(_, savepoint)) => Ok(encode(rt.alloc(), &savepoint)?),
-        _ => Ok(Vec::new(rt.alloc())),
-    }
-}
-
-#[test]
-fn it_leaves_the_same_savepoint_at_every_scale(rt: HostRuntime) -> Result<(), Fail> {
-    for (counts, _) in CUTS {
-        let first = saved_at(&rt, SCALES[0], counts)?;
-        assert!(rt; !first.is_empty(), "{counts:?}");
-        for scale in SCALES {
-            let other = saved_at(&rt, scale, counts)?;
-            assert_eq!(rt; other.as_slice(), first.as_slice(), "{scale}");
-        }
-    }
-    Ok(())
-}
-
-const OUT_OF_RANGE: &[&[u64]] = &[&[4, 3], &[3, 4], &[3], &[3, 3, 0]];
-
-#[test]
-fn it_stops_only_at_a_cut_of_the_input(rt: HostRuntime) -> Result<(), Fail> {
-    for counts in OUT_OF_RANGE {
-        let stop = stop_at(rt.alloc(), counts)?;
-        let end = end_of(&rt, SCALES[0], stop)?;
-        assert!(rt; matches!(end, Err(LegFault::StopRange)), "{counts:?}");
+        let case = Case {
+            plan: FILTERED,
+            scale,
+            stop: None,
+            seed: 7,
+        };
+        follow_case(&rt, case)?;
     }
     Ok(())
 }
