@@ -84,6 +84,7 @@ leg_text leg.StopRange = codes "L1 StopRange"
 leg_text leg.Legs = codes "L3 Legs"
 leg_text leg.NotJson = codes "L4 NotJson"
 leg_text leg.Member = codes "L5 Member"
+leg_text leg.Choices = codes "L6 Choices"
 leg_text (leg.Scale place fault) = scale_text fault
 leg_text leg.Memory = codes "memory"
 

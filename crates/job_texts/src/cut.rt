@@ -72,6 +72,3 @@ pub fn read_cut(alloc: Global, word: &str) -> Result<Cut, JobFault>
     let counts = Items::from_vec(sources_in(alloc, words.as_slice())?);
     Ok(Cut { counts })
 }
-
-#[cfg(test)]
-mod tests;

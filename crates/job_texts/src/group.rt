@@ -93,6 +93,3 @@ pub fn job_group<W: Write>(
     let line = line_of(alloc, group, owner_of(max, par, group))?;
     write_text(out, line.as_str())
 }
-
-#[cfg(test)]
-mod tests;

@@ -1,4 +1,4 @@
-//! The texts of a job: of its rows, its layout, a savepoint and a key's group, its faults, and the words of the command line.
+//! The texts of a job: of its rows, its layout, a savepoint and a key's group, its faults, and what the words of a cut and of `group` spell.
 #![tactic(auto)]
 
 mod cut;

@@ -164,6 +164,7 @@ fn leg_name(fault: &LegFault) -> &'static str
         LegFault::Legs => "L3 Legs",
         LegFault::NotJson => "L4 NotJson",
         LegFault::Member => "L5 Member",
+        LegFault::Choices => "L6 Choices",
         LegFault::Scale(_, scale) => scale_name(scale),
         LegFault::Memory => "memory",
     }

@@ -3,8 +3,6 @@
 
 mod other_pages;
 mod page;
-#[cfg(test)]
-mod tests;
 mod text_pages;
 mod version;
 mod writing;

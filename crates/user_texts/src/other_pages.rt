@@ -3,7 +3,7 @@
 use crate::page::FaultPage;
 
 /// The pages of all faults but those of a plan and of an input, in the order of docs/FAULTS.md.
-pub const OTHER_PAGES: [FaultPage<'static>; 32] = [
+pub const OTHER_PAGES: [FaultPage<'static>; 33] = [
     (
         "C1",
         r#"C1 Cut (status 2)
@@ -39,7 +39,7 @@ Take a number in the range.
         r#"F1 Read (status 3)
 
 A file is missing, is a folder, or may not be read; `-` is a file of that name and not standard input. All files are read first, so this
-comes before any fault of a plan. `run` and `leg` also say it where the system gives no random bytes.
+comes before any fault of a plan. `run`, `leg` and `simulate` also say it where the system gives no random bytes.
 
 ```console
 $ streamjob run plan.json no-such-file.json
@@ -482,6 +482,29 @@ from 0 to 2^64 - 1.
 
 A cut has another form here than on the command line: `[[2, 2]]` is `2,2`. docs/FORMATS.md has the form under List of legs. A scale of a leg that
 is refused has its own code, `S2` to `S7`.
+"#,
+    ),
+    (
+        "L6",
+        r#"L6 Choices (status 3)
+
+The file of choices is no JSON text, or no list that has a list for each leg, or a choice is no whole number from 0 to 2^32 - 1.
+
+```json legs.json
+[{"scale": {"ring": 16, "operators": {"calls": {"parallelism": 1}, "usage": {"parallelism": 2}}}, "stop": [[1]]},
+ {"scale": {"ring": 16, "operators": {"calls": {"parallelism": 1}, "usage": {"parallelism": 1}}}}]
+```
+
+```json choices.json
+[[1]]
+```
+
+```console
+$ streamjob simulate plan.json input.json legs.json choices.json
+L6 Choices
+```
+
+Here are two legs, so two lists: `[[1], []]`. A leg without choices has an empty one. docs/FORMATS.md has the form under Choices.
 "#,
     ),
     (

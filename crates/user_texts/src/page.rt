@@ -2,6 +2,8 @@
 
 ghost use Rattle.std.specs.Prelude.{◌≡◌, option_copied, option_map, map};
 ghost use Rattle.std.specs.List.{find};
+ghost use Rattle.user_texts.specs.declared.text_pages.TheConstants.{TEXT_PAGES};
+ghost use Rattle.user_texts.specs.declared.other_pages.TheConstants.{OTHER_PAGES};
 ghost use Rattle.user_texts.specs.Pages.{explained, same_code, page_said, TellsPage};
 
 use crate::other_pages::OTHER_PAGES;
@@ -36,14 +38,27 @@ fn text_with<'a>(pages: &'a [FaultPage<'a>], code: &str) -> Option<&'a str>
     }
 }
 
+/// The text of the page of a plan's or an input's fault.
+fn text_page_of(code: &str) -> Option<&'static str>
+    ensures { option_map (λ text. text.now) result ≡ page_said (map (λ page. (page.0.now, page.1.now)) TEXT_PAGES) code.now }
+{
+    text_with(&TEXT_PAGES, code)
+}
+
+/// The text of the page of another fault.
+fn other_page_of(code: &str) -> Option<&'static str>
+    ensures { option_map (λ text. text.now) result ≡ page_said (map (λ page. (page.0.now, page.1.now)) OTHER_PAGES) code.now }
+{
+    text_with(&OTHER_PAGES, code)
+}
+
 /// The text of the page with a code: that of a plan's or an input's fault, or another.
-#[tactic(auto, unfolding(crate::specs::Pages::explained))]
 fn page_of(code: &str) -> Option<&'static str>
     ensures { option_map (λ text. text.now) result ≡ explained code.now }
 {
-    match text_with(&TEXT_PAGES, code) {
+    match text_page_of(code) {
         Some(text) => Some(text),
-        None => text_with(&OTHER_PAGES, code),
+        None => other_page_of(code),
     }
 }
 

@@ -1,5 +1,5 @@
-use crate::{TextFault, explain, write_version};
 use std::test::Fail;
+use user_texts::{TextFault, explain, write_version};
 
 #[test]
 fn the_version(rt: HostRuntime) -> Result<(), Fail> {
@@ -50,7 +50,7 @@ fn codes_without_a_page(rt: HostRuntime) {
         "P3 Columns",
         "Q10",
         "L2",
-        "L6",
+        "L7",
         "mem",
     ] {
         assert_eq!(rt; explain(code, &mut out), Err(TextFault::NoPage), "{code}");

@@ -1,4 +1,4 @@
-use super::*;
+use job_texts::{JobFault, read_cut};
 use std::test::Fail;
 
 const SPELLED: [(&str, usize, u64); 6] = [

@@ -1,4 +1,5 @@
-use super::*;
+use job_texts::{JobFault, job_group};
+use std::alloc::Global;
 use std::test::Fail;
 
 fn line(alloc: Global, key: &str, max: &str, par: &str) -> Result<Vec<u8>, JobFault> {
