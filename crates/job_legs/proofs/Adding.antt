@@ -1,15 +1,15 @@
 -- The rows of legs add up.
-use Rattle.std.proofs.Common.{◌≡◌, ◌∙◌, ℕ, Bool, true, false, List, [], ◌∷◌, ◌++◌, map, Option, Some, None, if◌then◌else◌, refl, sym, ap}
+use Rattle.std.proofs.Common.{◌≡◌, ◌∙◌, Bool, true, false, List, [], ◌∷◌, ◌++◌, map, Option, Some, None, if◌then◌else◌, refl, sym, ap}
 use Rattle.std.specs.Option.{option_and_then, option_to_list}
 use Rattle.std.proofs.lemmas.List.Elements.{filter-append}
 use Rattle.plan_model.specs.Rows.{is_due, kept_row, row_is_at}
 use Rattle.plan_model.specs.declared.spec.Row.{Row}
 use Rattle.stream_model.specs.declared.entry.Entry.{Entry}
-use Rattle.stream_model.specs.Watermarks.{empty_cut, full_cut, merged_watermark, records_before, records_before_in}
+use Rattle.stream_model.specs.Watermarks.{empty_cut, merged_watermark, records_before, records_before_in}
 use Rattle.stream_model.specs.PlanRows.{plan_aggregate, plan_rows, due_rows}
 use Rattle.stream_model.specs.Laws.{DueIsSettled, DueRowsStay}
 use Rattle.input_flow.proofs.Facts.{empty_is_cut}
-use Rattle.job_legs.specs.Laws.{NothingDueAtFirst, RowsAddUp}
+use Rattle.job_legs.specs.Laws.{EachRowAddsUp, NothingDueAtFirst, RowsAddUp}
 
 joined : (due : Bool) (row later : Option Row) → (due ≡ true → (r : Row) → row ≡ Some r → later ≡ Some r) → (row ≡ None → later ≡ None)
     → option_to_list (if due then row else None) ++ option_to_list (if due then None else later) ≡ option_to_list later
@@ -21,13 +21,14 @@ none_of : {X : Type 0} (b : Bool) (x : Option X) → x ≡ None → (let none : 
 none_of true x e = e
 none_of false x e = refl
 
-pub rows_add_up : DueRowsStay → RowsAddUp
-rows_add_up stay p i b c before between input earlier cut due later q =
-    filter-append (row_is_at q) before between
-    ∙ (λ k. due q k ++ later q k)
-    ∙ joined (is_due p.window (merged_watermark i.sources b) q.start) (plan_rows p i.sources q) (due_rows p i.sources c q)
+pub each_row_adds_up : DueRowsStay → EachRowAddsUp
+each_row_adds_up stay p i b c q input earlier cut =
+    joined (is_due p.window (merged_watermark i.sources b) q.start) (plan_rows p i.sources q) (due_rows p i.sources c q)
     (λ d r e. stay p i b c q r input earlier cut (rw d e))
     (none_of (is_due p.window (merged_watermark i.sources c) q.start) (plan_rows p i.sources q))
+
+pub rows_add_up : EachRowAddsUp → RowsAddUp
+rows_add_up add p i b c before between input earlier cut due later q = filter-append (row_is_at q) before between ∙ (λ k. due q k ++ later q k) ∙ add p i b c q input earlier cut
 
 empty_source : (ps : List (List Entry)) → records_before_in ps (map (λ p. 0) ps) ≡ []
 empty_source [] = refl

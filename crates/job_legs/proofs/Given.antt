@@ -1,5 +1,5 @@
 -- What a leg gives that goes from a cut.
-use Rattle.std.proofs.Common.{◌≡◌, ◌∙◌, ℕ, ◌+◌, ◌<◌, ◌≤◌, ◌^◌, List, Result, Ok, Err, OnOk, IfOk, IfErr, MatchResult, refl, sym, ap, subst, inl, inr, arith}
+use Rattle.std.proofs.Common.{◌≡◌, ◌∙◌, ℕ, ◌+◌, ◌<◌, ◌≤◌, ◌^◌, List, Result, Ok, Err, OnOk, IfOk, IfErr, MatchResult, sym, ap, subst, inl, inr, arith}
 use Rattle.plan_model.specs.PlanData.{PlanData, IsPlan}
 use Rattle.plan_model.specs.Rows.{AreRowsOf}
 use Rattle.stream_model.specs.InputData.{InputData, IsInput, BelongsTo}
@@ -18,10 +18,10 @@ use Rattle.gather.specs.Saved.{savepoint_of}
 use Rattle.savepoint_codec.specs.declared.savepoint.Contents.{Contents}
 use Rattle.leg_tasks.specs.Saved as left
 use Rattle.core_steps.specs.declared.finish.Finish.{Finish}
-use Rattle.leg_runs.specs.Ending.{IsEndOf}
+use Rattle.core_steps.specs.Ending.{IsEndOf}
 use Rattle.restarts.specs.Laws.{IsStartAt}
 use Rattle.restarts.specs.Restart.{CanRestart}
-use Rattle.job_legs.specs.Reached.{IsGiven, IsStepRefusal}
+use Rattle.job_legs.specs.Reached.{IsLegGiven, IsStepRefusal}
 
 module _ (p : PlanData) (i : InputData) (plan : IsPlan p) (input : IsInput i) (belongs : BelongsTo p i) (cut : List (List ℕ)) (number : ℕ) (s : StartData) (at : IsStartAt p i cut number s) (few : number < 2 ^ 63) (stop : Stop) where
   next_few : (n : ℕ) → n < 2 ^ 63 → n + 1 ≤ 2 ^ 63
@@ -42,7 +42,7 @@ module _ (p : PlanData) (i : InputData) (plan : IsPlan p) (input : IsInput i) (b
   can_from can = subst (λ b. CanStop i.sources b stop) at.offsets can
 
   pub given : (result : Result Finish LegFault) → OnOk result (CanStop i.sources (offsets_of s) stop) → IfOk result (λ finish. IsEndOf p i s stop finish) → IfErr result (λ fault. IsRefusal i.sources (offsets_of s) stop fault)
-      → MatchResult result (IsGiven p i cut number stop) (IsStepRefusal i cut stop)
+      → MatchResult result (IsLegGiven p i cut number stop) (IsStepRefusal i cut stop)
   given (Ok finish) can e refused = record {
     rows = e.rows;
     savepoint = e.savepoint;

@@ -3,3 +3,4 @@ mod Ended
 mod Given
 mod Taken
 mod Ways
+pub mod Facts

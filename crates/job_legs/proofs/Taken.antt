@@ -19,7 +19,7 @@ use Rattle.core_steps.specs.declared.finish.Finish.{Finish}
 use Rattle.core_steps.specs.Finishing.{finish_with}
 use Rattle.core_steps.proofs.Ending.{end_is_cut}
 use Rattle.job_legs.specs.Laws.{RowsAddUp}
-use Rattle.job_legs.specs.Reached.{IsAt, IsAfter, IsGiven, IsLeft, rows_of, saved_of}
+use Rattle.job_legs.specs.Reached.{IsAt, IsAfter, IsLegGiven, IsLeftBy, rows_of, saved_of}
 use Rattle.job_legs.specs.declared.running.Reached.{Reached}
 
 -- what holds of pairs of two lists, told of the second and an image of the first
@@ -32,7 +32,7 @@ turned P Q f each (x ∷ xs) (y ∷ ys) all = (each x y all.0, turned P Q f each
 before_full : (ss : List (List (List Entry))) (cut : List (List ℕ)) → IsCut ss cut → IsBefore cut (full_cut ss)
 before_full ss cut is = turned (AllZip (λ p n. n ≤ length p)) (AllZip (λ m n. m ≤ n)) (map (λ p. length p)) (λ ps ns. turned (λ p n. n ≤ length p) (λ m n. m ≤ n) (λ p. length p) (λ p n h. h) ps ns) ss cut is
 
-before_end : (i : InputData) (cut : List (List ℕ)) (stop : Stop) → IsCut i.sources cut → CanStop i.sources cut stop → IsBefore cut (cut_to i (until_of stop))
+pub before_end : (i : InputData) (cut : List (List ℕ)) (stop : Stop) → IsCut i.sources cut → CanStop i.sources cut stop → IsBefore cut (cut_to i (until_of stop))
 before_end i cut Never is can = before_full i.sources cut is
 before_end i cut (At end) is can = can.1
 
@@ -50,11 +50,11 @@ rows_with Never rows s = refl
 rows_with (At cut) rows s = refl
 
 module _ (p : PlanData) (i : InputData) (input : IsInput i) (add : RowsAddUp) (cut : List (List ℕ)) (number : ℕ) where
-  left : (stop : Stop) (finish : Finish) (g : IsGiven p i cut number stop finish) (at : Stop) → stop ≡ at → IsLeft p i (number + 1) at (saved_of (finish_with at g.rows g.savepoint))
+  left : (stop : Stop) (finish : Finish) (g : IsLegGiven p i cut number stop finish) (at : Stop) → stop ≡ at → IsLeftBy p i (number + 1) at (saved_of (finish_with at g.rows g.savepoint))
   left stop finish g Never same = refl
   left stop finish g (At end) same = g.saved end same
 
-  pub after : (old new : Reached) (stop : Stop) (finish : Finish) → IsAt p i cut number old → IsGiven p i cut number stop finish
+  pub after : (old new : Reached) (stop : Stop) (finish : Finish) → IsAt p i cut number old → IsLegGiven p i cut number stop finish
       → new.rows.items ≡ old.rows.items ++ rows_of finish → new.savepoint ≡ saved_of finish → IsAfter p i stop (number + 1) new
   after old new stop finish at g rows saved =
       let is = end_is_cut i cut stop g.can in
@@ -62,5 +62,5 @@ module _ (p : PlanData) (i : InputData) (input : IsInput i) (add : RowsAddUp) (c
       record {
         is_cut = is;
         rows = subst (AreRowsOf (due_rows p i.sources (cut_to i (until_of stop)))) (sym taken) (add p i cut (cut_to i (until_of stop)) old.rows.items g.rows input (before_end i cut stop at.is_cut g.can) is at.rows g.delivered);
-        saved = subst (IsLeft p i (number + 1) stop) (sym (saved ∙ ap saved_of g.is)) (left stop finish g stop refl);
+        saved = subst (IsLeftBy p i (number + 1) stop) (sym (saved ∙ ap saved_of g.is)) (left stop finish g stop refl);
       }

@@ -1,6 +1,5 @@
 -- Legs that are on their way.
 use Rattle.std.proofs.Common.{◌≡◌, ◌∙◌, ℕ, ◌+◌, ◌-◌, ◌<◌, ◌≤◌, ◌^◌, nat_le, Bool, true, false, ◌&&◌, List, [], ◌∷◌, length, take, filter, Option, Some, None, refl, sym, ap, subst, inl, inr, arith}
-use Rattle.std.specs.Prelude.{◌⊎◌}
 use Rattle.std.proofs.lemmas.Bool.{leb-true}
 use Rattle.std.specs.List.{list_all}
 use Rattle.std.specs.Option.{option_to_list}
@@ -14,7 +13,6 @@ use Rattle.input_flow.proofs.Facts.{empty_is_cut}
 use Rattle.dataflow_laws.specs.Compiled.{cut_to}
 use Rattle.leg_lists.specs.declared.limits.TheConstants.{MOST_LEGS}
 use Rattle.leg_lists.specs.declared.fault.LegFault.{LegFault}
-use Rattle.leg_lists.specs.declared.fault.LegFault.TheVariants.{StopRange, Memory}
 use Rattle.leg_lists.specs.declared.leg.LegSpec.{LegSpec}
 use Rattle.leg_lists.specs.declared.cut.Cut.{Cut}
 use Rattle.leg_lists.specs.declared.stop.Stop.{Stop}
@@ -23,8 +21,8 @@ use Rattle.leg_lists.specs.Requirements.{are_legs, is_stop, stops}
 use Rattle.leg_lists.specs.Stops.{until_of}
 use Rattle.redistribute.specs.Stopping.{CanStop}
 use Rattle.savepoint_codec.specs.declared.savepoint.Contents.{Contents}
-use Rattle.job_legs.specs.Reached.{HasSaved, IsAfter, IsAt, IsLeft, IsStepRefusal}
-use Rattle.job_legs.specs.Running.{CanRun, HaveRun, IsRunRefusal, last_stop}
+use Rattle.job_legs.specs.Reached.{HasSaved, IsAfter, IsAt, IsLeftBy, IsStepRefusal}
+use Rattle.job_legs.specs.Running.{CanRunLegs, HaveRun, IsRunRefusal, last_stop}
 use Rattle.job_legs.specs.declared.running.Reached.{Reached}
 
 -- each leg that has one after it stops
@@ -41,8 +39,8 @@ pub record IsBefore (p : PlanData) (i : InputData) (all legs : List LegSpec) (r 
   pub last : last_stop legs ≡ last_stop all
   pub count : number + length legs ≡ length all
   pub few : length all ≤ 1024
-  pub can : CanRun i cut legs → CanRun i (empty_cut i.sources) all
-  pub must : CanRun i (empty_cut i.sources) all → CanRun i cut legs
+  pub can : CanRunLegs i cut legs → CanRunLegs i (empty_cut i.sources) all
+  pub must : CanRunLegs i (empty_cut i.sources) all → CanRunLegs i cut legs
   pub goes : GoOn legs
 
 -- it has come to where they begin, or to the end of the list
@@ -93,7 +91,7 @@ cut_in : (stop : Stop) → stops stop ≡ true → (end : Cut) × (stop ≡ At e
 cut_in Never h = absurd cc
 cut_in (At end) h = (end, refl)
 
-saved_at : (p : PlanData) (i : InputData) (end : Cut) (number : ℕ) (saved : Option Contents) → IsLeft p i number (At end) saved → HasSaved p i end.counts number saved
+saved_at : (p : PlanData) (i : InputData) (end : Cut) (number : ℕ) (saved : Option Contents) → IsLeftBy p i number (At end) saved → HasSaved p i end.counts number saved
 saved_at p i end number None h = absurd h
 saved_at p i end number (Some s) h = h
 
@@ -124,8 +122,8 @@ module _ (p : PlanData) (i : InputData) (all : List LegSpec) (leg : LegSpec) whe
         last = w.last;
         count = omega (arith);
         few = w.few;
-        can = λ h. w.can (g.0, subst (λ cut. CanRun i cut (next ∷ more)) (sym same) h);
-        must = λ h. subst (λ cut. CanRun i cut (next ∷ more)) same (w.must h).1;
+        can = λ h. w.can (g.0, subst (λ cut. CanRunLegs i cut (next ∷ more)) (sym same) h);
+        must = λ h. subst (λ cut. CanRunLegs i cut (next ∷ more)) same (w.must h).1;
         goes = w.goes.1;
       }
 

@@ -28,13 +28,13 @@ HasSaved p i cut number None = (cut ≡ empty_cut i.sources) × (number ≡ 0)
 HasSaved p i cut number (Some s) = CanRestart p i cut number s
 
 -- what a leg leaves that was to stop so: nothing at the end of the input, else the savepoint of its cut
-abbrev pub IsLeft : PlanData → InputData → ℕ → Stop → Option Contents → Type 0
-IsLeft p i number Never saved = saved ≡ None
-IsLeft p i number (At cut) None = ⊥
-IsLeft p i number (At cut) (Some s) = CanRestart p i cut.counts number s
+abbrev pub IsLeftBy : PlanData → InputData → ℕ → Stop → Option Contents → Type 0
+IsLeftBy p i number Never saved = saved ≡ None
+IsLeftBy p i number (At cut) None = ⊥
+IsLeftBy p i number (At cut) (Some s) = CanRestart p i cut.counts number s
 
 -- what a leg gives that goes from a cut, after so many savepoints: the rows that become due, each once, and where it stops the next savepoint
-pub record IsGiven (p : PlanData) (i : InputData) (cut : List (List ℕ)) (number : ℕ) (stop : Stop) (finish : Finish) : Type 0 where
+pub record IsLegGiven (p : PlanData) (i : InputData) (cut : List (List ℕ)) (number : ℕ) (stop : Stop) (finish : Finish) : Type 0 where
   pub rows : List Row
   pub savepoint : Contents
   pub is : finish ≡ finish_with stop rows savepoint
@@ -64,4 +64,4 @@ pub record IsAt (p : PlanData) (i : InputData) (cut : List (List ℕ)) (number :
 pub record IsAfter (p : PlanData) (i : InputData) (stop : Stop) (number : ℕ) (r : Reached) : Type 0 where
   pub is_cut : IsCut i.sources (cut_to i (until_of stop))
   pub rows : AreRowsOf (due_rows p i.sources (cut_to i (until_of stop))) r.rows.items
-  pub saved : IsLeft p i number stop r.savepoint
+  pub saved : IsLeftBy p i number stop r.savepoint

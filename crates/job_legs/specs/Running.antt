@@ -20,20 +20,16 @@ last_stop [] = Never
 last_stop (leg ∷ []) = leg.stop
 last_stop (leg ∷ next ∷ legs) = last_stop (next ∷ legs)
 
--- the cut that they come to
-abbrev pub cut_of : InputData → List LegSpec → List (List ℕ)
-cut_of i legs = cut_to i (until_of (last_stop legs))
-
 -- each leg can stop as it is to, from where the one before stopped
-abbrev pub CanRun : InputData → List (List ℕ) → List LegSpec → Type 0
-CanRun i begin [] = Unit {0}
-CanRun i begin (leg ∷ legs) = CanStop i.sources begin leg.stop × CanRun i (cut_to i (until_of leg.stop)) legs
+abbrev pub CanRunLegs : InputData → List (List ℕ) → List LegSpec → Type 0
+CanRunLegs i begin [] = Unit {0}
+CanRunLegs i begin (leg ∷ legs) = CanStop i.sources begin leg.stop × CanRunLegs i (cut_to i (until_of leg.stop)) legs
 
 -- all of them ran, each from where the one before stopped
 pub record HaveRun (p : PlanData) (i : InputData) (legs : List LegSpec) (r : Reached) : Type 0 where
-  pub can : CanRun i (empty_cut i.sources) legs
+  pub can : CanRunLegs i (empty_cut i.sources) legs
   pub after : IsAfter p i (last_stop legs) (length legs) r
 
 -- why they did not: one of them cannot stop as it is to, or memory ran out
 abbrev pub IsRunRefusal : InputData → List LegSpec → LegFault → Type 0
-IsRunRefusal i legs fault = ((fault ≡ StopRange) × ¬ CanRun i (empty_cut i.sources) legs) ⊎ (fault ≡ Memory)
+IsRunRefusal i legs fault = ((fault ≡ StopRange) × ¬ CanRunLegs i (empty_cut i.sources) legs) ⊎ (fault ≡ Memory)

@@ -3,7 +3,5 @@
 
 pub mod laws;
 mod running;
-#[cfg(test)]
-mod tests;
 
 pub use running::{LegsEnd, run_legs_by, saved_bytes};

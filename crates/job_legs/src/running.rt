@@ -1,6 +1,6 @@
 //! Legs run one after the other.
 
-ghost use Rattle.std.specs.Prelude.{◌≡◌, ◌+◌, ◌++◌, ◌<◌, ◌^◌, ℕ, true, List, Option, option_map, IfOk, IfErr, MatchResult, OnOk};
+ghost use Rattle.std.specs.Prelude.{◌≡◌, ◌+◌, ◌++◌, ◌<◌, ◌^◌, ℕ, true, List, length, Option, option_map, IfOk, IfErr, MatchResult, OnOk};
 ghost use Rattle.std.specs.List.{All};
 ghost use Rattle.std.specs.List.Sorted.{IsSortedByKey};
 ghost use Rattle.layout_rules.specs.Scale.{IsScale};
@@ -12,20 +12,22 @@ ghost use Rattle.redistribute.specs.Stopping.{CanStop};
 ghost use Rattle.restarts.specs.Laws.{IsStartAt};
 ghost use Rattle.savepoint_codec.specs.Layout.{savepoint_bytes};
 ghost use Rattle.stream_model.specs.InputData.{BelongsTo};
-ghost use Rattle.job_legs.specs.Reached.{HasSaved, IsAfter, IsAt, IsGiven, IsStepRefusal, rows_of, saved_of};
+ghost use Rattle.job_legs.specs.Reached.{HasSaved, IsAfter, IsAt, IsLegGiven, IsStepRefusal, rows_of, saved_of};
 ghost use Rattle.job_legs.specs.Ending.{IsJobEnd, IsLegsRefusal};
 ghost use Rattle.job_legs.specs.Running.{HaveRun, IsRunRefusal};
 
 use crate::laws::{nothing_due_at_first, rows_add_up};
 use job_texts::sort_rows;
-use leg_lists::{LegFault, LegSpec, are_legs};
+use leg_lists::{Choice, LegFault, LegSpec, are_choices, are_legs};
 use leg_runs::{Finish, run_leg_by};
 use logical_plan::Plan;
+use plain_data::Items;
 use plan_model::Row;
 use redistribute::Start;
 use restarts::restart;
 use savepoint_codec::{Savepoint, encode};
 use std::alloc::{AllocError, Global};
+use std::slice::Iter;
 use stream_input::Input;
 use stream_model::laws::end_is_due;
 use window_state::HashKeys;
@@ -62,18 +64,19 @@ fn next_finish(
     plan: &Plan,
     input: &Input,
     leg: LegSpec,
+    choices: &[Choice],
     savepoint: &Option<Savepoint>,
 ) -> Result<Finish, LegFault>
     requires belongs { BelongsTo plan.now input.now }
     requires scale { IsScale plan.now leg.scale }
     requires saved { (cut : List (List ℕ)) × (number : ℕ) × HasSaved plan.now input.now cut number savepoint.now }
-    ensures { (cut : List (List ℕ)) (number : ℕ) → HasSaved plan.now input.now cut number savepoint.now → number < 2 ^ 63 → MatchResult result (IsGiven plan.now input.now cut number leg.stop) (IsStepRefusal input.now cut leg.stop) }
+    ensures { (cut : List (List ℕ)) (number : ℕ) → HasSaved plan.now input.now cut number savepoint.now → number < 2 ^ 63 → MatchResult result (IsLegGiven plan.now input.now cut number leg.stop) (IsStepRefusal input.now cut leg.stop) }
 {
     let LegSpec { scale, stop } = leg;
     let _columns = plan.columns();
     let _sources = input.sources();
     let start = next_start(alloc, plan, input, savepoint)?;
-    run_leg_by(alloc, keys, plan, input, &start, &scale, stop)
+    run_leg_by(alloc, keys, plan, input, &start, &scale, stop, choices)
 }
 
 /// Adds what a leg gave to what the legs before it came to.
@@ -97,6 +100,7 @@ fn go_on(
     plan: &Plan,
     input: &Input,
     leg: LegSpec,
+    choices: &[Choice],
     reached: &mut Reached,
 ) -> Result<(), LegFault>
     requires belongs { BelongsTo plan.now input.now }
@@ -107,18 +111,27 @@ fn go_on(
 {
     let _law = rows_add_up();
     let _sources = input.sources();
-    let finish = next_finish(alloc, keys, plan, input, leg, &reached.savepoint)?;
+    let finish = next_finish(alloc, keys, plan, input, leg, choices, &reached.savepoint)?;
     take_in(reached, finish)?;
     Ok(())
 }
 
-/// Runs legs one after the other.
+/// The choices of the leg that comes next, of the lists that are left.
+fn next_choices<'c>(lists: &mut Iter<'c, Items<Choice>>) -> &'c [Choice] {
+    match lists.next() {
+        Some(list) => list.as_slice(),
+        None => &[],
+    }
+}
+
+/// Runs legs one after the other, each by the choices of its list.
 fn run_all(
     alloc: Global,
     keys: HashKeys,
     plan: &Plan,
     input: &Input,
     legs: Vec<LegSpec>,
+    choices: &[Items<Choice>],
 ) -> Result<Reached, LegFault>
     requires belongs { BelongsTo plan.now input.now }
     requires scales { All (λ leg. IsScale plan.now leg.scale) legs.items }
@@ -131,8 +144,10 @@ fn run_all(
         rows: Vec::new(alloc),
         savepoint: None,
     };
+    let mut lists = choices.iter();
     for leg in legs {
-        go_on(alloc, keys, plan, input, leg, &mut reached)?;
+        let choices = next_choices(&mut lists);
+        go_on(alloc, keys, plan, input, leg, choices, &mut reached)?;
     }
     Ok(reached)
 }
@@ -177,24 +192,28 @@ fn end_of(alloc: Global, reached: Reached) -> Result<LegsEnd, AllocError>
 }
 
 /// Runs the legs of a job one after the other, each from what the one before left and the first from nothing, and gives their
-/// rows together. The panes of the windows are hashed by the keys.
+/// rows together. The panes of the windows are hashed by the keys. Each leg has a list of choices, which say what steps are made
+/// first; what the legs give does not hang on them.
 ///
 /// The input and the scales were read by the plan.
 ///
 /// # Errors
 ///
-/// `Legs` where there is no leg, or more than 1,024, or one before the last does not stop; else `StopRange` where a leg cannot
-/// stop as it is to, from where the one before stopped; `Memory` where memory runs out.
+/// `Legs` where there is no leg, or more than 1,024, or one before the last does not stop; else `Choices` where there are more or
+/// fewer lists of choices than legs; else `StopRange` where a leg cannot stop as it is to, from where the one before stopped;
+/// `Memory` where memory runs out.
 pub fn run_legs_by(
     alloc: Global,
     keys: HashKeys,
     plan: &Plan,
     input: &Input,
     legs: Vec<LegSpec>,
+    choices: &[Items<Choice>],
 ) -> Result<LegsEnd, LegFault>
     requires belongs { BelongsTo plan.now input.now }
     requires scales { All (λ leg. IsScale plan.now leg.scale) legs.items }
-    ensures { MatchResult result (λ end. IsJobEnd plan.now input.now legs.items end.rows.items (option_map (λ b. b.items) end.savepoint)) (IsLegsRefusal input.now legs.items) }
+    ensures ends { MatchResult result (λ end. IsJobEnd plan.now input.now legs.items end.rows.items (option_map (λ b. b.items) end.savepoint)) (IsLegsRefusal input.now legs.items (length choices.now)) }
+    ensures lists { OnOk result (length choices.now ≡ length legs.items) }
 {
     let _columns = plan.columns();
     let _sources = input.sources();
@@ -202,6 +221,9 @@ pub fn run_legs_by(
     if !are_legs(&legs) {
         return Err(LegFault::Legs);
     }
-    let reached = run_all(alloc, keys, plan, input, legs)?;
+    if !are_choices(choices, legs.len()) {
+        return Err(LegFault::Choices);
+    }
+    let reached = run_all(alloc, keys, plan, input, legs, choices)?;
     Ok(end_of(alloc, reached)?)
 }

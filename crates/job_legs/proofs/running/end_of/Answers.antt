@@ -1,1 +1,0 @@
-use Rattle.job_legs.proofs.running.end_of.Goals as goal

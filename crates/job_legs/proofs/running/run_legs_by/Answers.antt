@@ -1,23 +1,24 @@
 use Rattle.std.proofs.Common.{◌∙◌, ap, sym}
 use Rattle.leg_lists.specs.Requirements.{are_legs}
+use Rattle.leg_lists.specs.Stops.{until_of}
 use Rattle.stream_model.specs.PlanRows.{due_rows}
-use Rattle.job_legs.specs.Running.{cut_of, last_stop}
-use Rattle.job_legs.proofs.Ended.{whole}
+use Rattle.dataflow_laws.specs.Compiled.{cut_to}
+use Rattle.job_legs.specs.Running.{last_stop}
+use Rattle.job_legs.proofs.Ended.{come_to}
 use Rattle.job_legs.proofs.running.run_legs_by.Goals as goal
 
-pub returns : goal.returns
-returns c =
+pub returns-clause-ends : goal.returns-clause-ends
+returns-clause-ends c =
     let p = c.args.plan.now in
     let i = c.args.input.now in
     let legs = c.args.legs.items in
     let run = c.in_ok-reached.ensures in
     let given = c.in_ok-end_of.ensures in
-    let rows = given.rows (due_rows p i.sources (cut_of i legs)) run.after.rows in
+    let rows = given.rows (due_rows p i.sources (cut_to i (until_of (last_stop legs)))) run.after.rows in
     record {
       list = ap are_legs (sym c.deref.ensures.value) ∙ sym c.are_legs.ensures ∙ c.if-not-are_legs.false;
       can = run.can;
-      rows = rows.0;
-      whole = whole c.end_is_due-law.ensures p i (last_stop legs) c.in_ok-end_of.field-0.rows.items c.columns-columns.ensures.sound c.sources-sources.ensures.sound c.requires.belongs rows.0;
+      rows = come_to c.end_is_due-law.ensures p i (last_stop legs) c.in_ok-end_of.field-0.rows.items c.columns-columns.ensures.sound c.sources-sources.ensures.sound c.requires.belongs rows.0;
       ordered = rows.1;
       left = c.in_ok-reached.reached.savepoint;
       is_left = run.after.saved;
