@@ -1,0 +1,145 @@
+-- Legs one after another deliver what is due.
+use Rattle.std.proofs.Common.{◌≡◌, ◌∙◌, ℕ, ◌+◌, ◌≤◌, ◌^◌, List, [], ◌∷◌, ◌++◌, length, Option, Some, None, Ok, Err, refl, sym, ap, subst, arith}
+use Rattle.std.specs.Option.{option_map_or, option_to_list}
+use Rattle.plan_model.specs.PlanData.{PlanData}
+use Rattle.plan_model.specs.Rows.{AreRowsOf}
+use Rattle.plan_model.specs.declared.spec.Row.{Row}
+use Rattle.stream_model.specs.InputData.{InputData}
+use Rattle.stream_model.specs.Laws.{EndIsDue}
+use Rattle.stream_model.specs.Watermarks.{IsCut, IsOrderly, empty_cut}
+use Rattle.stream_model.specs.PlanRows.{due_rows}
+use Rattle.input_flow.proofs.Facts.{empty_is_cut}
+use Rattle.dataflow_laws.specs.Compiled.{cut_to}
+use Rattle.dataflow_laws.specs.Inputs.{due_between}
+use Rattle.leg_lists.specs.declared.cut.Cut.{Cut}
+use Rattle.leg_lists.specs.declared.stop.Stop.{Stop}
+use Rattle.leg_lists.specs.declared.stop.Stop.TheVariants.{Never, At}
+use Rattle.leg_lists.specs.Stops.{until_of}
+use Rattle.redistribute.specs.StartData.{StartData, offsets_of}
+use Rattle.redistribute.specs.Begins.{HasSnapshot, IsFromNothing}
+use Rattle.redistribute.specs.Stopping.{CanStop}
+use Rattle.redistribute.specs.Snapshots.{saved_sources}
+use Rattle.savepoint_codec.specs.Layout.{IsSavepoint, savepoint_bytes}
+use Rattle.savepoint_codec.specs.declared.savepoint.Contents.{Contents}
+use Rattle.restore.specs.Answer.{start_of, start_or_fault}
+use Rattle.restore.specs.declared.fault.RestoreFault.{RestoreFault}
+use Rattle.restarts.specs.Laws.{IsStartAt, SnapshotsRestart, savepoint_at}
+use Rattle.gather.specs.Laws.{SamePanesSameSavepoint}
+use Rattle.leg_tasks.specs.Saved.{IsSavedAt}
+use Rattle.core_steps.specs.Given.{GivenData}
+use Rattle.core_steps.specs.World.{WorldData, IsGiven}
+use Rattle.core_steps.specs.Finishing.{rows_in, savepoint_in}
+use Rattle.core_steps.proofs.Ending.{end_is_cut}
+use Rattle.core_steps.proofs.Delivered.{none_at_first, world_delivers, world_saves}
+use Rattle.job_legs.specs.Laws.{NothingDueAtFirst, RowsAddUp}
+use Rattle.job_legs.specs.Ending.{rows_to}
+use Rattle.job_legs.proofs.Facts.{before_end, come_to}
+use Rattle.lineages.specs.Lineage.{AreExact, ComesFrom, Headline, IsLeg, IsUnderWay, Lineage, LineagesAreExact, OneSavepoint, delivered, given_of}
+use Rattle.lineages.specs.Lineage.Lineage.{begins, goes_on}
+
+-- ---- one leg
+
+module _ (p : PlanData) (i : InputData) (s : StartData) (stop : Stop) (w : WorldData) (way : IsUnderWay p i s stop w) where
+  pub given : IsGiven (given_of p i s way.layout stop)
+  given = subst IsGiven way.given way.world.sound.given
+
+  pub can_stop : (b : List (List ℕ)) (number : ℕ) → IsStartAt p i b number s → CanStop i.sources b stop
+  can_stop b number at = subst (λ c. CanStop i.sources c stop) at.offsets given.stops
+
+  pub at_first : IsFromNothing i s → IsStartAt p i (empty_cut i.sources) 0 s
+  at_first nothing = record { in_input = given.starts; snapshot = none_at_first p i s nothing; offsets = nothing.offsets; number = nothing.number }
+
+  only_start : (o : Option RestoreFault) (x y : StartData) → option_map_or Err o (Ok x) ≡ Ok y → x ≡ y
+  only_start None x y e = cc
+  only_start (Some fault) x y e = absurd cc
+
+  -- where it starts from the bytes of a cut's savepoint, it begins at that cut, with its snapshot
+  pub from_bytes : SnapshotsRestart → ((a b : Contents) → IsSavepoint a → IsSavepoint b → savepoint_bytes a ≡ savepoint_bytes b → a ≡ b)
+      → (cut : List (List ℕ)) (number : ℕ) (old : Contents) → IsCut i.sources cut → IsSavedAt p i cut number old → IsSavepoint old → ComesFrom p i (savepoint_bytes old) s → IsStartAt p i cut number s
+  from_bytes restart one cut number old is at savepoint from =
+      let checked : start_or_fault p i (savepoint_at p i cut at.windows number) ≡ Ok s = subst (λ x. start_or_fault p i x ≡ Ok s) (one from.savepoint old from.is_savepoint savepoint from.spelled ∙ at.is) from.checked in
+      let start = only_start _ (start_of p (savepoint_at p i cut at.windows number)) s checked in
+      let few = subst (λ (x : StartData). x.number ≤ 2 ^ 63) (sym start) given.starts.number in
+      subst (IsStartAt p i cut number) start (restart p i cut at.windows number (record { plan = given.plan; input = given.input; belongs = given.belongs; cut = is; windows = at.snapshot }) few)
+
+  pub is_end : (b : List (List ℕ)) (number : ℕ) → IsStartAt p i b number s → IsCut i.sources (cut_to i (until_of stop))
+  is_end b number at = end_is_cut i b stop (can_stop b number at)
+
+-- and of one that has finished
+module _ (p : PlanData) (i : InputData) (s : StartData) (stop : Stop) (w : WorldData) (leg : IsLeg p i s stop w) where
+  rows : HasSnapshot p i s → AreRowsOf (due_between p i.sources (offsets_of s) (cut_to i (until_of stop))) (rows_in w)
+  rows = subst (λ (g : GivenData). HasSnapshot g.plan g.input g.start → AreRowsOf (due_between g.plan g.input.sources (offsets_of g.start) (cut_to g.input (until_of g.stop))) (rows_in w)) leg.way.given (world_delivers w leg.way.world leg.finished)
+
+  left : HasSnapshot p i s → IsSavedAt p i (cut_to i (until_of stop)) (s.number + 1) (savepoint_in w)
+  left = subst (λ (g : GivenData). HasSnapshot g.plan g.input g.start → IsSavedAt g.plan g.input (cut_to g.input (until_of g.stop)) (g.start.number + 1) (savepoint_in w)) leg.way.given (world_saves w leg.way.world leg.finished)
+
+  -- a leg that begins at a cut with its snapshot leaves the savepoint of the cut where it stops
+  pub saved : (b : List (List ℕ)) (number : ℕ) → IsStartAt p i b number s → (cut : Cut) → stop ≡ At cut → IsSavedAt p i cut.counts (number + 1) (savepoint_in w)
+  saved b number at cut same =
+      subst (λ n. IsSavedAt p i cut.counts (n + 1) (savepoint_in w)) at.number (subst (λ (x : Stop). IsSavedAt p i (cut_to i (until_of x)) (s.number + 1) (savepoint_in w)) same (left at.snapshot))
+
+  -- and adds the rows that become due
+  added : RowsAddUp → (b : List (List ℕ)) (number : ℕ) → IsStartAt p i b number s → IsCut i.sources b → (before : List Row) → AreRowsOf (due_rows p i.sources b) before → AreRowsOf (due_rows p i.sources (cut_to i (until_of stop))) (before ++ rows_in w)
+  added add b number at is before due =
+      let can = can_stop p i s stop w leg.way b number at in
+      let end = cut_to i (until_of stop) in
+      add p i b end before (rows_in w) (given p i s stop w leg.way).input (before_end i b stop is can) (end_is_cut i b stop can) due (subst (λ c. AreRowsOf (due_between p i.sources c end) (rows_in w)) at.offsets (rows at.snapshot))
+
+  whole : EndIsDue → (found : List Row) → AreRowsOf (due_rows p i.sources (cut_to i (until_of stop))) found → AreRowsOf (rows_to p i stop) found
+  whole end found due = let g = given p i s stop w leg.way in come_to end p i stop found g.plan g.input g.belongs due
+
+-- ---- all of them
+
+-- what holds of the last
+unfoldable pub LastIs : (WorldData → Type 0) → List WorldData → Type 0
+LastIs P [] = Unit {0}
+LastIs P (w ∷ earlier) = P w
+
+pub record Comes (p : PlanData) (i : InputData) (stop : Stop) (legs : List WorldData) : Type 0 where
+  pub is_cut : IsCut i.sources (cut_to i (until_of stop))
+  pub due : AreRowsOf (due_rows p i.sources (cut_to i (until_of stop))) (delivered legs)
+  pub rows : AreRowsOf (rows_to p i stop) (delivered legs)
+  pub saved : (cut : Cut) → stop ≡ At cut → LastIs (λ w. IsSavedAt p i cut.counts (length legs) (savepoint_in w)) legs
+
+one_more : (w : WorldData) (earlier : List WorldData) → length earlier + 1 ≡ length (w ∷ earlier)
+one_more w earlier = omega (arith)
+
+module _ (none : NothingDueAtFirst) (add : RowsAddUp) (restart : SnapshotsRestart) (one : (a b : Contents) → IsSavepoint a → IsSavepoint b → savepoint_bytes a ≡ savepoint_bytes b → a ≡ b) (end : EndIsDue) (p : PlanData) (i : InputData) where
+  after : (s : StartData) (stop : Stop) (w : WorldData) (earlier : List WorldData) → IsLeg p i s stop w → (b : List (List ℕ)) → IsStartAt p i b (length earlier) s → IsCut i.sources b → AreRowsOf (due_rows p i.sources b) (delivered earlier) → Comes p i stop (w ∷ earlier)
+  unfolding LastIs
+  after s stop w earlier leg b at is due =
+      let now = added p i s stop w leg add b (length earlier) at is (delivered earlier) due in
+      record {
+        is_cut = is_end p i s stop w leg.way b (length earlier) at;
+        due = now;
+        rows = whole p i s stop w leg end (delivered (w ∷ earlier)) now;
+        saved = λ cut same. subst (λ n. IsSavedAt p i cut.counts n (savepoint_in w)) (one_more w earlier) (saved p i s stop w leg b (length earlier) at cut same);
+      }
+
+  pub comes : (stop : Stop) (legs : List WorldData) → Lineage p i stop legs → Comes p i stop legs
+  unfolding LastIs
+  comes stop [] l = elim l [ ]
+  comes stop (w ∷ []) (begins {s = s} nothing leg) =
+      let g = given p i s stop w leg.way in
+      after s stop w [] leg (empty_cut i.sources) (at_first p i s stop w leg.way nothing) (empty_is_cut i.sources) (λ q. sym (ap option_to_list (none p i q (subst (λ t. IsOrderly t i.sources) g.belongs.time g.orderly))))
+  comes stop (w ∷ before ∷ earlier) (goes_on {cut = cut} {s = s} legs savepoint from leg) =
+      let c = comes (At cut) (before ∷ earlier) legs in
+      after s stop w (before ∷ earlier) leg cut.counts (from_bytes p i s stop w leg.way restart one cut.counts (length (before ∷ earlier)) (savepoint_in before) c.is_cut (c.saved cut refl) savepoint from) c.is_cut c.due
+
+  pub exact : (stop : Stop) (last : WorldData) (earlier : List WorldData) → Lineage p i stop (last ∷ earlier) → AreExact p i stop last (last ∷ earlier)
+  unfolding LastIs
+  exact stop last earlier l =
+      let c = comes stop (last ∷ earlier) l in
+      record { rows = c.rows; saved = c.saved }
+
+pub headline : LineagesAreExact → Headline
+headline made p i (w ∷ earlier) l = (made p i Never w earlier l).rows
+headline made p i [] l = elim l [ ]
+
+-- ---- legs from one snapshot to one cut
+
+pub one_savepoint : SamePanesSameSavepoint → OneSavepoint
+one_savepoint same p i cut number end s other w v at bt leg next =
+    let a = saved p i s (At end) w leg cut number at end refl in
+    let b = saved p i other (At end) v next cut number bt end refl in
+    ap savepoint_bytes (a.is ∙ same p (saved_sources i.sources end.counts) a.windows b.windows (number + 1) (λ q. a.snapshot q ∙ sym (b.snapshot q)) ∙ sym b.is)

@@ -1,0 +1,85 @@
+-- Legs of a job, one after another, in whatever order their tasks made their steps.
+use Rattle.std.specs.Prelude.{◌≡◌, ◌⊎◌, ℕ, List, [], ◌∷◌, ◌++◌, filter, length, option_to_list, Ok}
+use Rattle.plan_model.specs.PlanData.{PlanData}
+use Rattle.plan_model.specs.declared.spec.Pane.{Pane}
+use Rattle.plan_model.specs.Rows.{AreRowsOf, row_is_at}
+use Rattle.plan_model.specs.declared.spec.Row.{Row}
+use Rattle.stream_model.specs.InputData.{InputData}
+use Rattle.stream_model.specs.PlanRows.{plan_rows}
+use Rattle.plan_compiler.specs.LayoutData.{LayoutData}
+use Rattle.leg_lists.specs.declared.cut.Cut.{Cut}
+use Rattle.leg_lists.specs.declared.stop.Stop.{Stop}
+use Rattle.leg_lists.specs.declared.stop.Stop.TheVariants.{Never, At}
+use Rattle.savepoint_codec.specs.Layout.{IsSavepoint, savepoint_bytes}
+use Rattle.savepoint_codec.specs.declared.savepoint.Contents.{Contents}
+use Rattle.redistribute.specs.StartData.{StartData}
+use Rattle.redistribute.specs.Begins.{IsFromNothing}
+use Rattle.restore.specs.Answer.{start_or_fault}
+use Rattle.restarts.specs.Laws.{IsStartAt}
+use Rattle.core_steps.specs.Given.{GivenData}
+use Rattle.core_steps.specs.World.{WorldData, IsWorld}
+use Rattle.core_steps.specs.Finishing.{HasFinished, rows_in, savepoint_in}
+use Rattle.leg_tasks.specs.Saved.{IsSavedAt}
+use Rattle.job_legs.specs.Ending.{rows_to}
+
+-- what a world is told of its leg
+abbrev pub given_of : PlanData → InputData → StartData → LayoutData → Stop → GivenData
+given_of p i s l stop = record { plan = p; input = i; start = s; layout = l; stop = stop }
+
+-- a leg on its way from a start to where it is to stop, at any scale: a world to which steps led that it accepted, in any order, be it finished or not, and also where a step found no memory
+pub record IsUnderWay (p : PlanData) (i : InputData) (s : StartData) (stop : Stop) (w : WorldData) : Type 0 where
+  pub layout : LayoutData
+  pub given : w.given ≡ given_of p i s layout stop
+  pub world : IsWorld w
+
+-- and one whose tasks are all done
+pub record IsLeg (p : PlanData) (i : InputData) (s : StartData) (stop : Stop) (w : WorldData) : Type 0 where
+  pub way : IsUnderWay p i s stop w
+  pub finished : HasFinished w
+
+-- a start that is answered of bytes: they spell a savepoint, and its check gives the start
+pub record ComesFrom (p : PlanData) (i : InputData) (bytes : List ℕ) (s : StartData) : Type 0 where
+  pub savepoint : Contents
+  pub is_savepoint : IsSavepoint savepoint
+  pub spelled : savepoint_bytes savepoint ≡ bytes
+  pub checked : start_or_fault p i savepoint ≡ Ok s
+
+-- one leg or more, the last first, of which the last was to stop so: the first from nothing, and each other from the bytes of the savepoint that the one before left where it stopped
+pub data Lineage (p : PlanData) (i : InputData) : Stop → List WorldData → Type 0 where
+  begins : {s : StartData} {stop : Stop} {w : WorldData} → IsFromNothing i s → IsLeg p i s stop w → Lineage p i stop (w ∷ [])
+  goes_on : {cut : Cut} {before : WorldData} {earlier : List WorldData} {s : StartData} {stop : Stop} {w : WorldData} → Lineage p i (At cut) (before ∷ earlier) → IsSavepoint (savepoint_in before)
+      → ComesFrom p i (savepoint_bytes (savepoint_in before)) s → IsLeg p i s stop w → Lineage p i stop (w ∷ before ∷ earlier)
+
+-- the rows that legs have delivered together, those of the first first
+abbrev pub delivered : List WorldData → List Row
+delivered [] = []
+delivered (w ∷ earlier) = delivered earlier ++ rows_in w
+
+-- once one runs to the end, they are just the plan's rows on the whole input, each once
+abbrev pub Headline : Type 0
+Headline = (p : PlanData) (i : InputData) (legs : List WorldData) → Lineage p i Never legs → AreRowsOf (plan_rows p i.sources) (delivered legs)
+
+-- what legs have delivered, and left where the last stopped
+pub record AreExact (p : PlanData) (i : InputData) (stop : Stop) (last : WorldData) (legs : List WorldData) : Type 0 where
+  pub rows : AreRowsOf (rows_to p i stop) (delivered legs)
+  pub saved : (cut : Cut) → stop ≡ At cut → IsSavedAt p i cut.counts (length legs) (savepoint_in last)
+
+-- and where the last stops at a cut, just the rows that are due there, each once, and the savepoint of the cut
+abbrev pub LineagesAreExact : Type 0
+LineagesAreExact = (p : PlanData) (i : InputData) (stop : Stop) (last : WorldData) (earlier : List WorldData) → Lineage p i stop (last ∷ earlier) → AreExact p i stop last (last ∷ earlier)
+
+-- two legs from one snapshot to one cut leave the same bytes
+abbrev pub OneSavepoint : Type 0
+OneSavepoint = (p : PlanData) (i : InputData) (cut : List (List ℕ)) (number : ℕ) (end : Cut) (s other : StartData) (w v : WorldData) → IsStartAt p i cut number s → IsStartAt p i cut number other → IsLeg p i s (At end) w → IsLeg p i other (At end) v
+    → savepoint_bytes (savepoint_in w) ≡ savepoint_bytes (savepoint_in v)
+
+-- legs one after another, the last first, of which the last is on its way
+pub data UnderWay (p : PlanData) (i : InputData) : Stop → List WorldData → Type 0 where
+  sets_out : {s : StartData} {stop : Stop} {w : WorldData} → IsFromNothing i s → IsUnderWay p i s stop w → UnderWay p i stop (w ∷ [])
+  goes_further : {cut : Cut} {before : WorldData} {earlier : List WorldData} {s : StartData} {stop : Stop} {w : WorldData} → Lineage p i (At cut) (before ∷ earlier) → IsSavepoint (savepoint_in before)
+      → ComesFrom p i (savepoint_bytes (savepoint_in before)) s → IsUnderWay p i s stop w → UnderWay p i stop (w ∷ before ∷ earlier)
+
+-- at every moment, of each pane they have delivered together nothing, or just the row that is due where the last is to stop, once: so no row is wrong, and none comes twice
+abbrev pub EachMomentIsPart : Type 0
+EachMomentIsPart = (p : PlanData) (i : InputData) (stop : Stop) (legs : List WorldData) → UnderWay p i stop legs → (q : Pane)
+    → (filter (row_is_at q) (delivered legs) ≡ []) ⊎ (filter (row_is_at q) (delivered legs) ≡ option_to_list (rows_to p i stop q))

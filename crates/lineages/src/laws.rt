@@ -1,0 +1,50 @@
+//! Laws of the legs of a job, each the contract of a function that does nothing.
+
+ghost use Rattle.lineages.specs.Lineage.{EachMomentIsPart, Headline, LineagesAreExact, OneSavepoint};
+
+use gather::laws::same_panes_same_savepoint;
+use job_legs::laws::{each_row_adds_up, nothing_due_at_first, rows_add_up};
+use restarts::laws::snapshots_restart;
+use savepoint_codec::laws::one_content;
+use stream_model::laws::end_is_due;
+
+/// The headline theorem: once one leg of a job runs to the end of its input, the rows that all its legs have delivered together
+/// are just the plan's rows on the whole input, each once, whatever the order of steps and at whatever cuts, parallelisms and
+/// chainings the job was stopped with a savepoint and started again.
+pub fn headline()
+    ensures { Headline }
+{
+    let _exact = lineages_are_exact();
+}
+
+/// Legs of which the last stopped at a cut have delivered just the rows that are due there, each once, and leave the savepoint
+/// of the cut, numbered by the legs.
+pub fn lineages_are_exact()
+    ensures { LineagesAreExact }
+{
+    let _first = nothing_due_at_first();
+    let _add = rows_add_up();
+    let _restart = snapshots_restart();
+    let _content = one_content();
+    let _end = end_is_due();
+}
+
+/// At every moment of a job, in the midst of a leg too, its legs have delivered together, of each pane, nothing or just the row
+/// that is due where the last of them is to stop: no row is wrong, and none comes twice.
+pub fn each_moment_is_part()
+    ensures { EachMomentIsPart }
+{
+    let _first = nothing_due_at_first();
+    let _add = rows_add_up();
+    let _each = each_row_adds_up();
+    let _restart = snapshots_restart();
+    let _content = one_content();
+    let _end = end_is_due();
+}
+
+/// Legs from one snapshot to one cut, after as many savepoints, leave the same bytes at every scale and in every order of steps.
+pub fn one_savepoint()
+    ensures { OneSavepoint }
+{
+    let _same = same_panes_same_savepoint();
+}

@@ -1,0 +1,8 @@
+//! The headline theorem: what the legs of a job deliver together, whatever their cuts and scales and in whatever order their
+//! tasks made their steps.
+//!
+//! `specs/Lineage` says what legs one after another are, in the words of the public calls: each is a `World` to which steps led
+//! that it accepted, and each but the first starts from the bytes of the savepoint that the one before left.
+#![tactic(auto)]
+
+pub mod laws;
