@@ -21,7 +21,7 @@ use Rattle.job.specs.declared.leg.LegEnd.{LegEnd}
 use Rattle.job.specs.Ends.{and_then, as_job, Ends}
 use Rattle.job.specs.Leg.{LegJob, GivesLeg, IsLegEnd, EndsLeg}
 
-only : {P Q : Type 0} (b : Bool) → (P → Q) → unless b P → unless b Q
+pub only : {P Q : Type 0} (b : Bool) → (P → Q) → unless b P → unless b Q
 only true f h = tt
 only false f h = f h
 

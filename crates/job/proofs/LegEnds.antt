@@ -13,7 +13,7 @@ use Rattle.redistribute.specs.StartData.{StartData, offsets_of}
 use Rattle.core_steps.specs.declared.finish.Finish.{Finish}
 use Rattle.core_steps.specs.declared.finish.Finish.TheVariants.{Stopped}
 use Rattle.core_steps.specs.Finishing.{finish_with}
-use Rattle.leg_runs.specs.Ending.{IsEndOf}
+use Rattle.core_steps.specs.Ending.{IsEndOf}
 use Rattle.plan_model.specs.PlanData.{PlanData}
 use Rattle.stream_model.specs.InputData.{InputData}
 use Rattle.leg_tasks.specs.Saved.{IsSavedAt}

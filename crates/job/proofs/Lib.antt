@@ -1,6 +1,4 @@
-mod Refusals
-mod LayoutAnswers
-mod ShowAnswers
 mod LegAnswers
 mod LegEnds
 mod RunAnswers
+mod TextAnswers

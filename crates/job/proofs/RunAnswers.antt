@@ -1,14 +1,16 @@
 -- What the legs of a job answer, from what reading their list answers.
-use Rattle.std.proofs.Common.{◌≡◌, ◌∙◌, ℕ, Bool, true, false, List, Option, Some, None, Result, Ok, Err, MatchResult, refl, sym, ap, subst, inl, inr, if◌then◌else◌}
-use Rattle.std.specs.Option.{option_map_or}
-use Rattle.json_parts.specs.Answer.{unless}
-use Rattle.json_parts.specs.Parts.{json_of}
+use Rattle.std.proofs.Common.{◌≡◌, ◌∙◌, ◌==◌, ℕ, Bool, true, false, List, length, Option, Some, None, Result, Ok, Err, MatchResult, refl, sym, ap, subst, inr, if◌then◌else◌}
+use Rattle.std.specs.Option.{option_and_then, option_map_or}
+use Rattle.std.proofs.lemmas.Bool.{eqb-true}
+use Rattle.json_parts.specs.Parts.{json_of, list_text}
 use Rattle.serde_json.specs.Data.{Data}
 use Rattle.plan_model.specs.PlanData.{PlanData}
 use Rattle.stream_model.specs.InputData.{InputData}
 use Rattle.stream_model.specs.PlanRows.{plan_rows}
 use Rattle.leg_lists.specs.Answer as lists
 use Rattle.leg_lists.specs.Answer.{if_legs, legs_of_bytes, legs_of_json, legs_or_fault}
+use Rattle.leg_lists.specs.ChoicesText.{choice_text, choices_of_bytes, choices_said, choices_text}
+use Rattle.leg_lists.specs.declared.choice.Choice.{Choice}
 use Rattle.leg_lists.specs.LegsText.{LegSaid, legs_text}
 use Rattle.leg_lists.specs.Said.{◌>>=◌, legs_from}
 use Rattle.leg_lists.specs.Requirements.{are_legs}
@@ -21,7 +23,7 @@ use Rattle.job_texts.specs.Fault.{leg_fault, is_memory}
 use Rattle.job_texts.specs.Text.{IsTextOf}
 use Rattle.job_legs.specs.Ending.{IsLegsRefusal}
 use Rattle.job.specs.Ends.{as_job, Ends}
-use Rattle.job.specs.Run.{RunJob, run_job, CanRunSo, IsRunText}
+use Rattle.job.specs.Run.{run_job, CanRunSo, IsRunText}
 use Rattle.job.proofs.LegAnswers.{given}
 
 -- the fault of a list is told as one of a job
@@ -31,6 +33,7 @@ legs_told said leg.StopRange is = ap (as_job leg_fault) is
 legs_told said leg.Legs is = ap (as_job leg_fault) is
 legs_told said leg.NotJson is = ap (as_job leg_fault) is
 legs_told said leg.Member is = ap (as_job leg_fault) is
+legs_told said leg.Choices is = ap (as_job leg_fault) is
 legs_told said (leg.Scale place fault) is = given (is_memory (leg_fault (leg.Scale place fault))) (ap (as_job leg_fault) is)
 
 -- what is read as a list of legs is one
@@ -51,19 +54,38 @@ unfolding legs_of_json
 of_json p (Some d) legs e = of_text p (legs_text d) legs e
 of_json p None legs e = absurd cc
 
-are_read : (p : PlanData) (bytes : List ℕ) (legs : List LegSpec) → legs_of_bytes p bytes ≡ Ok legs → are_legs legs ≡ true
+pub are_read : (p : PlanData) (bytes : List ℕ) (legs : List LegSpec) → legs_of_bytes p bytes ≡ Ok legs → are_legs legs ≡ true
 unfolding legs_of_bytes
 are_read p bytes legs e = of_json p (json_of bytes) legs e
 
 neither : false ≡ true → ⊥
 neither e = cc
 
--- why legs that were read have no rows
-module _ {X : Type 0} (view : X → List ℕ) (p : PlanData) (i : InputData) (bytes : List ℕ) (legs : List LegSpec) (is : legs_of_bytes p bytes ≡ Ok legs) where
-  pub legs_fail : (fault : LegFault) → IsLegsRefusal i legs fault → Ends {X = X} CanRunSo (λ job text. IsRunText job (view text)) (Ok (run_job p i (Some legs))) (Err (leg_fault fault))
+-- what is read as the choices of so many legs has a list for each
+of_count : (b : Bool) (legs : ℕ) (found choices : List (List Choice)) → (length found == legs) ≡ b → option_map_or Ok (let none : Option (List (List Choice)) = None in if b then Some found else none) (Err leg.Choices) ≡ Ok choices → length choices ≡ legs
+of_count true legs found choices is e = ap length (sym cc) ∙ eqb-true (length found) legs is
+of_count false legs found choices is e = absurd cc
+
+of_lists : (legs : ℕ) (text : Option (List (List Choice))) (choices : List (List Choice)) → option_map_or Ok (option_and_then (λ found. let none : Option (List (List Choice)) = None in if length found == legs then Some found else none) text) (Err leg.Choices) ≡ Ok choices → length choices ≡ legs
+of_lists legs (Some found) choices e = of_count (length found == legs) legs found choices refl e
+of_lists legs None choices e = absurd cc
+
+of_data : (legs : ℕ) (d : Option Data) (choices : List (List Choice)) → option_map_or Ok (option_and_then (choices_text legs) d) (Err leg.Choices) ≡ Ok choices → length choices ≡ legs
+unfolding choices_text
+of_data legs (Some d) choices e = of_lists legs (list_text (list_text choice_text) d) choices e
+of_data legs None choices e = absurd cc
+
+pub are_chosen : (legs : ℕ) (bytes : List ℕ) (choices : List (List Choice)) → choices_of_bytes legs bytes ≡ Ok choices → length choices ≡ legs
+unfolding choices_of_bytes choices_said
+are_chosen legs bytes choices e = of_data legs (json_of bytes) choices e
+
+-- why legs have no rows
+module _ {X : Type 0} (view : X → List ℕ) (p : PlanData) (i : InputData) (legs : List LegSpec) (list : are_legs legs ≡ true) (lists : ℕ) (each : lists ≡ length legs) where
+  pub legs_fail : (fault : LegFault) → IsLegsRefusal i legs lists fault → Ends {X = X} CanRunSo (λ job text. IsRunText job (view text)) (Ok (run_job p i (Some legs))) (Err (leg_fault fault))
   legs_fail leg.Memory why = tt
-  legs_fail leg.StopRange why = inr (run_job p i (Some legs), refl, refl, why.1)
-  legs_fail leg.Legs why = absurd (neither (sym why ∙ are_read p bytes legs is))
+  legs_fail leg.StopRange why = inr (run_job p i (Some legs), refl, refl, why.2)
+  legs_fail leg.Legs why = absurd (neither (sym why ∙ list))
+  legs_fail leg.Choices why = absurd (why.1 each)
   legs_fail leg.NotJson why = absurd why
   legs_fail leg.Member why = absurd why
   legs_fail (leg.Scale place fault) why = absurd why

@@ -1,6 +1,5 @@
 -- What a call answers that reads texts and does the job that they say.
-use Rattle.std.specs.Prelude.{◌≡◌, ◌⊎◌, ℕ, List, Option, Result, Ok, Err}
-use Rattle.std.specs.Io.KnownBytes.{Appends}
+use Rattle.std.specs.Prelude.{◌≡◌, ◌⊎◌, Result, Ok, Err}
 use Rattle.std.specs.Result.{result_map_both}
 use Rattle.json_parts.specs.Answer.{unless}
 use Rattle.leg_lists.specs.declared.fault.LegFault.TheVariants.{StopRange}

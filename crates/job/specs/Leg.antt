@@ -1,5 +1,5 @@
 -- What running a leg answers.
-use Rattle.std.specs.Prelude.{◌≡◌, ◌⊎◌, ◌+◌, ℕ, List, Option, Some, None, Result, Ok, Err, option_map, string_bytes}
+use Rattle.std.specs.Prelude.{◌≡◌, ◌+◌, ℕ, List, Option, Some, None, Result, Ok, Err, option_map, string_bytes}
 use Rattle.std.specs.Io.KnownBytes.{Appends}
 use Rattle.std.specs.Option.{option_map_or}
 use Rattle.json_parts.specs.Answer.{unless}
@@ -28,7 +28,7 @@ use Rattle.restore.specs.Answer.{start_or_fault}
 use Rattle.leg_tasks.specs.Saved.{IsSavedAt}
 use Rattle.job.specs.declared.leg.LegEnd.{LegEnd}
 use Rattle.job_texts.specs.declared.fault.JobFault.{JobFault}
-use Rattle.job_texts.specs.declared.fault.JobFault.TheVariants.{Plan, Input, Scale, Save, Restore, Leg, Cut, Write}
+use Rattle.job_texts.specs.declared.fault.JobFault.TheVariants.{Plan, Input, Scale, Save, Restore, Leg, Cut}
 use Rattle.job_texts.specs.Cut.{cut_said}
 use Rattle.job_texts.specs.Fault.{is_memory}
 use Rattle.job_texts.specs.Text.{IsTextOf}

@@ -1,21 +1,23 @@
 -- What running a job answers.
-use Rattle.std.specs.Prelude.{◌≡◌, ℕ, List, Option, Some, None, Result, Ok}
+use Rattle.std.specs.Prelude.{ℕ, List, length, Option, Some, None, Result, Ok}
 use Rattle.std.specs.Io.KnownBytes.{Appends}
 use Rattle.plan_model.specs.PlanData.{PlanData}
 use Rattle.plan_model.specs.declared.spec.Pane.{Pane}
 use Rattle.plan_model.specs.declared.spec.Row.{Row}
 use Rattle.logical_plan.specs.Answer.{plan_of_bytes}
 use Rattle.stream_model.specs.InputData.{InputData}
-use Rattle.stream_model.specs.PlanRows.{plan_rows, due_rows}
+use Rattle.stream_model.specs.PlanRows.{plan_rows}
 use Rattle.stream_model.specs.Watermarks.{empty_cut}
 use Rattle.stream_input.specs.Answer.{input_of_bytes}
 use Rattle.leg_lists.specs.Answer.{legs_of_bytes}
+use Rattle.leg_lists.specs.ChoicesText.{choices_of_bytes}
 use Rattle.leg_lists.specs.declared.leg.LegSpec.{LegSpec}
 use Rattle.job_texts.specs.declared.fault.JobFault.{JobFault}
 use Rattle.job_texts.specs.declared.fault.JobFault.TheVariants.{Plan, Input}
 use Rattle.job_texts.specs.Fault.{leg_fault}
 use Rattle.job_texts.specs.Text.{IsTextOf}
-use Rattle.job_legs.specs.Running.{CanRun, cut_of}
+use Rattle.job_legs.specs.Running.{CanRunLegs, last_stop}
+use Rattle.job_legs.specs.Ending.{rows_to}
 use Rattle.job.specs.Ends.{and_then, as_job, Ends, Does}
 
 -- what the texts of a job say: with a list of legs, it runs in these
@@ -27,37 +29,42 @@ pub record RunJob : Type 0 where
 abbrev pub run_job : PlanData → InputData → Option (List LegSpec) → RunJob
 run_job p i legs = record { plan = p; input = i; legs = legs }
 
--- the legs that bytes are
-unfoldable pub legs_in : PlanData → InputData → List ℕ → Result RunJob JobFault
-legs_in p i bytes = and_then (λ legs. Ok (run_job p i (Some legs))) (as_job leg_fault (legs_of_bytes p bytes))
+-- choices of steps, where there are any, are a list for each leg; what the job is does not hang on them
+unfoldable pub choices_in : PlanData → InputData → List LegSpec → Option (List ℕ) → Result RunJob JobFault
+choices_in p i legs None = Ok (run_job p i (Some legs))
+choices_in p i legs (Some bytes) = and_then (λ choices. Ok (run_job p i (Some legs))) (as_job leg_fault (choices_of_bytes (length legs) bytes))
+
+-- the legs that bytes are, with such choices
+unfoldable pub legs_in : PlanData → InputData → List ℕ → Option (List ℕ) → Result RunJob JobFault
+legs_in p i bytes choices = and_then (λ legs. choices_in p i legs choices) (as_job leg_fault (legs_of_bytes p bytes))
 
 -- with a plan and an input that were read, and with a plan
-unfoldable pub run_with : PlanData → InputData → Option (List ℕ) → Result RunJob JobFault
-run_with p i None = Ok (run_job p i None)
-run_with p i (Some bytes) = legs_in p i bytes
+unfoldable pub run_with : PlanData → InputData → Option (List ℕ) → Option (List ℕ) → Result RunJob JobFault
+run_with p i None choices = Ok (run_job p i None)
+run_with p i (Some bytes) choices = legs_in p i bytes choices
 
-unfoldable pub run_by : PlanData → List ℕ → Option (List ℕ) → Result RunJob JobFault
-run_by p input legs = and_then (λ i. run_with p i legs) (as_job Input (input_of_bytes p input))
+unfoldable pub run_by : PlanData → List ℕ → Option (List ℕ) → Option (List ℕ) → Result RunJob JobFault
+run_by p input legs choices = and_then (λ i. run_with p i legs choices) (as_job Input (input_of_bytes p input))
 
--- what the texts say, or the first refusal: the plan's, else the input's, else that of the list of legs
-unfoldable pub run_said : List ℕ → List ℕ → Option (List ℕ) → Result RunJob JobFault
-run_said plan input legs = and_then (λ p. run_by p input legs) (as_job Plan (plan_of_bytes plan))
+-- what the texts say, or the first refusal: the plan's, else the input's, else that of the list of legs, else that of the choices
+unfoldable pub run_said : List ℕ → List ℕ → Option (List ℕ) → Option (List ℕ) → Result RunJob JobFault
+run_said plan input legs choices = and_then (λ p. run_by p input legs choices) (as_job Plan (plan_of_bytes plan))
 
 -- its legs, if it runs in legs, can stop as they are to, each from where the one before stopped
 abbrev pub can_run : InputData → Option (List LegSpec) → Type 0
 can_run i None = Unit {0}
-can_run i (Some legs) = CanRun i (empty_cut i.sources) legs
+can_run i (Some legs) = CanRunLegs i (empty_cut i.sources) legs
 
 abbrev pub CanRunSo : RunJob → Type 0
 CanRunSo job = can_run job.input job.legs
 
--- the rows of a job: all of the plan's, or those that are due where its last leg comes to
-abbrev pub rows_in : PlanData → InputData → Option (List LegSpec) → Pane → Option Row
-rows_in p i None = plan_rows p i.sources
-rows_in p i (Some legs) = due_rows p i.sources (cut_of i legs)
+-- the rows of a job: all of the plan's, or those of where its last leg comes to
+abbrev pub job_rows : PlanData → InputData → Option (List LegSpec) → Pane → Option Row
+job_rows p i None = plan_rows p i.sources
+job_rows p i (Some legs) = rows_to p i (last_stop legs)
 
 abbrev pub IsRunText : RunJob → List ℕ → Type 0
-IsRunText job text = IsTextOf (rows_in job.plan job.input job.legs) text
+IsRunText job text = IsTextOf (job_rows job.plan job.input job.legs) text
 
 -- what reading the texts of a job and running it answers
 abbrev pub EndsRun : {X : Type 0} → (X → List ℕ) → Result RunJob JobFault → Result X JobFault → Type 0

@@ -76,7 +76,7 @@ fn leg_rows(
     requires starts { IsStartIn plan.now input.now start.now }
     ensures { let job = leg_job plan.now input.now start.now stop in GivesLeg (λ given. AreLegRows job given.rows.items × IsLegSaved job given.savepoint) job result }
 {
-    let finish = run_leg_by(alloc, keys, plan, input, start, scale, stop)?;
+    let finish = run_leg_by(alloc, keys, plan, input, start, scale, stop, &[])?;
     match finish {
         Finish::Ended(rows) => Ok(LegRows {
             rows: rows.into_vec(),
@@ -214,6 +214,3 @@ pub fn job_leg<W: Write>(
     write_text(out, text.as_str())?;
     Ok(saved)
 }
-
-#[cfg(test)]
-mod tests;

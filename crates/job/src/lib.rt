@@ -3,16 +3,12 @@
 
 mod layout;
 mod leg;
-#[cfg(test)]
-mod limits;
 mod run;
 mod show;
-#[cfg(test)]
-mod tests;
 
 pub use job_texts::{FaultLine, JobFault, fault_line, job_group, read_cut, status_of};
 pub use layout::job_layout;
 pub use leg::job_leg;
-pub use run::job_run;
+pub use run::{job_run, job_simulate};
 pub use show::job_show;
 pub use window_state::HashKeys;

@@ -1,21 +1,25 @@
 //! A job from bytes to bytes.
 
-ghost use Rattle.std.specs.Prelude.{◌≡◌, MatchResult, option_map, string_bytes};
+ghost use Rattle.std.specs.Prelude.{◌≡◌, IfOk, MatchResult, Ok, Some, None, length, option_map, string_bytes, true};
+ghost use Rattle.std.specs.List.{All};
+ghost use Rattle.layout_rules.specs.Scale.{IsScale};
+ghost use Rattle.leg_lists.specs.Requirements.{are_legs};
 ghost use Rattle.stream_model.specs.InputData.{BelongsTo};
 ghost use Rattle.stream_model.specs.PlanRows.{plan_rows};
 ghost use Rattle.plan_model.specs.Rows.{AreRowsOf};
 ghost use Rattle.job_texts.specs.Text.{IsTextOf};
-ghost use Rattle.job.specs.Run.{Answers, EndsRun, legs_in, run_by, run_said, run_with};
+ghost use Rattle.job.specs.Run.{Answers, EndsRun, choices_in, legs_in, run_by, run_job, run_said, run_with};
 ghost use Rattle.job_texts.specs.Tells.{KeepsWriter};
 
 use job_legs::run_legs_by;
 use job_texts::{JobFault, sort_rows, text_of_rows, write_text};
-use leg_lists::read_legs;
+use leg_lists::{Choice, LegSpec, read_choices, read_legs};
 use leg_runs::run_leg;
 use logical_plan::Plan;
+use plain_data::Items;
 use plan_compiler::Scale;
 use plan_model::Row;
-use std::alloc::Global;
+use std::alloc::{AllocError, Global};
 use std::io::Write;
 use stream_input::Input;
 use window_state::HashKeys;
@@ -42,6 +46,71 @@ fn rows_text(alloc: Global, keys: HashKeys, plan: &Plan, input: &Input) -> Resul
     Ok(text_of_rows(alloc, &rows)?)
 }
 
+/// The text of the rows of legs that run by such choices.
+fn text_by(
+    alloc: Global,
+    keys: HashKeys,
+    plan: &Plan,
+    input: &Input,
+    legs: Vec<LegSpec>,
+    choices: &[Items<Choice>],
+) -> Result<String, JobFault>
+    requires belongs { BelongsTo plan.now input.now }
+    requires scales { All (λ leg. IsScale plan.now leg.scale) legs.items }
+    requires list { are_legs legs.items ≡ true }
+    requires choices { length choices.now ≡ length legs.items }
+    ensures { EndsRun string_bytes (Ok (run_job plan.now input.now (Some legs.items))) result }
+{
+    let end = run_legs_by(alloc, keys, plan, input, legs, choices)?;
+    Ok(text_of_rows(alloc, &end.rows)?)
+}
+
+/// No choices for each of so many legs.
+fn no_choices(alloc: Global, legs: usize) -> Result<Items<Items<Choice>>, AllocError>
+    ensures { IfOk result (λ choices. length choices ≡ legs) }
+{
+    let mut choices = Vec::new(alloc);
+    for _ in 0..legs {
+        choices.push(Items::from_vec(Vec::new(alloc)))?;
+    }
+    Ok(Items::from_vec(choices))
+}
+
+/// The text of the rows of legs without choices.
+fn text_unchosen(
+    alloc: Global,
+    keys: HashKeys,
+    plan: &Plan,
+    input: &Input,
+    legs: Vec<LegSpec>,
+) -> Result<String, JobFault>
+    requires belongs { BelongsTo plan.now input.now }
+    requires scales { All (λ leg. IsScale plan.now leg.scale) legs.items }
+    requires list { are_legs legs.items ≡ true }
+    ensures { EndsRun string_bytes (Ok (run_job plan.now input.now (Some legs.items))) result }
+{
+    let choices = no_choices(alloc, legs.len())?;
+    text_by(alloc, keys, plan, input, legs, choices.as_slice())
+}
+
+/// The text of the rows of legs by the choices that a text says.
+fn text_chosen(
+    alloc: Global,
+    keys: HashKeys,
+    plan: &Plan,
+    input: &Input,
+    legs: Vec<LegSpec>,
+    choices: &[u8],
+) -> Result<String, JobFault>
+    requires belongs { BelongsTo plan.now input.now }
+    requires scales { All (λ leg. IsScale plan.now leg.scale) legs.items }
+    requires list { are_legs legs.items ≡ true }
+    ensures { EndsRun string_bytes (choices_in plan.now input.now legs.items (Some choices.now)) result }
+{
+    let choices = read_choices(alloc, choices, legs.len())?;
+    text_by(alloc, keys, plan, input, legs, choices.as_slice())
+}
+
 /// The text of the rows of a job that runs in legs.
 fn text_of_legs(
     alloc: Global,
@@ -49,13 +118,16 @@ fn text_of_legs(
     plan: &Plan,
     input: &Input,
     legs: &[u8],
+    choices: Option<&[u8]>,
 ) -> Result<String, JobFault>
     requires { BelongsTo plan.now input.now }
-    ensures { EndsRun string_bytes (legs_in plan.now input.now legs.now) result }
+    ensures { EndsRun string_bytes (legs_in plan.now input.now legs.now (option_map (λ bytes. bytes.now) choices.entry)) result }
 {
     let legs = read_legs(alloc, plan, legs)?;
-    let end = run_legs_by(alloc, keys, plan, input, legs)?;
-    Ok(text_of_rows(alloc, &end.rows)?)
+    match choices {
+        Some(choices) => text_chosen(alloc, keys, plan, input, legs, choices),
+        None => text_unchosen(alloc, keys, plan, input, legs),
+    }
 }
 
 /// The job of a plan and an input.
@@ -65,12 +137,13 @@ fn run_on_input(
     plan: &Plan,
     input: &Input,
     legs: Option<&[u8]>,
+    choices: Option<&[u8]>,
 ) -> Result<String, JobFault>
     requires { BelongsTo plan.now input.now }
-    ensures { EndsRun string_bytes (run_with plan.now input.now (option_map (λ bytes. bytes.now) legs.entry)) result }
+    ensures { EndsRun string_bytes (run_with plan.now input.now (option_map (λ bytes. bytes.now) legs.entry) (option_map (λ bytes. bytes.now) choices.entry)) result }
 {
     match legs {
-        Some(legs) => text_of_legs(alloc, keys, plan, input, legs),
+        Some(legs) => text_of_legs(alloc, keys, plan, input, legs, choices),
         None => rows_text(alloc, keys, plan, input),
     }
 }
@@ -82,11 +155,12 @@ fn run_of_plan(
     plan: &Plan,
     input: &[u8],
     legs: Option<&[u8]>,
+    choices: Option<&[u8]>,
 ) -> Result<String, JobFault>
-    ensures { EndsRun string_bytes (run_by plan.now input.now (option_map (λ bytes. bytes.now) legs.entry)) result }
+    ensures { EndsRun string_bytes (run_by plan.now input.now (option_map (λ bytes. bytes.now) legs.entry) (option_map (λ bytes. bytes.now) choices.entry)) result }
 {
     let input = Input::read(alloc, plan, input)?;
-    run_on_input(alloc, keys, plan, &input, legs)
+    run_on_input(alloc, keys, plan, &input, legs, choices)
 }
 
 /// The job that texts tell.
@@ -96,11 +170,12 @@ fn run_of_texts(
     plan: &[u8],
     input: &[u8],
     legs: Option<&[u8]>,
+    choices: Option<&[u8]>,
 ) -> Result<String, JobFault>
-    ensures { EndsRun string_bytes (run_said plan.now input.now (option_map (λ bytes. bytes.now) legs.entry)) result }
+    ensures { EndsRun string_bytes (run_said plan.now input.now (option_map (λ bytes. bytes.now) legs.entry) (option_map (λ bytes. bytes.now) choices.entry)) result }
 {
     let plan = Plan::read(alloc, plan)?;
-    run_of_plan(alloc, keys, &plan, input, legs)
+    run_of_plan(alloc, keys, &plan, input, legs, choices)
 }
 
 /// Runs a plan on a bounded input, in legs where a list of them is given, each from what the one before left, and writes the
@@ -119,9 +194,33 @@ pub fn job_run<W: Write>(
     legs: Option<&[u8]>,
     out: &mut W,
 ) -> Result<(), JobFault>
-    ensures answers { Answers (run_said plan.now input.now (option_map (λ bytes. bytes.now) legs.entry)) result (W.contents out.old) (W.contents out.new) }
+    ensures answers { Answers (run_said plan.now input.now (option_map (λ bytes. bytes.now) legs.entry) None) result (W.contents out.old) (W.contents out.new) }
     ensures kept { KeepsWriter result (W.contents out.old) (W.contents out.new) }
 {
-    let text = run_of_texts(alloc, keys, plan, input, legs)?;
+    let text = run_of_texts(alloc, keys, plan, input, legs, None)?;
+    write_text(out, text.as_str())
+}
+
+/// Runs a plan on a bounded input in the legs of a list, as `job_run` does, by an order of steps that choices pick: a list of
+/// them for each leg. Whatever they are, the text that it writes is the same.
+///
+/// # Errors
+///
+/// The plan's fault, else the input's, else that of the list of legs, else `Leg` with `Choices` where the choices are no list for
+/// each leg; then `Leg` with `StopRange` where a leg cannot stop as it is to, from where the one before stopped; `Write` where
+/// the writer refuses the text; `Memory`.
+pub fn job_simulate<W: Write>(
+    alloc: Global,
+    keys: HashKeys,
+    plan: &[u8],
+    input: &[u8],
+    legs: &[u8],
+    choices: &[u8],
+    out: &mut W,
+) -> Result<(), JobFault>
+    ensures answers { Answers (run_said plan.now input.now (Some legs.now) (Some choices.now)) result (W.contents out.old) (W.contents out.new) }
+    ensures kept { KeepsWriter result (W.contents out.old) (W.contents out.new) }
+{
+    let text = run_of_texts(alloc, keys, plan, input, Some(legs), Some(choices))?;
     write_text(out, text.as_str())
 }

@@ -1,19 +1,15 @@
-use Rattle.std.proofs.Common.{◌∙◌, ap}
-use Rattle.job_texts.specs.ShowText.{savepoint_text}
-use Rattle.job.proofs.ShowAnswers.{save_refused, show_without_memory, shown}
+use Rattle.std.proofs.Common.{◌∙◌, Ok, ap, sym}
+use Rattle.std.specs.Io.KnownBytes.{Appends}
+use Rattle.job.specs.Show.{show_said}
+use Rattle.job.proofs.TextAnswers.{show_unwritten, tells_refused, tells_written}
 use Rattle.job.proofs.show.job_show.Goals as goal
-
-pub returns-in_err-savepoint-clause-answers : goal.returns-in_err-savepoint-clause-answers
-returns-in_err-savepoint-clause-answers g c =
-    save_refused c.args.savepoint.now c.in_err-savepoint.field-0.0 c.from_residual.result (g.W.Write.contents c.args.out.now) (g.W.Write.contents c.args.out.now) c.in_err-savepoint.ensures.exact c.from_residual.ensures.0
-    c.from_residual.ensures.1
 
 pub returns-in_err-text-clause-answers : goal.returns-in_err-text-clause-answers
 returns-in_err-text-clause-answers g c =
-    show_without_memory c.args.savepoint.now c.from_residual-in_err-text.result (g.W.Write.contents c.args.out.now) (g.W.Write.contents c.args.out.now) c.from_residual-in_err-text.ensures.0
-    c.from_residual-in_err-text.ensures.1
+    let old = g.W.Write.contents c.args.out.now in
+    tells_refused (λ text. Appends old old text) (show_said c.args.savepoint.now) c.in_err-text.field-0.0 c.from_residual.result c.from_residual.ensures.0 c.from_residual.ensures.1 (show_unwritten c.args.savepoint.now) c.in_err-text.ensures
 
 pub returns-clause-answers : goal.returns-clause-answers
 returns-clause-answers g c =
-    shown c.args.savepoint.now c.in_ok-savepoint.savepoint _ c.write_text.result (g.W.Write.contents c.args.out.now) (g.W.Write.contents c.write_text.new.out) c.in_ok-savepoint.ensures.exact
-    (c.as_str.ensures.value ∙ c.in_ok-text.ensures ∙ ap savepoint_text c.contents.ensures.says) c.write_text.ensures
+    tells_written (λ text. Appends (g.W.Write.contents c.args.out.now) (g.W.Write.contents c.write_text.new.out) text) (show_said c.args.savepoint.now) c.as_str.result.now c.write_text.result
+    (c.in_ok-text.ensures ∙ ap Ok (sym c.as_str.ensures.value)) c.write_text.ensures

@@ -1,7 +1,7 @@
 //! Writers of which a clause says nothing: what they hold is known after a flush alone.
 
-use super::{INPUT, PLAN, ROWS};
-use crate::{HashKeys, JobFault, job_group, job_layout, job_run};
+use crate::jobs::{INPUT, PLAN, ROWS};
+use job::{HashKeys, JobFault, job_group, job_layout, job_run};
 use std::io::{Error, ErrorKind, Result as IoResult, Write};
 use std::test::Fail;
 

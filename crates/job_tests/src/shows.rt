@@ -1,4 +1,4 @@
-use super::*;
+use job::{JobFault, job_show};
 use savepoint_codec::SaveFault;
 use std::test::Fail;
 

@@ -1,6 +1,7 @@
-use super::*;
-use crate::tests::PLAN;
+use crate::jobs::PLAN;
+use job::{JobFault, job_layout};
 use plan_compiler::ScaleFault;
+use std::alloc::Global;
 use std::test::Fail;
 
 const SCALE: &str = r#"{"ring":4,"operators":{"s":{"parallelism":2},"w":{"parallelism":3}}}"#;

@@ -1,5 +1,5 @@
-use crate::tests::{INPUT, PLAN, ROWS};
-use crate::{HashKeys, JobFault, job_leg};
+use crate::jobs::{INPUT, PLAN, ROWS};
+use job::{HashKeys, JobFault, job_leg};
 use leg_lists::LegFault;
 use plan_compiler::ScaleFault;
 use restore::RestoreFault;

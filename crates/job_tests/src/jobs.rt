@@ -1,10 +1,9 @@
-use crate::{HashKeys, JobFault, fault_line, job_run, status_of};
+use job::{HashKeys, JobFault, fault_line, job_run, status_of};
 use logical_plan::PlanFault;
 use plan_compiler::ScaleFault;
+use std::random::RandomSource;
 use std::test::Fail;
 use stream_input::InputFault;
-
-mod writers;
 
 pub const PLAN: &str =
     r#"{"columns":3,"maxParallelism":128,"time":0,"key":1,"sources":[{"uid":"s","partitions":2}],"window":{"uid":"w","size":10,"slide":10,"offset":0,"aggregates":[{"fn":"count"},{"fn":"sum","column":2},{"fn":"least","column":2},{"fn":"greatest","column":2}]}}"#;
@@ -14,18 +13,29 @@ pub const INPUT: &str =
 
 pub const ROWS: &str = "0 10 0 1 4 4 4\n0 10 1 1 5 5 5\n10 20 0 1 -3 -3 -3\n10 20 1 2 9 2 7\n";
 
-#[test]
-fn rows_by_start_and_key(rt: HostRuntime) -> Result<(), Fail> {
+/// What is written of a plan on an input.
+fn rows_of(
+    rt: &(impl AllocGlobal + RandomSource),
+    plan: &str,
+    input: &str,
+) -> Result<Vec<u8>, Fail> {
     let mut out = Vec::new(rt.alloc());
+    let keys = HashKeys::random(rt)?;
     job_run(
         rt.alloc(),
-        HashKeys::random(&rt)?,
-        PLAN.as_bytes(),
-        INPUT.as_bytes(),
+        keys,
+        plan.as_bytes(),
+        input.as_bytes(),
         None,
         &mut out,
     )?;
-    assert_eq!(rt; out.as_slice(), ROWS.as_bytes());
+    Ok(out)
+}
+
+#[test]
+fn rows_by_start_and_key(rt: HostRuntime) -> Result<(), Fail> {
+    let rows = rows_of(&rt, PLAN, INPUT)?;
+    assert_eq!(rt; rows.as_slice(), ROWS.as_bytes());
     Ok(())
 }
 
@@ -122,36 +132,52 @@ fn refusals_write_nothing(rt: HostRuntime) -> Result<(), Fail> {
     Ok(())
 }
 
+/// Faults, the line that tells each, and the status that it ends with.
+const LINES: [(JobFault, &str, u8); 9] = [
+    (JobFault::Plan(PlanFault::UidTwice), "P9 UidTwice", 3),
+    (JobFault::Plan(PlanFault::Panes), "P14 Panes", 3),
+    (JobFault::Input(InputFault::TooMany), "I10 TooMany", 3),
+    (JobFault::Scale(ScaleFault::Tasks), "S7 Tasks", 3),
+    (JobFault::Cut, "C1 Cut", 2),
+    (JobFault::Number, "C2 Number", 2),
+    (JobFault::Read, "F1 Read", 3),
+    (JobFault::Write, "F2 Write", 3),
+    (JobFault::Memory, "memory", 4),
+];
+
 #[test]
 fn lines_and_statuses(rt: HostRuntime) -> Result<(), Fail> {
-    for (fault, line, status) in [
-        (JobFault::Plan(PlanFault::UidTwice), "P9 UidTwice", 3),
-        (JobFault::Plan(PlanFault::Panes), "P14 Panes", 3),
-        (JobFault::Input(InputFault::TooMany), "I10 TooMany", 3),
-        (JobFault::Scale(ScaleFault::Tasks), "S7 Tasks", 3),
-        (JobFault::Cut, "C1 Cut", 2),
-        (JobFault::Number, "C2 Number", 2),
-        (JobFault::Read, "F1 Read", 3),
-        (JobFault::Write, "F2 Write", 3),
-        (JobFault::Memory, "memory", 4),
-    ] {
-        assert_eq!(rt; fault_line(rt.alloc(), &fault)?.as_str(), line);
-        assert_eq!(rt; status_of(&fault), status, "at {line}");
+    for (fault, line, status) in &LINES {
+        assert_eq!(rt; fault_line(rt.alloc(), fault)?.as_str(), *line);
+        assert_eq!(rt; status_of(fault), *status, "at {line}");
     }
     Ok(())
 }
 
-#[test]
-fn a_writer_that_is_full(rt: HostRuntime) {
-    let mut bytes = [0; 20];
-    let mut out = bytes.as_mut_slice();
+/// Why a plan on an input is not written into so little room.
+fn fault_in(
+    rt: &(impl AllocGlobal + RandomSource),
+    plan: &str,
+    input: &str,
+    room: &mut [u8],
+) -> Result<Option<JobFault>, Fail> {
+    let mut out = room;
+    let keys = HashKeys::random(rt)?;
     let said = job_run(
         rt.alloc(),
-        HashKeys::random(&rt).expect(&rt, "no random bytes"),
-        PLAN.as_bytes(),
-        INPUT.as_bytes(),
+        keys,
+        plan.as_bytes(),
+        input.as_bytes(),
         None,
         &mut out,
     );
-    assert_eq!(rt; said.err(), Some(JobFault::Write));
+    Ok(said.err())
+}
+
+#[test]
+fn a_writer_that_is_full(rt: HostRuntime) -> Result<(), Fail> {
+    let mut bytes = [0; 20];
+    let fault = fault_in(&rt, PLAN, INPUT, &mut bytes)?;
+    assert_eq!(rt; fault, Some(JobFault::Write));
+    Ok(())
 }

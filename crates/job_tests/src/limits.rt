@@ -1,5 +1,5 @@
 //! Jobs at the limits of what the formats allow, which find the memory that they need.
-use crate::{HashKeys, job_layout, job_run};
+use job::{HashKeys, job_layout, job_run};
 use std::test::Fail;
 
 const PLAN: &str =
