@@ -3,7 +3,7 @@ import collections
 import itertools
 
 from .jobs import (
-    Refusal, SINK, ends_of, leg, nothing_of, read_cut, read_input, read_legs, read_plan, read_scale, require_stop, text_of,
+    Refusal, SINK, ends_of, leg, nothing_of, read_cut, read_input, read_legs, read_plan, read_scale, require_choices, require_stop, text_of,
 )
 from .savepoints import check, decode, encode, savepoint_of
 
@@ -16,11 +16,13 @@ def answer(command, files, *words):
         return refusal.status(), "", f"{refusal}\n"
 
 
-def run(files, plan, input_, legs=None):
-    """The answer of `run`, in one leg or in those of a list."""
+def run(files, plan, input_, legs=None, choices=None):
+    """The answer of `run`, in one leg or in those of a list, and of `simulate`, which has choices as well."""
     plan = read_plan(files[plan])
     sources = read_input(plan, files[input_])
     cuts = [None] if legs is None else read_legs(plan, files[legs])
+    if choices is not None:
+        require_choices(files[choices], len(cuts))
     start, rows = nothing_of(sources), []
     for cut in cuts:
         if cut is not None:
@@ -86,4 +88,4 @@ def lines_of(lines):
     return "".join(" ".join(map(str, line)) + "\n" for line in lines)
 
 
-COMMANDS = {"run": run, "leg": run_leg, "layout": layout, "show": show}
+COMMANDS = {"run": run, "simulate": run, "leg": run_leg, "layout": layout, "show": show}

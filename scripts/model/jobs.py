@@ -114,6 +114,7 @@ IS_PLAN = members(
 IS_ENTRY = either(members({"rows": list_of(is_list)}), members({"watermark": lambda value: True}))
 IS_INPUT = members_alike(list_of(list_of(IS_ENTRY)))
 IS_LEGS = list_of(members({"scale": lambda value: True}, {"stop": list_of(list_of(lambda value: type(value) is int and 0 <= value < 2**64))}))
+IS_CHOICES = list_of(list_of(lambda value: type(value) is int and 0 <= value < 2**32))
 IS_SCALE = members({"ring": is_number, "operators": members_alike(members({"parallelism": is_number}, {"chain": is_flag}))})
 
 
@@ -345,6 +346,12 @@ def read_legs(plan, data):
         stages_at(plan, leg_of_list["scale"])
     require(1 <= len(legs) <= 1024 and all("stop" in leg_of_list for leg_of_list in legs[:-1]), "L3 Legs")
     return [leg_of_list.get("stop") for leg_of_list in legs]
+
+
+def require_choices(data, legs):
+    """Refuses what is no list of choices for each of so many legs; what they are changes no answer."""
+    choices = json_of(data, "L6 Choices")
+    require(IS_CHOICES(choices) and len(choices) == legs, "L6 Choices")
 
 
 def require_stop(sources, start, cut):

@@ -135,6 +135,18 @@ def next_cut(chance, sources, least):
     return chance.choice([same, ends, *(cut_of(chance, sources, least) for _ in range(3))])
 
 
+def choices_of(chance, legs, most):
+    """For each of so many legs a list of at most so many choices, now and then of one number alone."""
+    def choice():
+        return chance.choice([0, 1, chance.randrange(8), chance.randrange(8), chance.randrange(2**32), 2**32 - 1])
+
+    def choices():
+        count, one = chance.randint(0, chance.choice([0, 4, most, most])), choice()
+        return [one] * count if chance.random() < 0.2 else [choice() for _ in range(count)]
+
+    return [choices() for _ in range(legs)]
+
+
 def word_of(cut):
     return "/".join(",".join(map(str, counts)) for counts in cut)
 

@@ -1,2 +1,3 @@
-mod Named
+mod Commands
 mod Shapes
+mod Subcommands

@@ -1,4 +1,4 @@
-pub mod Answers
 pub mod Outcome
+pub mod Reading
 pub mod Status
 pub mod Words

@@ -6,9 +6,9 @@ use Rattle.std.specs.declared.io.ErrorKind.TheVariants as io
 use Rattle.clap.specs.Words.{kind_of}
 use Rattle.clap.specs.declared.error.kind.ErrorKind.{ErrorKind as Mistake}
 use Rattle.clap.specs.declared.error.kind.ErrorKind.TheVariants as clap
-use Rattle.job_texts.specs.FaultText.{status as fault_status}
-use Rattle.command_line.specs.declared.run.Refusal.{Refusal}
-use Rattle.command_line.specs.declared.run.Refusal.TheVariants.{Unread, Words, Fault, NoPage}
+use Rattle.commands.specs.Status.{command_status}
+use Rattle.command_line.specs.declared.outcomes.Refusal.{Refusal}
+use Rattle.command_line.specs.declared.outcomes.Refusal.TheVariants.{Unread, Words, Fault}
 
 -- of words that are no text
 abbrev pub unread_status : ErrorKind → ℕ
@@ -23,8 +23,7 @@ words_status _ = 2
 abbrev pub refusal_status : Refusal → ℕ
 refusal_status (Unread error) = unread_status (error_kind error)
 refusal_status (Words error) = words_status (kind_of error)
-refusal_status (Fault fault) = fault_status fault
-refusal_status NoPage = 2
+refusal_status (Fault fault) = command_status fault
 
 -- 0 for a command that is done, and else the refusal's
 abbrev pub status : Result (Unit {0}) Refusal → ℕ

@@ -1,6 +1,6 @@
 -- The words that the program takes.
 use Rattle.std.specs.Prelude.{◌≡◌, ℕ, List, [], ◌∷◌, ◌++◌, Some, map, codes, true, false}
-use Rattle.clap.specs.Words.{Rule, App, Shape, app_of, new_rule}
+use Rattle.clap.specs.Words.{Rule, App, Shape, app_of, new_rule, with_subcommand}
 use Rattle.clap.specs.Simple.{new_shape}
 use Rattle.clap.specs.declared.builder.command.Command.TheViews.{out-Command as fields_of}
 use Rattle.clap.specs.declared.builder.command.Command.{Command}
@@ -17,12 +17,12 @@ option_rule name = record (new_rule name) { long = Some name; value_names = 1 }
 abbrev pub command_shape : List ℕ → List (List ℕ) → Shape
 command_shape name words = record (new_shape name) { rules = map required_rule words }
 
-abbrev pub run_files_shape : Shape
-run_files_shape = command_shape (codes "run") (codes "PLAN" ∷ codes "INPUT" ∷ [])
-
 -- a run's files, and one that may be left out
 abbrev pub run_shape : Shape
-run_shape = record run_files_shape { rules = run_files_shape.rules ++ new_rule (codes "LEGS") ∷ [] }
+run_shape = record (new_shape (codes "run")) { rules = required_rule (codes "PLAN") ∷ required_rule (codes "INPUT") ∷ new_rule (codes "LEGS") ∷ [] }
+
+abbrev pub simulate_shape : Shape
+simulate_shape = command_shape (codes "simulate") (codes "PLAN" ∷ codes "INPUT" ∷ codes "LEGS" ∷ codes "CHOICES" ∷ [])
 
 abbrev pub leg_files_shape : Shape
 leg_files_shape = command_shape (codes "leg") (codes "PLAN" ∷ codes "INPUT" ∷ codes "SCALE" ∷ [])
@@ -33,6 +33,9 @@ leg_shape = record leg_files_shape { rules = leg_files_shape.rules ++ option_rul
 
 abbrev pub layout_shape : Shape
 layout_shape = command_shape (codes "layout") (codes "PLAN" ∷ codes "SCALE" ∷ [])
+
+abbrev pub check_shape : Shape
+check_shape = command_shape (codes "check") (codes "PLAN" ∷ [])
 
 abbrev pub show_shape : Shape
 show_shape = command_shape (codes "show") (codes "SAVEPOINT" ∷ [])
@@ -50,14 +53,25 @@ version_shape = command_shape (codes "version") []
 abbrev pub top : App
 top = record { top = record (new_shape (codes "streamjob")) { subcommand_required = true }; subs = [] }
 
--- and that is one of seven
+-- the commands that run a job, and with them those that look at what a job is made of
+abbrev pub jobs : App
+jobs = with_subcommand (with_subcommand (with_subcommand top run_shape) simulate_shape) leg_shape
+
+abbrev pub views : App
+views = with_subcommand (with_subcommand (with_subcommand (with_subcommand jobs layout_shape) check_shape) show_shape) group_shape
+
+-- and that is one of nine
 abbrev pub program : App
 program = record {
   top = record top.top { is_leaf = false };
-  subs = run_shape ∷ leg_shape ∷ layout_shape ∷ show_shape ∷ group_shape ∷ explain_shape ∷ version_shape ∷ [];
+  subs = run_shape ∷ simulate_shape ∷ leg_shape ∷ layout_shape ∷ check_shape ∷ show_shape ∷ group_shape ∷ explain_shape ∷ version_shape ∷ [];
 }
 
 -- a command of such a shape, without commands below it
 pub record IsCommand (shape : Shape) (command : Command) : Type 0 where
   pub app : app_of command ≡ record { top = shape; subs = [] }
   pub globals : (fields_of command).has_globals ≡ false
+
+-- a command with one rule more
+abbrev pub AddsRule : Rule → Command → Command → Type 0
+AddsRule rule old new = (shape : Shape) → IsCommand shape old → IsCommand (record shape { rules = shape.rules ++ rule ∷ [] }) new

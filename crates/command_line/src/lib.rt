@@ -1,10 +1,10 @@
-//! The program's command line: words in, files read whole, text out, and the status to end with.
+//! The program's command line: words in, a command done, and the status to end with.
 #![tactic(auto)]
 
-mod commands;
-mod files;
-mod run;
-mod saving;
+mod outcomes;
+mod reading;
+mod statuses;
 mod words;
 
-pub use run::{Refusal, outcome, status};
+pub use outcomes::{Refusal, outcome};
+pub use statuses::status;

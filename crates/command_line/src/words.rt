@@ -1,34 +1,56 @@
 //! The words of the command line.
 
-ghost use Rattle.std.specs.Prelude.{◌≡◌, false, IfOk};
-ghost use Rattle.clap.specs.Words.{app_of, new_rule, rule_of};
-ghost use Rattle.command_line.specs.Words.{IsCommand, required_rule, option_rule, run_files_shape, run_shape, leg_files_shape, leg_shape, layout_shape, show_shape, group_shape, explain_shape, version_shape, top, program};
+ghost use Rattle.std.specs.Prelude.{◌≡◌, IfOk};
+ghost use Rattle.clap.specs.Words.{app_of, new_rule};
+ghost use Rattle.clap.specs.Simple.{new_shape};
+ghost use Rattle.command_line.specs.Words.{AddsRule, IsCommand, required_rule, option_rule, run_shape, simulate_shape, leg_files_shape, leg_shape, layout_shape, check_shape, show_shape, group_shape, explain_shape, version_shape, top, jobs, views, program};
 
 use clap::{Arg, Command};
 use std::alloc::{AllocError, Global};
 
-fn required<'a>(alloc: Global, name: &'a str, help: &'a str) -> Arg<'a>
-    ensures rule { rule_of result ≡ required_rule name.now }
-    ensures local { result.global ≡ false }
+/// A command without words.
+fn named<'a>(alloc: Global, name: &'a str, about: &'a str, help: &'a str) -> Command<'a>
+    ensures { IsCommand (new_shape name.now) result }
 {
-    Arg::new(alloc, name).required(true).help(help)
+    Command::new(alloc, name).about(about).after_help(help)
 }
 
-fn option<'a>(alloc: Global, name: &'a str, value: &'a str, help: &'a str) -> Arg<'a>
-    ensures rule { rule_of result ≡ option_rule name.now }
-    ensures local { result.global ≡ false }
+/// With one word more, that has to be there.
+fn required<'a>(
+    alloc: Global,
+    command: Command<'a>,
+    name: &'a str,
+    help: &'a str,
+) -> Result<Command<'a>, AllocError>
+    ensures { IfOk result (λ c. AddsRule (required_rule name.now) command.entry c) }
 {
-    Arg::new(alloc, name)
-        .long(name)
-        .value_name(value)
-        .help(help)
+    command.arg(Arg::new(alloc, name).required(true).help(help))
 }
 
-fn optional<'a>(alloc: Global, name: &'a str, help: &'a str) -> Arg<'a>
-    ensures rule { rule_of result ≡ new_rule name.now }
-    ensures local { result.global ≡ false }
+/// With one word more, that may be left out.
+fn optional<'a>(
+    alloc: Global,
+    command: Command<'a>,
+    name: &'a str,
+    help: &'a str,
+) -> Result<Command<'a>, AllocError>
+    ensures { IfOk result (λ c. AddsRule (new_rule name.now) command.entry c) }
 {
-    Arg::new(alloc, name).help(help)
+    command.arg(Arg::new(alloc, name).help(help))
+}
+
+/// With one option more, which has a value.
+fn option<'a>(
+    alloc: Global,
+    command: Command<'a>,
+    name: &'a str,
+    value: &'a str,
+    help: &'a str,
+) -> Result<Command<'a>, AllocError>
+    ensures { IfOk result (λ c. AddsRule (option_rule name.now) command.entry c) }
+{
+    let arg = Arg::new(alloc, name).long(name).value_name(value);
+    command.arg(arg.help(help))
 }
 
 const PLAN: &str = "JSON file of the job: sources, filters, and one window with its aggregates";
@@ -56,27 +78,47 @@ All files are read before anything is done. A file may be /dev/stdin, once in a 
 pipe brings.
 
 Exit status: 0 done; 2 words that are not understood, or help; 3 a file that cannot be read or
-written, or a plan, input, scale, savepoint or cut that is refused; 4 no memory. Standard error
-says what is refused, and `streamjob explain CODE` what to do.
+written, a plan, input, scale, list of legs, choices or savepoint that is refused, or a cut that a
+leg cannot stop at; 4 no memory. Standard error says what is refused, and `streamjob explain CODE`
+what to do.
 
 Example: streamjob run plan.json input.json
 Page: docs/GUIDE.md";
 
-/// The files that a run always reads.
-fn run_files<'a>(alloc: Global) -> Result<Command<'a>, AllocError>
-    ensures { IfOk result (λ c. IsCommand run_files_shape c) }
-{
-    Command::new(alloc, "run")
-        .about("Run a plan on an input and print its rows")
-        .after_help(RUN)
-        .arg(required(alloc, "PLAN", PLAN))?
-        .arg(required(alloc, "INPUT", INPUT))
-}
-
 fn run_words<'a>(alloc: Global) -> Result<Command<'a>, AllocError>
     ensures { IfOk result (λ c. IsCommand run_shape c) }
 {
-    run_files(alloc)?.arg(optional(alloc, "LEGS", LEGS))
+    let command = named(
+        alloc,
+        "run",
+        "Run a plan on an input and print its rows",
+        RUN,
+    );
+    let command = required(alloc, command, "PLAN", PLAN)?;
+    let command = required(alloc, command, "INPUT", INPUT)?;
+    optional(alloc, command, "LEGS", LEGS)
+}
+
+const CHOICES: &str =
+    "JSON file of the choices: for each leg a list of numbers that pick its steps";
+
+const SIMULATE: &str = "\
+It prints what `run` prints with LEGS, whatever the choices are. Before each step the steps that can
+be made are put in order; of K of them choice C makes the one at place C modulo K, from 0. After the
+last choice of a leg the steps are those that `run` makes.
+
+Example: streamjob simulate plan.json input.json legs.json choices.json
+Page: docs/FORMATS.md, under List of legs and Choices";
+
+fn simulate_words<'a>(alloc: Global) -> Result<Command<'a>, AllocError>
+    ensures { IfOk result (λ c. IsCommand simulate_shape c) }
+{
+    let about = "Run a job in legs by an order of steps that you choose, and print its rows";
+    let command = named(alloc, "simulate", about, SIMULATE);
+    let command = required(alloc, command, "PLAN", PLAN)?;
+    let command = required(alloc, command, "INPUT", INPUT)?;
+    let command = required(alloc, command, "LEGS", LEGS)?;
+    required(alloc, command, "CHOICES", CHOICES)
 }
 
 const LEG: &str = "\
@@ -93,31 +135,42 @@ Page: docs/FORMATS.md, under Scale and Cut";
 fn leg_files<'a>(alloc: Global) -> Result<Command<'a>, AllocError>
     ensures { IfOk result (λ c. IsCommand leg_files_shape c) }
 {
-    Command::new(alloc, "leg")
-        .about("Run one leg of a job at a scale and print its rows")
-        .after_help(LEG)
-        .arg(required(alloc, "PLAN", PLAN))?
-        .arg(required(alloc, "INPUT", INPUT))?
-        .arg(required(alloc, "SCALE", SCALE))
+    let command = named(
+        alloc,
+        "leg",
+        "Run one leg of a job at a scale and print its rows",
+        LEG,
+    );
+    let command = required(alloc, command, "PLAN", PLAN)?;
+    let command = required(alloc, command, "INPUT", INPUT)?;
+    required(alloc, command, "SCALE", SCALE)
 }
 
 fn leg_words<'a>(alloc: Global) -> Result<Command<'a>, AllocError>
     ensures { IfOk result (λ c. IsCommand leg_shape c) }
 {
-    leg_files(alloc)?
-        .arg(option(alloc, "from", "FILE", "File of the savepoint to go on from"))?
-        .arg(option(
-            alloc,
-            "stop",
-            "CUT",
-            "Where to stop, before the end of the input",
-        ))?
-        .arg(option(
-            alloc,
-            "save",
-            "FILE",
-            "File to write the savepoint to, if the leg stops",
-        ))
+    let command = leg_files(alloc)?;
+    let command = option(
+        alloc,
+        command,
+        "from",
+        "FILE",
+        "File of the savepoint to go on from",
+    )?;
+    let command = option(
+        alloc,
+        command,
+        "stop",
+        "CUT",
+        "Cut to stop at; without it the leg goes to the end of the input",
+    )?;
+    option(
+        alloc,
+        command,
+        "save",
+        "FILE",
+        "File to write the savepoint to, if the leg stops",
+    )
 }
 
 const LAYOUT: &str = "\
@@ -132,11 +185,25 @@ Page: docs/FORMATS.md, under Layout";
 fn layout_words<'a>(alloc: Global) -> Result<Command<'a>, AllocError>
     ensures { IfOk result (λ c. IsCommand layout_shape c) }
 {
-    Command::new(alloc, "layout")
-        .about("Print the stages, edges, partitions and key groups of a plan at a scale")
-        .after_help(LAYOUT)
-        .arg(required(alloc, "PLAN", PLAN))?
-        .arg(required(alloc, "SCALE", SCALE))
+    let about = "Print the stages, edges, partitions and key groups of a plan at a scale";
+    let command = named(alloc, "layout", about, LAYOUT);
+    let command = required(alloc, command, "PLAN", PLAN)?;
+    required(alloc, command, "SCALE", SCALE)
+}
+
+const CHECK: &str = "\
+It prints nothing of a plan that is right. Of another each place, up to 20, at which the requirement
+that standard error names is not met: `FILE:LINE:COLUMN: what stands there, and what has to`.
+
+Example: streamjob check plan.json
+Page: docs/FORMATS.md, under Plan";
+
+fn check_words<'a>(alloc: Global) -> Result<Command<'a>, AllocError>
+    ensures { IfOk result (λ c. IsCommand check_shape c) }
+{
+    let about = "Print the places at which a plan is refused";
+    let command = named(alloc, "check", about, CHECK);
+    required(alloc, command, "PLAN", PLAN)
 }
 
 const SHOW: &str = "\
@@ -150,11 +217,11 @@ Page: docs/FORMATS.md, under Show";
 fn show_words<'a>(alloc: Global) -> Result<Command<'a>, AllocError>
     ensures { IfOk result (λ c. IsCommand show_shape c) }
 {
-    Command::new(alloc, "show")
-        .about("Print what a savepoint holds")
-        .after_help(SHOW)
-        .arg(required(alloc, "SAVEPOINT", "File of the savepoint"))
+    let command = named(alloc, "show", "Print what a savepoint holds", SHOW);
+    required(alloc, command, "SAVEPOINT", "File of the savepoint")
 }
+
+const KEY: &str = "Key, a whole number of 64 bits (a negative one after --)";
 
 const GROUP: &str = "\
 It prints one line `GROUP OWNER`. Groups are those of Apache Flink for a key of 64 bits.
@@ -165,16 +232,16 @@ Page: docs/FORMATS.md, under Group";
 fn group_words<'a>(alloc: Global) -> Result<Command<'a>, AllocError>
     ensures { IfOk result (λ c. IsCommand group_shape c) }
 {
-    Command::new(alloc, "group")
-        .about("Print the key group of a key and the subtask that owns the group")
-        .after_help(GROUP)
-        .arg(required(
-            alloc,
-            "KEY",
-            "Key, a whole number of 64 bits (a negative one after --)",
-        ))?
-        .arg(required(alloc, "MAX", "Number of key groups, 1 to 32768"))?
-        .arg(required(alloc, "PAR", "Number of subtasks, 1 to 64 and at most MAX"))
+    let about = "Print the key group of a key and the subtask that owns the group";
+    let command = named(alloc, "group", about, GROUP);
+    let command = required(alloc, command, "KEY", KEY)?;
+    let command = required(alloc, command, "MAX", "Number of key groups, 1 to 32768")?;
+    required(
+        alloc,
+        command,
+        "PAR",
+        "Number of subtasks, 1 to 64 and at most MAX",
+    )
 }
 
 const EXPLAIN: &str = "\
@@ -187,10 +254,9 @@ Page: docs/FAULTS.md, which has them all";
 fn explain_words<'a>(alloc: Global) -> Result<Command<'a>, AllocError>
     ensures { IfOk result (λ c. IsCommand explain_shape c) }
 {
-    Command::new(alloc, "explain")
-        .about("Print what a refusal means, a text that gives it, and what to do")
-        .after_help(EXPLAIN)
-        .arg(required(alloc, "CODE", "Code of the refusal"))
+    let about = "Print what a refusal means, a text that gives it, and what to do";
+    let command = named(alloc, "explain", about, EXPLAIN);
+    required(alloc, command, "CODE", "Code of the refusal")
 }
 
 const VERSION: &str = "\
@@ -202,19 +268,41 @@ Page: README.md, under What is trusted";
 fn version_words<'a>(alloc: Global) -> Command<'a>
     ensures { IsCommand version_shape result }
 {
-    Command::new(alloc, "version")
-        .about("Print the version of the program and of its toolchain")
-        .after_help(VERSION)
+    named(
+        alloc,
+        "version",
+        "Print the version of the program and of its toolchain",
+        VERSION,
+    )
 }
 
 /// The program's own words, without its commands.
 fn program_words<'a>(alloc: Global) -> Command<'a>
     ensures { app_of result ≡ top }
 {
-    Command::new(alloc, "streamjob")
-        .about("Count and sum records by key, in windows of event time")
-        .after_help(PROGRAM)
-        .subcommand_required(true)
+    let about = "Count and sum records by key, in windows of event time";
+    named(alloc, "streamjob", about, PROGRAM).subcommand_required(true)
+}
+
+/// The program's words with the commands that run a job.
+fn with_jobs<'a>(alloc: Global) -> Result<Command<'a>, AllocError>
+    ensures { IfOk result (λ c. app_of c ≡ jobs) }
+{
+    program_words(alloc)
+        .subcommand(run_words(alloc)?)?
+        .subcommand(simulate_words(alloc)?)?
+        .subcommand(leg_words(alloc)?)
+}
+
+/// The same with the commands that look at what a job is made of.
+fn with_views<'a>(alloc: Global) -> Result<Command<'a>, AllocError>
+    ensures { IfOk result (λ c. app_of c ≡ views) }
+{
+    with_jobs(alloc)?
+        .subcommand(layout_words(alloc)?)?
+        .subcommand(check_words(alloc)?)?
+        .subcommand(show_words(alloc)?)?
+        .subcommand(group_words(alloc)?)
 }
 
 /// The command and its subcommands.
@@ -225,12 +313,7 @@ fn program_words<'a>(alloc: Global) -> Command<'a>
 pub fn command<'a>(alloc: Global) -> Result<Command<'a>, AllocError>
     ensures { IfOk result (λ c. app_of c ≡ program) }
 {
-    program_words(alloc)
-        .subcommand(run_words(alloc)?)?
-        .subcommand(leg_words(alloc)?)?
-        .subcommand(layout_words(alloc)?)?
-        .subcommand(show_words(alloc)?)?
-        .subcommand(group_words(alloc)?)?
+    with_views(alloc)?
         .subcommand(explain_words(alloc)?)?
         .subcommand(version_words(alloc))
 }

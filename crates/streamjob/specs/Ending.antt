@@ -2,7 +2,7 @@
 use Rattle.std.specs.Prelude.{◌≡◌, ℕ, Result}
 use Rattle.command_line.specs.Outcome.{AnswersProgram}
 use Rattle.command_line.specs.Status.{status}
-use Rattle.command_line.specs.declared.run.Refusal.{Refusal}
+use Rattle.command_line.specs.declared.outcomes.Refusal.{Refusal}
 
 -- it is that of an outcome that the program's words may have
 abbrev pub EndsWith : ℕ → Type 0

@@ -1,0 +1,54 @@
+-- The command that words say.
+use Rattle.std.specs.Prelude.{◌≡◌, ℕ, List, [], Bool, true, false, ◌||◌, Option, Some, None, option_map, unwrap_or, bytes_eq, codes}
+use Rattle.clap.specs.Words.{first_value}
+use Rattle.clap.specs.declared.parser.matches.Found.{Found}
+use Rattle.commands.specs.declared.command.Command.{Command}
+use Rattle.commands.specs.declared.command.Command.TheVariants.{Run, Simulate, Leg, Layout, Check, Show, Group, Explain, Version}
+
+-- the word under a name
+abbrev pub word : Found → List ℕ → List ℕ
+word words name = unwrap_or (first_value words name) []
+
+-- the name of a command
+abbrev pub name_of : Command → List ℕ
+name_of (Run _ _ _) = codes "run"
+name_of (Simulate _ _ _ _) = codes "simulate"
+name_of (Leg _ _ _ _ _ _) = codes "leg"
+name_of (Layout _ _) = codes "layout"
+name_of (Check _) = codes "check"
+name_of (Show _) = codes "show"
+name_of (Group _ _ _) = codes "group"
+name_of (Explain _) = codes "explain"
+name_of Version = codes "version"
+
+-- the words of a command, each by its name
+abbrev pub HasWords : Found → Command → Type 0
+HasWords words (Run plan input legs) = (plan.now ≡ word words (codes "PLAN")) × (input.now ≡ word words (codes "INPUT")) × (option_map (λ w. w.now) legs ≡ first_value words (codes "LEGS"))
+HasWords words (Simulate plan input legs choices) =
+    (plan.now ≡ word words (codes "PLAN")) × (input.now ≡ word words (codes "INPUT")) × (legs.now ≡ word words (codes "LEGS")) × (choices.now ≡ word words (codes "CHOICES"))
+HasWords words (Leg plan input scale from stop save) =
+    (plan.now ≡ word words (codes "PLAN")) × (input.now ≡ word words (codes "INPUT")) × (scale.now ≡ word words (codes "SCALE"))
+    × (option_map (λ w. w.now) from ≡ first_value words (codes "from")) × (option_map (λ w. w.now) stop ≡ first_value words (codes "stop"))
+    × (option_map (λ w. w.now) save ≡ first_value words (codes "save"))
+HasWords words (Layout plan scale) = (plan.now ≡ word words (codes "PLAN")) × (scale.now ≡ word words (codes "SCALE"))
+HasWords words (Check plan) = plan.now ≡ word words (codes "PLAN")
+HasWords words (Show savepoint) = savepoint.now ≡ word words (codes "SAVEPOINT")
+HasWords words (Group key max par) = (key.now ≡ word words (codes "KEY")) × (max.now ≡ word words (codes "MAX")) × (par.now ≡ word words (codes "PAR"))
+HasWords words (Explain code) = code.now ≡ word words (codes "CODE")
+HasWords words Version = Unit {0}
+
+-- a name is one of a command
+abbrev pub is_command : List ℕ → Bool
+is_command name =
+    bytes_eq name (codes "run") || (bytes_eq name (codes "simulate") || (bytes_eq name (codes "leg") || (bytes_eq name (codes "layout") || (bytes_eq name (codes "check") || (bytes_eq name (codes "show")
+    || (bytes_eq name (codes "group") || (bytes_eq name (codes "explain") || bytes_eq name (codes "version"))))))))
+
+-- the command of a name, with the words after it; no other name has one
+abbrev pub IsRead : List ℕ → Found → Option Command → Type 0
+IsRead name words (Some command) = (bytes_eq name (name_of command) ≡ true) × HasWords words command
+IsRead name words None = is_command name ≡ false
+
+-- and so of the name that clap has found, if it has found one
+abbrev pub IsFound : Option (List ℕ) → Option Command → Type 0
+IsFound None command = command ≡ None
+IsFound (Some name) command = (words : Found) × IsRead name words command

@@ -1,0 +1,71 @@
+//! From what clap finds in words to a command.
+
+ghost use Rattle.std.specs.Prelude.{◌≡◌};
+ghost use Rattle.clap.specs.Words.{found_of, subcommand_name_of};
+ghost use Rattle.command_line.specs.Reading.{word, IsFound, IsRead};
+
+use clap::ArgMatches;
+use commands::Command;
+
+fn named<'a>(words: &ArgMatches<'a>, name: &str) -> &'a str
+    ensures { result.now ≡ word (found_of words.now) name.now }
+{
+    words.get_str(name).unwrap_or("")
+}
+
+/// The command that a name and the words after it say, if the name is one of a command.
+fn command_in<'a>(name: &str, words: &ArgMatches<'a>) -> Option<Command<'a>>
+    ensures { IsRead name.now (found_of words.now) result }
+{
+    match name {
+        "run" => Some(Command::Run {
+            plan: named(words, "PLAN"),
+            input: named(words, "INPUT"),
+            legs: words.get_str("LEGS"),
+        }),
+        "simulate" => Some(Command::Simulate {
+            plan: named(words, "PLAN"),
+            input: named(words, "INPUT"),
+            legs: named(words, "LEGS"),
+            choices: named(words, "CHOICES"),
+        }),
+        "leg" => Some(Command::Leg {
+            plan: named(words, "PLAN"),
+            input: named(words, "INPUT"),
+            scale: named(words, "SCALE"),
+            from: words.get_str("from"),
+            stop: words.get_str("stop"),
+            save: words.get_str("save"),
+        }),
+        "layout" => Some(Command::Layout {
+            plan: named(words, "PLAN"),
+            scale: named(words, "SCALE"),
+        }),
+        "check" => Some(Command::Check {
+            plan: named(words, "PLAN"),
+        }),
+        "show" => Some(Command::Show {
+            savepoint: named(words, "SAVEPOINT"),
+        }),
+        "group" => Some(Command::Group {
+            key: named(words, "KEY"),
+            max: named(words, "MAX"),
+            par: named(words, "PAR"),
+        }),
+        "explain" => Some(Command::Explain {
+            code: named(words, "CODE"),
+        }),
+        "version" => Some(Command::Version),
+        _ => None,
+    }
+}
+
+/// The command that clap has found, if it has found one.
+pub fn found_command<'a>(matches: &ArgMatches<'a>) -> Option<Command<'a>>
+    ensures { IsFound (subcommand_name_of matches.now) result }
+{
+    match matches.subcommand() {
+        Some((name, words)) => command_in(name, words),
+        None => None,
+    }
+}

@@ -1,0 +1,80 @@
+-- What the program's commands answer. Nothing can be said of what files hold and of what standard output takes, and so
+-- these say which answers the texts of files allow, whatever they are.
+use Rattle.std.specs.Prelude.{◌≡◌, ◌⊎◌, ℕ, List, [], Bool, Option, Some, None, is_some, Result, Ok, Err, IfErr}
+use Rattle.std.specs.declared.io.ErrorKind.{ErrorKind}
+use Rattle.std.specs.declared.io.ErrorKind.TheVariants.{OutOfMemory}
+use Rattle.job_texts.specs.declared.fault.JobFault.{JobFault}
+use Rattle.job_texts.specs.declared.fault.JobFault.TheVariants.{Read, Write, Memory}
+use Rattle.job_texts.specs.Group.{TellsGroup, group_said}
+use Rattle.job.specs.Layout.{TellsLayout, layout_said}
+use Rattle.job.specs.Leg.{LegJob, TellsLeg, leg_said}
+use Rattle.job.specs.Run.{Answers, run_said}
+use Rattle.job.specs.Show.{TellsSavepoint, show_said}
+use Rattle.job.specs.Ends.{as_job}
+use Rattle.job_texts.specs.Fault.{plan_fault}
+use Rattle.logical_plan.specs.Answer.{plan_of_bytes}
+use Rattle.logical_plan.specs.declared.fault.PlanFault.{PlanFault}
+use Rattle.plan_places.specs.Answer as places
+use Rattle.user_texts.specs.Pages.{TellsPage, explained}
+use Rattle.user_texts.specs.declared.writing.TextFault.{TextFault}
+
+-- the fault of a file that was not read
+abbrev pub read_fault : ErrorKind → JobFault
+read_fault OutOfMemory = Memory
+read_fault _ = Read
+
+-- a file was not read
+abbrev pub CannotRead : Result (Unit {0}) JobFault → Type 0
+CannotRead result = (result ≡ Err Read) ⊎ (result ≡ Err Memory)
+
+-- what `job_run` answers of some plan and input, with a list of legs just where one is named, or that one of them, or random numbers for hashes, were not read
+abbrev pub AnswersRun : Bool → Result (Unit {0}) JobFault → Type 0
+AnswersRun names_legs result = CannotRead result ⊎ ((plan : List ℕ) × (input : List ℕ) × (legs : Option (List ℕ)) × (is_some legs ≡ names_legs) × Answers (run_said plan input legs None) result None None)
+
+-- what `job_simulate` answers of some plan, input, list of legs and choices, or that one of them, or random numbers for hashes, were not read
+abbrev pub AnswersSimulate : Result (Unit {0}) JobFault → Type 0
+AnswersSimulate result = CannotRead result ⊎ ((plan : List ℕ) × (input : List ℕ) × (legs : List ℕ) × (choices : List ℕ) × Answers (run_said plan input (Some legs) (Some choices)) result None None)
+
+-- the fault of a call that writes into memory: it takes no more only where there is none left
+abbrev pub buffered : JobFault → JobFault
+buffered Write = Memory
+buffered fault = fault
+
+-- what comes of a leg, which writes into memory: why there is none, or it is done, or what it gave could not be written
+abbrev pub after_leg : {X : Type 0} → Result X JobFault → Result (Unit {0}) JobFault → Type 0
+after_leg (Ok saved) result = IfErr result (λ fault. (fault ≡ Write) ⊎ (fault ≡ Memory))
+after_leg (Err fault) result = result ≡ Err (buffered fault)
+
+-- the bytes of the savepoint that a leg leaves, or why there is no leg, and the bytes of its rows
+abbrev pub LegAnswer : Type 0
+LegAnswer = Result (Option (List ℕ)) JobFault × List ℕ
+
+-- what comes of what `job_leg` answers of the leg that texts say
+abbrev pub ComesOfLeg : Result LegJob JobFault → Result (Unit {0}) JobFault → Type 0
+ComesOfLeg said result = (given : LegAnswer) × TellsLeg (λ saved. saved) said given.0 (Some []) (Some given.1) × after_leg given.0 result
+
+-- what comes of what `job_leg` answers of some plan, input and scale, with a savepoint just where one is named, and of the word of a cut, or that one of them was not read
+abbrev pub AnswersLeg : Bool → Option (List ℕ) → Result (Unit {0}) JobFault → Type 0
+AnswersLeg names_savepoint stop result =
+    CannotRead result
+    ⊎ ((plan : List ℕ) × (input : List ℕ) × (scale : List ℕ) × (from : Option (List ℕ)) × (is_some from ≡ names_savepoint) × ComesOfLeg (leg_said plan input scale from stop) result)
+
+-- what `job_layout` answers of some plan and scale, or that one of them was not read
+abbrev pub AnswersLayout : Result (Unit {0}) JobFault → Type 0
+AnswersLayout result = CannotRead result ⊎ ((plan : List ℕ) × (scale : List ℕ) × TellsLayout (layout_said plan scale) result None None)
+
+-- what `check_plan` answers of some plan, or that it was not read
+abbrev pub AnswersCheck : Result (Unit {0}) JobFault → Type 0
+AnswersCheck result = CannotRead result ⊎ ((plan : List ℕ) × (answer : Result (Unit {0}) PlanFault) × places.AnswersCheck (plan_of_bytes plan) answer × (result ≡ as_job plan_fault answer))
+
+-- what `job_show` answers of some savepoint, or that it was not read
+abbrev pub AnswersShow : Result (Unit {0}) JobFault → Type 0
+AnswersShow result = CannotRead result ⊎ ((savepoint : List ℕ) × TellsSavepoint (show_said savepoint) result None None)
+
+-- what `job_group` answers of three words
+abbrev pub AnswersGroup : List ℕ → List ℕ → List ℕ → Result (Unit {0}) JobFault → Type 0
+AnswersGroup key max par result = TellsGroup (group_said key max par) result None None
+
+-- what `explain` answers of a code
+abbrev pub AnswersExplain : List ℕ → Result (Unit {0}) TextFault → Type 0
+AnswersExplain code result = TellsPage (explained code) result None None

@@ -1,0 +1,41 @@
+-- What comes of a command.
+use Rattle.std.specs.Prelude.{◌≡◌, Result, Ok, Err, IfErr, is_some, option_map}
+use Rattle.job_texts.specs.declared.fault.JobFault.{JobFault}
+use Rattle.job_texts.specs.declared.fault.JobFault.TheVariants.{Write as WriteFault}
+use Rattle.user_texts.specs.declared.writing.TextFault.{TextFault}
+use Rattle.user_texts.specs.declared.writing.TextFault.TheVariants as text
+use Rattle.commands.specs.Answers.{AnswersRun, AnswersSimulate, AnswersLeg, AnswersLayout, AnswersCheck, AnswersShow, AnswersGroup, AnswersExplain}
+use Rattle.commands.specs.declared.command.Command.{Command}
+use Rattle.commands.specs.declared.command.Command.TheVariants.{Run, Simulate, Leg, Layout, Check, Show, Group, Explain, Version}
+use Rattle.commands.specs.declared.fault.CommandFault.{CommandFault}
+use Rattle.commands.specs.declared.fault.CommandFault.TheVariants.{Job, NoPage}
+
+-- what comes of a command on a job
+abbrev pub after_command : Result (Unit {0}) JobFault → Result (Unit {0}) CommandFault
+after_command (Ok _) = Ok tt
+after_command (Err fault) = Err (Job fault)
+
+-- what comes of a command on a text of the program's own
+abbrev pub after_text : Result (Unit {0}) TextFault → Result (Unit {0}) CommandFault
+after_text (Ok _) = Ok tt
+after_text (Err text.NoPage) = Err NoPage
+after_text (Err text.Write) = Err (Job WriteFault)
+
+-- the outcome is what comes of some answer
+abbrev pub Comes : {F : Type 0} → (Result (Unit {0}) F → Result (Unit {0}) CommandFault) → (Result (Unit {0}) F → Type 0) → Result (Unit {0}) CommandFault → Type 0
+Comes {F} after answers result = (answer : Result (Unit {0}) F) × answers answer × (result ≡ after answer)
+
+abbrev pub AnswersVersion : Result (Unit {0}) TextFault → Type 0
+AnswersVersion result = IfErr result (λ fault. fault ≡ text.Write)
+
+-- the outcome is that of the command, on the files that it names
+abbrev pub Performs : Command → Result (Unit {0}) CommandFault → Type 0
+Performs (Run plan input legs) result = Comes after_command (AnswersRun (is_some legs)) result
+Performs (Simulate plan input legs choices) result = Comes after_command AnswersSimulate result
+Performs (Leg plan input scale from stop save) result = Comes after_command (AnswersLeg (is_some from) (option_map (λ word. word.now) stop)) result
+Performs (Layout plan scale) result = Comes after_command AnswersLayout result
+Performs (Check plan) result = Comes after_command AnswersCheck result
+Performs (Show savepoint) result = Comes after_command AnswersShow result
+Performs (Group key max par) result = Comes after_command (AnswersGroup key.now max.now par.now) result
+Performs (Explain code) result = Comes after_text (AnswersExplain code.now) result
+Performs Version result = Comes after_text AnswersVersion result

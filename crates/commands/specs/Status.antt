@@ -1,0 +1,9 @@
+-- The status that the program ends with where a command is not done.
+use Rattle.std.specs.Prelude.{ℕ}
+use Rattle.job_texts.specs.FaultText.{status}
+use Rattle.commands.specs.declared.fault.CommandFault.{CommandFault}
+use Rattle.commands.specs.declared.fault.CommandFault.TheVariants.{Job, NoPage}
+
+abbrev pub command_status : CommandFault → ℕ
+command_status (Job fault) = status fault
+command_status NoPage = 2

@@ -1,0 +1,241 @@
+//! What each command does.
+
+ghost use Rattle.std.specs.Prelude.{◌≡◌, ◌⊎◌, is_some, option_map, IfErr};
+ghost use Rattle.job.specs.Leg.{leg_said};
+ghost use Rattle.commands.specs.Answers as answers;
+ghost use Rattle.commands.specs.Answers.{AnswersRun, AnswersSimulate, AnswersLeg, ComesOfLeg, AnswersLayout, AnswersCheck, AnswersShow, AnswersGroup, AnswersExplain};
+
+use crate::files::{file, optional_file};
+use crate::saving::save;
+use job::{HashKeys, JobFault, job_group, job_layout, job_leg, job_run, job_show, job_simulate};
+use plan_places::check_plan;
+use std::io::{Write, writer};
+use std::random::RandomSource;
+use std::rt::Files;
+use user_texts::{TextFault, write_version};
+
+/// Prints the rows of a plan on an input, in legs where a list of them is named.
+///
+/// # Errors
+///
+/// `Read` where a file cannot be read, else the fault of `job_run`.
+pub fn run<R: Files + Print + RandomSource + AllocGlobal>(
+    rt: &R,
+    plan: &str,
+    input: &str,
+    legs: Option<&str>,
+) -> Result<(), JobFault>
+    ensures { AnswersRun (is_some legs.entry) result }
+{
+    let plan = file(rt, plan)?;
+    let input = file(rt, input)?;
+    let list = optional_file(rt, legs)?;
+    let Ok(keys) = HashKeys::random(rt) else {
+        return Err(JobFault::Read);
+    };
+    let legs = list.as_deref();
+    job_run(rt.alloc(), keys, &plan, &input, legs, &mut writer(rt))
+}
+
+/// Prints the rows of a plan on an input in legs, by an order of steps that choices pick.
+///
+/// # Errors
+///
+/// `Read` where a file cannot be read, else the fault of `job_simulate`.
+pub fn simulate<R: Files + Print + RandomSource + AllocGlobal>(
+    rt: &R,
+    plan: &str,
+    input: &str,
+    legs: &str,
+    choices: &str,
+) -> Result<(), JobFault>
+    ensures { AnswersSimulate result }
+{
+    let plan = file(rt, plan)?;
+    let input = file(rt, input)?;
+    let legs = file(rt, legs)?;
+    let choices = file(rt, choices)?;
+    let Ok(keys) = HashKeys::random(rt) else {
+        return Err(JobFault::Read);
+    };
+    let mut out = writer(rt);
+    job_simulate(rt.alloc(), keys, &plan, &input, &legs, &choices, &mut out)
+}
+
+/// Prints bytes.
+fn print<R: Print>(rt: &R, bytes: &[u8]) -> Result<(), JobFault>
+    ensures { IfErr result (λ fault. fault ≡ JobFault.Write) }
+{
+    let mut out = writer(rt);
+    if out.write_all(bytes).is_err() || out.flush().is_err() {
+        return Err(JobFault::Write);
+    }
+    Ok(())
+}
+
+/// Writes the savepoint that a leg left, if it left one and a file is named for it.
+fn keep<R: Files + RandomSource + AllocGlobal>(
+    rt: &R,
+    path: Option<&str>,
+    saved: Option<&[u8]>,
+) -> Result<(), JobFault>
+    ensures { IfErr result (λ fault. (fault ≡ JobFault.Write) ⊎ (fault ≡ JobFault.Memory)) }
+{
+    let Some(path) = path else {
+        return Ok(());
+    };
+    let Some(bytes) = saved else {
+        return Ok(());
+    };
+    save(rt, path, bytes)
+}
+
+/// Keeps what a leg left, and then prints its rows: rows whose savepoint is lost would come again.
+fn give<R: Files + Print + RandomSource + AllocGlobal>(
+    rt: &R,
+    path: Option<&str>,
+    saved: Option<&[u8]>,
+    rows: &[u8],
+) -> Result<(), JobFault>
+    ensures { IfErr result (λ fault. (fault ≡ JobFault.Write) ⊎ (fault ≡ JobFault.Memory)) }
+{
+    keep(rt, path, saved)?;
+    print(rt, rows)
+}
+
+/// The fault of a call that writes into memory: it takes no more only where there is none left.
+fn buffered(fault: JobFault) -> JobFault
+    ensures { result ≡ answers.buffered fault }
+{
+    match fault {
+        JobFault::Write => JobFault::Memory,
+        other => other,
+    }
+}
+
+/// Runs the leg that texts tell, and gives what it gives.
+fn done_leg<R: Files + Print + RandomSource + AllocGlobal>(
+    rt: &R,
+    keys: HashKeys,
+    plan: &[u8],
+    input: &[u8],
+    scale: &[u8],
+    from: Option<&[u8]>,
+    stop: Option<&str>,
+    path: Option<&str>,
+) -> Result<(), JobFault>
+    ensures { ComesOfLeg (leg_said plan.now input.now scale.now (option_map (λ bytes. bytes.now) from.entry) (option_map (λ word. word.now) stop.entry)) result }
+{
+    let mut rows = Vec::new(rt.alloc());
+    match job_leg(rt.alloc(), keys, plan, input, scale, from, stop, &mut rows) {
+        Ok(saved) => give(rt, path, saved.as_deref(), &rows),
+        Err(fault) => Err(buffered(fault)),
+    }
+}
+
+/// Prints the rows of one leg of a job, once the savepoint that it leaves where it stops is written, if a file is named for it.
+///
+/// # Errors
+///
+/// `Read` where a file cannot be read, else the fault of `job_leg`, `Write` where the savepoint or the rows cannot be written.
+pub fn leg<R: Files + Print + RandomSource + AllocGlobal>(
+    rt: &R,
+    plan: &str,
+    input: &str,
+    scale: &str,
+    from: Option<&str>,
+    stop: Option<&str>,
+    save: Option<&str>,
+) -> Result<(), JobFault>
+    ensures { AnswersLeg (is_some from.entry) (option_map (λ word. word.now) stop.entry) result }
+{
+    let plan = file(rt, plan)?;
+    let input = file(rt, input)?;
+    let scale = file(rt, scale)?;
+    let savepoint = optional_file(rt, from)?;
+    let Ok(keys) = HashKeys::random(rt) else {
+        return Err(JobFault::Read);
+    };
+    let from = savepoint.as_deref();
+    done_leg(rt, keys, &plan, &input, &scale, from, stop, save)
+}
+
+/// Prints the layout of a plan at a scale.
+///
+/// # Errors
+///
+/// `Read` where a file cannot be read, else the fault of `job_layout`.
+pub fn layout<R: Files + Print + AllocGlobal>(
+    rt: &R,
+    plan: &str,
+    scale: &str,
+) -> Result<(), JobFault>
+    ensures { AnswersLayout result }
+{
+    let plan = file(rt, plan)?;
+    let scale = file(rt, scale)?;
+    job_layout(rt.alloc(), &plan, &scale, &mut writer(rt))
+}
+
+/// Prints the places at which a plan is refused.
+///
+/// # Errors
+///
+/// `Read` where the file cannot be read, else the plan's fault.
+pub fn check<R: Files + Print + AllocGlobal>(rt: &R, plan: &str) -> Result<(), JobFault>
+    ensures { AnswersCheck result }
+{
+    let bytes = file(rt, plan)?;
+    check_plan(rt.alloc(), &bytes, plan, &mut writer(rt))?;
+    Ok(())
+}
+
+/// Prints what a savepoint holds.
+///
+/// # Errors
+///
+/// `Read` where the file cannot be read, else the fault of `job_show`.
+pub fn show<R: Files + Print + AllocGlobal>(rt: &R, savepoint: &str) -> Result<(), JobFault>
+    ensures { AnswersShow result }
+{
+    let savepoint = file(rt, savepoint)?;
+    job_show(rt.alloc(), &savepoint, &mut writer(rt))
+}
+
+/// Prints the group of a key and its owner.
+///
+/// # Errors
+///
+/// The fault of `job_group`.
+pub fn group<R: Print + AllocGlobal>(
+    rt: &R,
+    key: &str,
+    max: &str,
+    par: &str,
+) -> Result<(), JobFault>
+    ensures { AnswersGroup key.now max.now par.now result }
+{
+    job_group(rt.alloc(), key, max, par, &mut writer(rt))
+}
+
+/// Prints the page of a fault.
+///
+/// # Errors
+///
+/// `NoPage` where no fault has the code, `Write` where standard output takes no more.
+pub fn explain<R: Print + AllocGlobal>(rt: &R, code: &str) -> Result<(), TextFault>
+    ensures { AnswersExplain code.now result }
+{
+    user_texts::explain(code, &mut writer(rt))
+}
+
+/// Prints the version of the program and its toolchain.
+///
+/// # Errors
+///
+/// `Write` where standard output takes no more.
+pub fn version<R: Print + AllocGlobal>(rt: &R) -> Result<(), TextFault>
+    ensures { IfErr result (λ fault. fault ≡ TextFault.Write) }
+{
+    write_version(&mut writer(rt))
+}

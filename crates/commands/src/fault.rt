@@ -1,0 +1,65 @@
+//! Why a command is not done.
+
+ghost use Rattle.std.specs.Prelude.{◌≡◌};
+ghost use Rattle.job_texts.specs.FaultText as fault_text;
+ghost use Rattle.commands.specs.Outcome.{after_command, after_text};
+ghost use Rattle.commands.specs.Status as statuses;
+
+use job::{FaultLine, JobFault, status_of};
+use user_texts::TextFault;
+
+/// Why a command is not done.
+#[derive(Drop)]
+pub enum CommandFault {
+    /// The job has no answer.
+    Job(JobFault),
+    /// No refusal has the code that was to be explained.
+    NoPage,
+}
+
+/// What comes of a command on a job.
+pub fn after_job(answer: Result<(), JobFault>) -> Result<(), CommandFault>
+    ensures { result ≡ after_command answer }
+{
+    match answer {
+        Ok(()) => Ok(()),
+        Err(fault) => Err(CommandFault::Job(fault)),
+    }
+}
+
+/// What comes of a command on a text of the program's own.
+pub fn after_page(answer: Result<(), TextFault>) -> Result<(), CommandFault>
+    ensures { result ≡ after_text answer }
+{
+    match answer {
+        Ok(()) => Ok(()),
+        Err(TextFault::NoPage) => Err(CommandFault::NoPage),
+        Err(TextFault::Write) => Err(CommandFault::Job(JobFault::Write)),
+    }
+}
+
+/// Says the fault, which needs no memory.
+fn failed<R: Eprint>(rt: &R, fault: &JobFault) -> u8
+    ensures { result ≡ fault_text.status fault.now }
+{
+    let _ = rt.eprintln(FaultLine(fault));
+    status_of(fault)
+}
+
+/// Says that a code is none.
+fn no_page<R: Eprint>(rt: &R) -> u8
+    ensures { result ≡ 2 }
+{
+    let _ = rt.eprintln("error: no refusal has this code");
+    2
+}
+
+/// Says why a command is not done, which needs no memory, and answers the status to end with.
+pub fn told<R: Eprint>(rt: &R, fault: &CommandFault) -> u8
+    ensures { result ≡ statuses.command_status fault.now }
+{
+    match fault {
+        CommandFault::Job(fault) => failed(rt, fault),
+        CommandFault::NoPage => no_page(rt),
+    }
+}

@@ -1,0 +1,51 @@
+//! Files read whole.
+
+ghost use Rattle.std.specs.Prelude.{◌≡◌, ◌⊎◌, is_some, IfErr, IfOk};
+ghost use Rattle.std.specs.IoError.{error_kind};
+ghost use Rattle.commands.specs.Answers as answers;
+
+use job::JobFault;
+use std::io::ErrorKind;
+use std::rt::Files;
+use std::{fs, io};
+
+/// All bytes of the file at a path.
+///
+/// # Errors
+///
+/// `Memory`, or else `Read` where there is no file that can be read, as at a folder.
+pub fn file<R: Files + AllocGlobal>(rt: &R, path: &str) -> Result<Vec<u8>, JobFault>
+    ensures { IfErr result (λ fault. (fault ≡ JobFault.Read) ⊎ (fault ≡ JobFault.Memory)) }
+{
+    match fs::read(rt, path) {
+        Ok(bytes) => Ok(bytes),
+        Err(error) => Err(read_fault(&error)),
+    }
+}
+
+/// All bytes of the file at a path, where there is a path.
+///
+/// # Errors
+///
+/// Those of [`file`].
+pub fn optional_file<R: Files + AllocGlobal>(
+    rt: &R,
+    path: Option<&str>,
+) -> Result<Option<Vec<u8>>, JobFault>
+    ensures given { IfOk result (λ bytes. is_some bytes ≡ is_some path.entry) }
+    ensures err { IfErr result (λ fault. (fault ≡ JobFault.Read) ⊎ (fault ≡ JobFault.Memory)) }
+{
+    match path {
+        Some(path) => Ok(Some(file(rt, path)?)),
+        None => Ok(None),
+    }
+}
+
+fn read_fault(error: &io::Error) -> JobFault
+    ensures { result ≡ answers.read_fault (error_kind error.now) }
+{
+    match error.kind() {
+        ErrorKind::OutOfMemory => JobFault::Memory,
+        _ => JobFault::Read,
+    }
+}

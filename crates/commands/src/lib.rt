@@ -1,0 +1,13 @@
+//! The commands of the program: files read whole, what `job` makes of them, and text out.
+#![tactic(auto)]
+
+mod actions;
+mod command;
+mod fault;
+mod files;
+mod performing;
+mod saving;
+
+pub use command::Command;
+pub use fault::{CommandFault, told};
+pub use performing::performed;

@@ -1,0 +1,45 @@
+//! From a command to what it does.
+
+ghost use Rattle.commands.specs.Outcome.{Performs};
+
+use crate::actions::{check, explain, group, layout, leg, run, show, simulate, version};
+use crate::command::Command;
+use crate::fault::{CommandFault, after_job, after_page};
+use std::random::RandomSource;
+use std::rt::Files;
+
+/// Does what a command asks for.
+///
+/// # Errors
+///
+/// Why it is not done.
+pub fn performed<R: Files + Print + RandomSource + AllocGlobal>(
+    rt: &R,
+    command: &Command<'_>,
+) -> Result<(), CommandFault>
+    ensures { Performs command.now result }
+{
+    match command {
+        Command::Run { plan, input, legs } => after_job(run(rt, plan, input, *legs)),
+        Command::Simulate {
+            plan,
+            input,
+            legs,
+            choices,
+        } => after_job(simulate(rt, plan, input, legs, choices)),
+        Command::Leg {
+            plan,
+            input,
+            scale,
+            from,
+            stop,
+            save,
+        } => after_job(leg(rt, plan, input, scale, *from, *stop, *save)),
+        Command::Layout { plan, scale } => after_job(layout(rt, plan, scale)),
+        Command::Check { plan } => after_job(check(rt, plan)),
+        Command::Show { savepoint } => after_job(show(rt, savepoint)),
+        Command::Group { key, max, par } => after_job(group(rt, key, max, par)),
+        Command::Explain { code } => after_page(explain(rt, code)),
+        Command::Version => after_page(version(rt)),
+    }
+}
