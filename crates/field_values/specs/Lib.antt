@@ -1,0 +1,4 @@
+pub mod Digits
+pub mod Decimals
+pub mod Clocks
+pub mod Instants

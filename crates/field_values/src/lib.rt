@@ -1,0 +1,18 @@
+//! The numbers that the texts of single fields say: decimals that are scaled to whole numbers, and times that are
+//! counted in milliseconds. No number passes through a float, nothing is rounded and nothing is allocated.
+#![tactic(auto)]
+
+mod clock;
+mod decimal;
+mod digits;
+mod fault;
+mod instant;
+mod moment;
+mod places;
+mod zone;
+
+pub use decimal::scaled;
+pub use digits::{are_digits, number_of};
+pub use fault::FieldFault;
+pub use instant::milliseconds;
+pub use places::{MOST_PLACES, Places};

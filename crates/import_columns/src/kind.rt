@@ -1,0 +1,28 @@
+//! What is done with the text of a field.
+
+use field_values::Places;
+use lane_kernels::Cmp;
+
+/// How the text of a field becomes a number by itself.
+#[derive(Clone, Copy)]
+pub enum ValueKind<'w> {
+    /// A decimal, times ten to the power of the places. A whole number has none.
+    Scaled(Places),
+    /// A time in ISO 8601 with its zone, in milliseconds since 1970.
+    Milliseconds,
+    /// 1 where the whole number compares so with the bound, else 0.
+    Compared(Cmp, i64),
+    /// 1 where the text is just this, else 0.
+    Same(&'w str),
+    /// 0 where the text is just this, else 1.
+    Other(&'w str),
+}
+
+/// How the text of a field becomes a number.
+#[derive(Clone, Copy)]
+pub enum ColumnKind<'w> {
+    /// By the text alone.
+    Value(ValueKind<'w>),
+    /// By the text's place in a table of names.
+    Name,
+}

@@ -1,0 +1,55 @@
+-- How the rows of a partition become entries, by their times in order.
+use Rattle.std.specs.Prelude.{◌≡◌, ℕ, ◌+◌, ◌-◌, ◌%◌, ◌^◌, ◌==◌, Bool, ◌&&◌, ◌||◌, not, List, [], ◌∷◌, ◌++◌, length, take, ℤ, pos, neg_ℤ, ◌-ℤ◌, int_le, int_lt, Option, Some, None, Result, Ok, Err, if◌then◌else◌}
+use Rattle.lane_kernels.specs.Compare.{greatest_of}
+use Rattle.import_entries.specs.declared.place.Place.{Place}
+use Rattle.import_entries.specs.declared.place.Place.TheVariants.{Joins, Begins}
+use Rattle.import_entries.specs.declared.place.PlaceFault.{PlaceFault}
+use Rattle.import_entries.specs.declared.place.PlaceFault.TheVariants.{Range, Late}
+use Rattle.import_entries.specs.declared.progress.Progress.{Progress}
+
+-- how many rows the last entry has, where each has n, and the last 1 to n
+unfoldable pub open_rows : ℕ → List ℤ → ℕ
+open_rows n times = if length times == 0 then 0 else (length times - 1) % n + 1
+
+-- the rows before the last entry
+unfoldable pub closed_times : ℕ → List ℤ → List ℤ
+closed_times n times = take (length times - open_rows n times) times
+
+-- what is kept of the rows
+unfoldable pub progress_of : ℕ → List ℤ → Progress
+progress_of n times = record { rows = open_rows n times; latest = greatest_of times; closed = greatest_of (closed_times n times) }
+
+-- the next row begins an entry
+unfoldable pub begins : ℕ → List ℤ → Bool
+begins n times = (open_rows n times == 0) || (open_rows n times == n)
+
+-- the rows before the entry that the next row goes into
+unfoldable pub settled_times : ℕ → List ℤ → List ℤ
+settled_times n times = if begins n times then times else closed_times n times
+
+-- -2^62 to 2^62 - 1
+abbrev pub is_time : ℤ → Bool
+is_time t = int_le (neg_ℤ (pos (2 ^ 62))) t && int_lt t (pos (2 ^ 62))
+
+-- the greatest time less the bound less 1, where it is a time
+abbrev pub mark_said : Option ℕ → Option ℤ → Option ℤ
+mark_said (Some bound) (Some latest) = if is_time ((latest -ℤ pos bound) -ℤ pos 1) then Some ((latest -ℤ pos bound) -ℤ pos 1) else None
+mark_said bound latest = None
+
+-- a time at or below a watermark is late
+abbrev pub late_said : Option ℤ → ℤ → Option PlaceFault
+late_said None time = None
+late_said (Some mark) time = if int_le time mark then Some (Late mark) else None
+
+-- why the next row goes nowhere, if it does not
+unfoldable pub place_fault : ℕ → Option ℕ → List ℤ → ℤ → Option PlaceFault
+place_fault n bound times time = if not (is_time time) then Some Range else late_said (mark_said bound (greatest_of (settled_times n times))) time
+
+-- where the next row goes
+unfoldable pub place_said : ℕ → Option ℕ → List ℤ → Place
+place_said n bound times = if begins n times then Begins (mark_said bound (greatest_of times)) else Joins
+
+-- the next row goes where it is said, and is then one of the rows; or it is refused, and nothing changes
+abbrev pub IsPlaced : ℕ → Option ℕ → List ℤ → ℤ → Progress → Progress → Result Place PlaceFault → Type 0
+IsPlaced n bound times time old new (Ok place) = (place_fault n bound times time ≡ None) × (place ≡ place_said n bound times) × (new ≡ progress_of n (times ++ time ∷ []))
+IsPlaced n bound times time old new (Err fault) = (place_fault n bound times time ≡ Some fault) × (new ≡ old)
