@@ -1,7 +1,7 @@
 -- Accumulators made and merged: their fields, and the numbers that so many records can come to.
-use Rattle.std.proofs.Common.{◌≡◌, ℕ, suc, ℤ, pos, ◌+ℤ◌, ◌+◌, ◌-◌, ◌^◌, ◌≤◌, Bool, true, false, ◌&&◌, List, [], ◌∷◌, ◌++◌, map, take, drop, length, replicate, refl, sym, ap, subst, ◌∙◌, ◌≢◌, arith, FitsSigned}
+use Rattle.std.proofs.Common.{◌≡◌, ℕ, suc, ℤ, pos, ◌+ℤ◌, ◌+◌, ◌-◌, ◌^◌, ◌≤◌, Bool, true, false, ◌&&◌, List, [], ◌∷◌, ◌++◌, map, take, drop, length, replicate, refl, sym, ap, subst, ◌∙◌, ◌≢◌, arith}
 use Rattle.std.specs.Prelude.{unsigned_abs}
-use Rattle.std.specs.Int.{w64, int_min, int_max}
+use Rattle.std.specs.Int.{int_min, int_max}
 use Rattle.std.specs.List.{All}
 use Rattle.std.proofs.lemmas.Int.{ints, clamps}
 use Rattle.std.proofs.lemmas.List.{length-map, drop-replicate}
@@ -15,7 +15,6 @@ use Rattle.aggregates.specs.declared.kind.Kind.{Kind}
 use Rattle.aggregates.specs.declared.kind.Kind.TheVariants.{Count, Sum, Least, Greatest}
 use Rattle.aggregates.specs.declared.acc.Acc.TheInside.{Inside}
 use Rattle.byte_fields.specs.Fields.{is_i64}
-use Rattle.byte_fields.proofs.Exact.{is_i64_from}
 use Rattle.aggregates.specs.Kinds.{AccData, IsAcc, kind_of, merge_by, merge_all, is_number, are_numbers, padded}
 use Rattle.aggregates.specs.Inside.{acc_view, IsInside}
 use Rattle.aggregates.specs.Fields.{length-front}
@@ -155,6 +154,22 @@ one_inside aggregates r ks zs some few fit kinds numbers =
     (numbers ∙ is_padded (pos 0) (map f aggregates) (length aggregates) (length-map aggregates f))
     (length-map aggregates kind_of) (length-map aggregates f) few (sound_one aggregates r some few fit)
 
+-- the fields of one record
+abbrev pub one_of : List Aggregate → Record → Inside
+one_of aggregates r = fields_of 1 (length aggregates) (padded Count (map kind_of aggregates)) (padded (pos 0) (map (λ a. number_of a r []) aggregates))
+
+pub one_is_inside : (aggregates : List Aggregate) (r : Record) → 1 ≤ length aggregates → length aggregates ≤ 8
+    → All (λ a. is_i64 (number_of a r []) ≡ true) aggregates → IsInside (one_of aggregates r)
+one_is_inside aggregates r some few fit =
+    made 1 (length aggregates) (map kind_of aggregates) (map (λ a. number_of a r []) aggregates)
+    (length-map aggregates kind_of) (length-map aggregates (λ a. number_of a r [])) few (sound_one aggregates r some few fit)
+
+pub one_has_kinds : (aggregates : List Aggregate) (r : Record) → take (one_of aggregates r).width (one_of aggregates r).kinds ≡ map kind_of aggregates
+one_has_kinds aggregates r = take_padded Count (map kind_of aggregates) (length aggregates) (length-map aggregates kind_of)
+
+pub one_has_numbers : (aggregates : List Aggregate) (r : Record) → take (one_of aggregates r).width (one_of aggregates r).numbers ≡ map (λ a. number_of a r []) aggregates
+one_has_numbers aggregates r = take_padded (pos 0) (map (λ a. number_of a r []) aggregates) (length aggregates) (length-map aggregates (λ a. number_of a r []))
+
 -- ---- merging
 
 -- the numbers of b brought into those of a
@@ -165,6 +180,17 @@ merged_of a b = merge_all (take a.width a.kinds) (take a.width a.numbers) (take 
 abbrev pub IsMergedInto : Inside → Inside → List ℤ → Type 0
 IsMergedInto a b zs = zs
     ≡ merge_all (take a.width a.kinds) (take (length (take a.width a.kinds)) a.numbers) (take (length (take a.width a.kinds)) b.numbers) ++ drop (length (take a.width a.kinds)) a.numbers
+
+-- the numbers of one record, brought in one by one, leave what merging leaves
+pub added_into : (a : Inside) (aggregates : List Aggregate) (r : Record) (zs : List ℤ) → take a.width a.kinds ≡ map kind_of aggregates
+    → zs ≡ merge_all (map kind_of aggregates) (take (length aggregates) a.numbers) (map (λ x. number_of x r []) aggregates) ++ drop (length aggregates) a.numbers
+    → IsMergedInto a (one_of aggregates r) zs
+added_into a aggregates r zs same is =
+    let f = λ (x : Aggregate). number_of x r [] in
+    let n : length aggregates ≡ length (take a.width a.kinds) = sym (ap (length {A = Kind}) same ∙ length-map aggregates kind_of) in
+    let numbers : map f aggregates ≡ take (length (take a.width a.kinds)) (padded (pos 0) (map f aggregates)) =
+    sym (take_padded (pos 0) (map f aggregates) (length (take a.width a.kinds)) (length-map aggregates f ∙ n)) in
+    is ∙ (λ i. merge_all (sym same i) (take (n i) a.numbers) (numbers i) ++ drop (n i) a.numbers)
 
 pub record Merges (a b : Inside) (zs : List ℤ) : Type 0 where
   pub padded_so : zs ≡ padded (pos 0) (merged_of a b)

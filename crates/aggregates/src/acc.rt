@@ -7,7 +7,7 @@ ghost use Rattle.aggregates.specs.Kinds.{IsAcc, kind_of, is_entry};
 ghost use Rattle.plan_model.specs.declared.limits.TheConstants.{MOST_AGGREGATES};
 
 use crate::kind::Kind;
-use crate::numbers::{are_numbers, merge_into, write_kinds, write_numbers};
+use crate::numbers::{add_into, are_numbers, merge_into, write_kinds, write_numbers};
 use columns::Batch;
 use plan_model::{MOST_AGGREGATES, MOST_RECORDS, WindowSpec};
 use std::marker::Model;
@@ -74,10 +74,8 @@ impl Acc {
             ≡ merge w.now.aggregates (Some self.old.total) (aggregate_of w.now.aggregates (slice_index_or batch.now.rows row [] ∷ [])) }
         ensures sound { IsAcc self.new }
     {
-        // Opens the value, whose invariant tells how many aggregates there are.
-        let _count = &self.count;
-        let one = Acc::first(w, batch, row);
-        self.merge(&one);
+        add_into(&mut self.numbers, w.aggregates.as_slice(), batch, row);
+        self.count += 1;
     }
 
     /// Brings other records in, by what they come to.

@@ -69,6 +69,23 @@ pub(crate) fn write_kinds(kinds: &mut [Kind], aggregates: &[Aggregate])
     }
 }
 
+/// Brings the number of one record in, aggregate by aggregate.
+pub(crate) fn add_into(numbers: &mut [i128], aggregates: &[Aggregate], batch: &Batch, row: usize)
+    requires row_in { row < length batch.now.rows }
+    requires columns_in { All (has_column batch.now.width) aggregates.now }
+    requires room { length aggregates.now ≤ length numbers.old }
+    requires small { All (λ z. unsigned_abs z ≤ 2 ^ 125) numbers.old }
+    ensures fit { All (λ a. fields.is_i64 (number_of a (slice_index_or batch.now.rows row []) []) ≡ true) aggregates.now }
+    ensures added { numbers.new
+        ≡ merge_all (map kind_of aggregates.now) (take (length aggregates.now) numbers.old) (map (λ a. number_of a (slice_index_or batch.now.rows row []) []) aggregates.now)
+        ++ drop (length aggregates.now) numbers.old }
+{
+    for (i, aggregate) in aggregates.iter().enumerate() {
+        let number = number_of_one(*aggregate, batch, row) as i128;
+        numbers[i] = merged(Kind::of(*aggregate), numbers[i], number);
+    }
+}
+
 /// Brings the other numbers in, kind by kind.
 pub(crate) fn merge_into(numbers: &mut [i128], kinds: &[Kind], others: &[i128])
     requires room { length kinds.now ≤ length numbers.old }
