@@ -1,14 +1,16 @@
-//! Writers of which a clause says nothing: what they hold is known after a flush alone.
+//! Writers of which a clause says nothing, since what they hold is known after a flush alone, and one that is full.
 
-use crate::jobs::{INPUT, PLAN, ROWS};
+use crate::lists::{INPUT, PLAN};
 use job::{HashKeys, JobFault, job_group, job_layout, job_run};
 use std::io::{Error, ErrorKind, Result as IoResult, Write};
+use std::random::RandomSource;
 use std::test::Fail;
 
 const SCALE: &str = r#"{"ring":4,"operators":{"s":{"parallelism":1},"w":{"parallelism":1}}}"#;
 
-const LAYOUT: &str =
-    "stage 0 1 s\nstage 1 1 w\nstage 2 1 (sink)\nedge 0 1 group\nedge 1 2 forward\npartitions 0 0 0 1\ngroups 1 0 0 127\n";
+/// What is written of a job, of its layout and of a group.
+const TEXTS: &str =
+    "0 10 0 1 4 4 4\n0 10 1 1 5 5 5\n10 20 0 1 -3 -3 -3\n10 20 1 2 9 2 7\nstage 0 1 s\nstage 1 1 w\nstage 2 1 (sink)\nedge 0 1 group\nedge 1 2 forward\npartitions 0 0 0 1\ngroups 1 0 0 127\n94 1\n";
 
 /// Keeps what it is given until it is flushed, and then gives it on, or fails.
 #[derive(Drop)]
@@ -44,46 +46,58 @@ impl Write for Buffering {
     }
 }
 
+/// Why a job, its layout and a group are not written, if they are not.
+fn faults_of(
+    rt: &(impl AllocGlobal + RandomSource),
+    out: &mut Buffering,
+) -> Result<[Option<JobFault>; 3], Fail> {
+    let alloc = rt.alloc();
+    let keys = HashKeys::random(rt)?;
+    let rows = job_run(alloc, keys, PLAN.as_bytes(), INPUT.as_bytes(), None, out);
+    let layout = job_layout(alloc, PLAN.as_bytes(), SCALE.as_bytes(), out);
+    let group = job_group(alloc, "0", "128", "2", out);
+    Ok([rows.err(), layout.err(), group.err()])
+}
+
 #[test]
 fn a_writer_that_buffers_is_flushed(rt: HostRuntime) -> Result<(), Fail> {
-    let alloc = rt.alloc();
-    let mut rows = Buffering::new(&rt, false);
-    let keys = HashKeys::random(&rt)?;
-    job_run(
-        alloc,
-        keys,
-        PLAN.as_bytes(),
-        INPUT.as_bytes(),
-        None,
-        &mut rows,
-    )?;
-    assert_eq!(rt; rows.given_on.as_slice(), ROWS.as_bytes());
-    let mut layout = Buffering::new(&rt, false);
-    job_layout(alloc, PLAN.as_bytes(), SCALE.as_bytes(), &mut layout)?;
-    assert_eq!(rt; layout.given_on.as_slice(), LAYOUT.as_bytes());
-    let mut group = Buffering::new(&rt, false);
-    job_group(alloc, "0", "128", "2", &mut group)?;
-    assert_eq!(rt; group.given_on.as_slice(), b"94 1\n".as_slice());
+    let mut out = Buffering::new(&rt, false);
+    let faults = faults_of(&rt, &mut out)?;
+    assert_eq!(rt; faults, [None; 3]);
+    assert_eq!(rt; out.given_on.as_slice(), TEXTS.as_bytes());
     Ok(())
 }
 
 #[test]
 fn a_flush_that_fails_is_a_failed_write(rt: HostRuntime) -> Result<(), Fail> {
-    let alloc = rt.alloc();
     let mut out = Buffering::new(&rt, true);
-    let keys = HashKeys::random(&rt)?;
-    let rows = job_run(
-        alloc,
+    let faults = faults_of(&rt, &mut out)?;
+    assert_eq!(rt; faults, [Some(JobFault::Write); 3]);
+    Ok(())
+}
+
+/// Why a job is not written into so little room.
+fn fault_in(
+    rt: &(impl AllocGlobal + RandomSource),
+    room: &mut [u8],
+) -> Result<Option<JobFault>, Fail> {
+    let mut out = room;
+    let keys = HashKeys::random(rt)?;
+    let said = job_run(
+        rt.alloc(),
         keys,
         PLAN.as_bytes(),
         INPUT.as_bytes(),
         None,
         &mut out,
     );
-    assert_eq!(rt; rows.err(), Some(JobFault::Write));
-    let layout = job_layout(alloc, PLAN.as_bytes(), SCALE.as_bytes(), &mut out);
-    assert_eq!(rt; layout.err(), Some(JobFault::Write));
-    let group = job_group(alloc, "0", "128", "2", &mut out);
-    assert_eq!(rt; group.err(), Some(JobFault::Write));
+    Ok(said.err())
+}
+
+#[test]
+fn a_writer_that_is_full(rt: HostRuntime) -> Result<(), Fail> {
+    let mut bytes = [0; 20];
+    let fault = fault_in(&rt, &mut bytes)?;
+    assert_eq!(rt; fault, Some(JobFault::Write));
     Ok(())
 }
