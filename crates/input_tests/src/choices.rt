@@ -1,6 +1,6 @@
 //! Tests of the choices of legs.
 
-use leg_lists::{Choice, LegFault, are_choices, read_choices};
+use leg_lists::{Choice, are_choices, read_choices};
 use plain_data::Items;
 use std::alloc::{AllocError, Global};
 use std::test::Fail;
@@ -28,35 +28,6 @@ fn choices_are_read(rt: HostRuntime) -> Result<(), Fail> {
     assert_eq!(rt; legs[0].as_slice(), [7, 0, u32::MAX].as_slice());
     assert!(rt; legs[1].is_empty());
     assert_eq!(rt; legs[2].as_slice(), [1].as_slice());
-    Ok(())
-}
-
-const REFUSED: [(&str, usize); 17] = [
-    ("", 0),
-    ("[[]", 1),
-    ("[[]] []", 1),
-    ("{}", 0),
-    ("[]", 1),
-    ("[[1]]", 0),
-    ("[[1]]", 2),
-    ("[[],[],[]]", 2),
-    ("[1]", 1),
-    ("[{}]", 1),
-    ("[null]", 1),
-    ("[[-1],[]]", 2),
-    ("[[4294967296]]", 1),
-    ("[[18446744073709551616]]", 1),
-    ("[[1.0]]", 1),
-    ("[[-0]]", 1),
-    (r#"[["1"]]"#, 1),
-];
-
-#[test]
-fn others_are_refused(rt: HostRuntime) -> Result<(), Fail> {
-    for (text, legs) in REFUSED {
-        let fault = read_choices(rt.alloc(), text.as_bytes(), legs).err();
-        assert_eq!(rt; fault, Some(LegFault::Choices), "at {text}");
-    }
     Ok(())
 }
 

@@ -4,18 +4,6 @@ use logical_plan::PlanFault;
 use plan_places::check_plan;
 use std::test::Fail;
 
-const RIGHT: &[u8] =
-    b"{\"columns\": 2, \"maxParallelism\": 128, \"time\": 0, \"key\": 1, \"sources\": [{\"uid\": \"calls\", \"partitions\": 1}],
- \"window\": {\"uid\": \"usage\", \"size\": 10, \"aggregates\": [{\"fn\": \"count\"}]}}";
-
-#[test]
-fn says_nothing_of_a_right_plan(rt: HostRuntime) -> Result<(), Fail> {
-    let mut out = Vec::new(rt.alloc());
-    assert!(rt; check_plan(rt.alloc(), RIGHT, "plan.json", &mut out).is_ok());
-    assert!(rt; out.is_empty());
-    Ok(())
-}
-
 #[test]
 fn writes_a_line_for_each_place(rt: HostRuntime) -> Result<(), Fail> {
     let mut out = Vec::new(rt.alloc());

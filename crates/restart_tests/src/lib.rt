@@ -8,6 +8,4 @@ mod dealing;
 #[cfg(test)]
 mod gathering;
 #[cfg(test)]
-mod restarting;
-#[cfg(test)]
 mod spreading;

@@ -6,7 +6,6 @@ ghost use Rattle.redistribute.specs.StartData.{AreEntries};
 
 use crate::dealing::layout_at;
 use aggregates::Kind;
-use leg_lists::{Cut, LegFault, Stop};
 use logical_plan::Plan;
 use plain_data::Items;
 use plan_model::Pane;
@@ -22,9 +21,6 @@ const TWO_SOURCES: &str =
 
 const ONE_TWO_ONE: &str =
     r#"{"ring":4,"operators":{"r":{"parallelism":1},"s":{"parallelism":2},"f":{"parallelism":1},"w":{"parallelism":2}}}"#;
-
-const ONE_FOUR_ONE: &str =
-    r#"{"ring":4,"operators":{"r":{"parallelism":1},"s":{"parallelism":4},"f":{"parallelism":1},"w":{"parallelism":1}}}"#;
 
 const ONE_NONE_AND_TWO: &str =
     r#"{"r":[[{"watermark":9}]],"s":[[{"watermark":4}],[],[{"watermark":5},{"watermark":7}]]}"#;
@@ -136,16 +132,6 @@ fn start_with_groups(alloc: Global, groups: &[u16]) -> Result<Start, AllocError>
     ))
 }
 
-fn stop_at(alloc: Global, counts: &[&[u64]]) -> Result<Stop, AllocError> {
-    let mut sources = Vec::new(alloc);
-    for counts in counts {
-        sources.push(Items::from_vec(Vec::from_slice(alloc, counts)?))?;
-    }
-    Ok(Stop::At(Cut {
-        counts: Items::from_vec(sources),
-    }))
-}
-
 /// What each task at a scale begins with, of a start.
 fn spread_in(
     rt: &impl AllocGlobal,
@@ -170,16 +156,6 @@ fn empty_of(rt: &impl AllocGlobal, plan: &Plan) -> Result<Start, Fail> {
 fn empty(rt: &impl AllocGlobal) -> Result<Start, Fail> {
     let plan = Plan::read(rt.alloc(), TWO_SOURCES.as_bytes())?;
     empty_of(rt, &plan)
-}
-
-fn input(rt: &impl AllocGlobal) -> Result<Input, Fail> {
-    let plan = Plan::read(rt.alloc(), TWO_SOURCES.as_bytes())?;
-    Ok(Input::read(rt.alloc(), &plan, ONE_NONE_AND_TWO.as_bytes())?)
-}
-
-fn stop(rt: &impl AllocGlobal, start: &Start, stop: &Stop) -> Result<Result<(), LegFault>, Fail> {
-    let input = input(rt)?;
-    Ok(start.check_stop(&input, stop))
 }
 
 fn check_all(rt: &impl Abort, starts: &[TaskStart], want: &[Want]) {
@@ -220,27 +196,6 @@ fn nothing_was_read_at_first(rt: HostRuntime) -> Result<(), Fail> {
     check_spread(&rt, ONE_TWO_ONE, &start, AT_FIRST)
 }
 
-const DEALT: &[Want] = &[
-    Want::Source(&[(0, 1, i64::MAX)]),
-    Want::Source(&[(0, 0, i64::MIN)]),
-    Want::Source(&[(1, 0, i64::MAX)]),
-    Want::Source(&[(2, 1, 5)]),
-    Want::Source(&[]),
-    Want::Chain,
-    Want::Window,
-    Want::Sink,
-];
-
-#[test]
-fn a_start_is_dealt_out_unchanged(rt: HostRuntime) -> Result<(), Fail> {
-    let start = start_with(
-        rt.alloc(),
-        u64::MAX,
-        &[&[(1, i64::MAX)], &[(0, i64::MIN), (0, i64::MAX), (1, 5)]],
-    )?;
-    check_spread(&rt, ONE_FOUR_ONE, &start, DEALT)
-}
-
 /// Two subtasks of the window own 64 key groups each.
 fn check_groups(rt: &(impl Abort + AllocGlobal), start: &Start) -> Result<(), Fail> {
     let starts = spread_at(rt, ONE_TWO_ONE, start)?;
@@ -270,51 +225,4 @@ fn a_start_tells_its_number_and_offsets(rt: HostRuntime) -> Result<(), Fail> {
     let start = start_with(rt.alloc(), 7, &[&[(3, 4)], &[(u64::MAX, 5), (6, 7)]])?;
     check_offsets(&rt, &start);
     Ok(())
-}
-
-/// Checks what a start answers to each of the cuts.
-fn check_cuts(
-    rt: &(impl Abort + AllocGlobal),
-    start: &Start,
-    cuts: &[&[&[u64]]],
-    want: Result<(), LegFault>,
-) -> Result<(), Fail> {
-    for cut in cuts {
-        let at = stop_at(rt.alloc(), cut)?;
-        let answer = stop(rt, start, &at)?;
-        assert_eq!(rt; answer, want, "{cut:?}");
-    }
-    Ok(())
-}
-
-const SOURCES_READ: &[&[(u64, i64)]] = &[&[(0, i64::MIN)], &[(1, i64::MAX), (0, i64::MAX), (1, 5)]];
-
-const CUTS: &[&[&[u64]]] = &[
-    &[&[0], &[1, 0, 1]],
-    &[&[1], &[1, 0, 2]],
-    &[&[0], &[1, 0, 2]],
-];
-
-#[test]
-fn a_leg_stops_between_its_start_and_the_end(rt: HostRuntime) -> Result<(), Fail> {
-    let start = start_with(rt.alloc(), 1, SOURCES_READ)?;
-    let answer = stop(&rt, &start, &Stop::Never)?;
-    assert_eq!(rt; answer, Ok(()));
-    check_cuts(&rt, &start, CUTS, Ok(()))
-}
-
-const OTHERS: &[&[&[u64]]] = &[
-    &[&[0], &[1, 0, 0]],
-    &[&[0], &[0, 0, 2]],
-    &[&[2], &[1, 0, 2]],
-    &[&[1], &[1, 1, 2]],
-    &[&[1], &[1, 0]],
-    &[&[1]],
-    &[&[1], &[1, 0, 2], &[]],
-];
-
-#[test]
-fn a_leg_stops_nowhere_else(rt: HostRuntime) -> Result<(), Fail> {
-    let start = start_with(rt.alloc(), 1, SOURCES_READ)?;
-    check_cuts(&rt, &start, OTHERS, Err(LegFault::StopRange))
 }

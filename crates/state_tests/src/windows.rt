@@ -134,28 +134,6 @@ fn windows_fire_once_at_their_end(rt: HostRuntime) -> Result<(), Fail> {
     check_fired(&rt, &mut state, FIRED_ONCE)
 }
 
-const FIRED_BELOW_ZERO: &[(i64, &[Fired])] = &[
-    (-11, &[(-20, -10, 1, 1, 1)]),
-    (-1, &[(-10, 0, 1, 2, 2)]),
-];
-
-#[test]
-fn windows_of_negative_times(rt: HostRuntime) -> Result<(), Fail> {
-    let mut state = reached(&rt, 10, 10, &[(-1, 1), (-10, 1), (-11, 1)])?;
-    check_fired(&rt, &mut state, FIRED_BELOW_ZERO)
-}
-
-const FIRED_SLIDING: &[(i64, &[Fired])] = &[
-    (1, &[(-8, 2, 3, 1, 3)]),
-    (i64::MAX, &[(-4, 6, 3, 1, 3)]),
-];
-
-#[test]
-fn a_time_lies_in_each_sliding_window(rt: HostRuntime) -> Result<(), Fail> {
-    let mut state = reached(&rt, 10, 4, &[(-1, 3)])?;
-    check_fired(&rt, &mut state, FIRED_SLIDING)
-}
-
 #[test]
 fn faults_have_their_codes(rt: HostRuntime) -> Result<(), Fail> {
     let alloc = rt.alloc();
@@ -267,40 +245,6 @@ fn parts_make_the_state_again(rt: HostRuntime) -> Result<(), Fail> {
     check_made_again(&rt, &mut again)
 }
 
-/// The state that two states' parts make, those of the first before those of the second.
-fn made_of_both(
-    alloc: Global,
-    keys: HashKeys,
-    window: &WindowSpec,
-    first: &[(i32, i64)],
-    second: &[(i32, i64)],
-) -> Result<WindowState, Fail>
-    requires time { window.now.time ≡ 0 }
-    requires aggregates { CanAggregate 2 window.now }
-{
-    let mut parts = parts_of(alloc, keys, window, first)?;
-    parts.extend_from_slice(&parts_of(alloc, keys, window, second)?)?;
-    Ok(WindowState::from_parts(alloc, keys, window, &parts)?)
-}
-
-/// The same of windows of 10.
-fn made_of_tens(
-    rt: &(impl AllocGlobal + RandomSource),
-    first: &[(i32, i64)],
-    second: &[(i32, i64)],
-) -> Result<WindowState, Fail> {
-    let keys = HashKeys::random(rt)?;
-    let window = window(rt.alloc(), 10, 10)?;
-    made_of_both(rt.alloc(), keys, &window, first, second)
-}
-
-#[test]
-fn the_first_part_of_a_pane_counts(rt: HostRuntime) -> Result<(), Fail> {
-    let (first, second) = ([(0, 7), (9, 7), (9, -4)], [(3, 7), (14, 7)]);
-    let state = made_of_tens(&rt, &first, &second)?;
-    check_held(&rt, &state, &HELD)
-}
-
 /// One record in each of a hundred windows of 10, in no order: key -k at the window that begins at 10 * k.
 fn hundred(rt: &(impl AllocGlobal + RandomSource)) -> Result<WindowState, Fail> {
     let mut records = Vec::new(rt.alloc());
@@ -309,79 +253,6 @@ fn hundred(rt: &(impl AllocGlobal + RandomSource)) -> Result<WindowState, Fail> 
         records.push((pane * 10 + 3, -(pane as i64)))?;
     }
     reached(rt, 10, 10, &records)
-}
-
-/// The row of one of the hundred windows.
-fn row_of(number: u8) -> Fired {
-    let start = number as i64 * 10;
-    (start, start + 10, -(number as i64), 1, -(number as i128))
-}
-
-/// Checks that the rows from `next` on fire by the watermark, and answers the number of the next to fire.
-fn check_next(
-    rt: &(impl Abort + AllocGlobal),
-    state: &mut WindowState,
-    watermark: i64,
-    next: u8,
-) -> Result<u8, Fail> {
-    let mut next = next;
-    for row in fired(rt.alloc(), state, watermark)? {
-        assert_eq!(rt; row, row_of(next));
-        next = next.saturating_add(1);
-    }
-    Ok(next)
-}
-
-/// Watermarks in turn, and how many windows have fired by each.
-const RISING: [(i64, u8); 11] = [
-    (-1, 0),
-    (8, 0),
-    (9, 1),
-    (9, 1),
-    (28, 2),
-    (29, 3),
-    (12, 3),
-    (600, 60),
-    (998, 99),
-    (999, 100),
-    (i64::MAX, 100),
-];
-
-fn check_rising(
-    rt: &(impl Abort + AllocGlobal),
-    state: &mut WindowState,
-    listed: &[(i64, u8)],
-) -> Result<(), Fail> {
-    let mut next = 0;
-    for (watermark, until) in listed {
-        next = check_next(rt, state, *watermark, next)?;
-        assert_eq!(rt; next, *until, "at {watermark}");
-        let left = state.parts(rt.alloc())?.len();
-        assert_eq!(rt;
-            left,
-            100usize.saturating_sub(*until as usize),
-            "at {watermark}"
-        );
-    }
-    Ok(())
-}
-
-#[test]
-fn rising_watermarks_fire_each_window_once(rt: HostRuntime) -> Result<(), Fail> {
-    let mut state = hundred(&rt)?;
-    check_rising(&rt, &mut state, &RISING)
-}
-
-fn check_in_one_go(rt: &(impl Abort + AllocGlobal), state: &mut WindowState) -> Result<(), Fail> {
-    check_count(rt, state, 999, 100)?;
-    check_held(rt, state, &[])?;
-    check_fired(rt, state, &[(i64::MAX, &[])])
-}
-
-#[test]
-fn all_windows_fire_in_one_go(rt: HostRuntime) -> Result<(), Fail> {
-    let mut state = hundred(&rt)?;
-    check_in_one_go(&rt, &mut state)
 }
 
 /// What an `add` to a new state answers, and the state.

@@ -314,34 +314,6 @@ fn a_source_reads_its_own_partition(rt: HostRuntime) -> Result<(), Fail> {
     check(&rt, case)
 }
 
-const READS_ZERO: &[(Step, Seen)] = &[
-    (Step::Open, Done),
-    (Step::Read(1), Refused(NotEnabled)),
-    (Step::Read(0), Done),
-    (Step::Put, Put(2, Shown::Rows(2, Some(1)))),
-    (Step::Read(0), Done),
-    (Step::Put, Put(0, Shown::Watermark(9))),
-    (Step::Put, Put(1, Shown::Watermark(9))),
-    (Step::Put, Put(2, Shown::Watermark(9))),
-    (Step::Read(0), Done),
-    (Step::Put, Put(2, Shown::Rows(1, Some(0)))),
-    (Step::Put, Put(0, Shown::Watermark(i64::MAX))),
-];
-
-#[test]
-fn its_other_subtask_reads_the_other(rt: HostRuntime) -> Result<(), Fail> {
-    let case = Case {
-        plan: USAGE,
-        scale: TWO_THREE,
-        input: THREE_AND_THREE,
-        stop: None,
-        number: 0,
-        steps: READS_ZERO,
-        done: false,
-    };
-    check(&rt, case)
-}
-
 const READS_NOTHING: &[(Step, Seen)] = &[
     (Step::Open, Done),
     (Step::Close, Refused(NotEnabled)),
@@ -511,19 +483,4 @@ fn a_window_waits_for_each_barrier(rt: HostRuntime) -> Result<(), Fail> {
         done: true,
     };
     check(&rt, case)
-}
-
-#[test]
-fn a_leg_stops_at_no_cut_past_the_end(rt: HostRuntime) -> Result<(), Fail> {
-    let case = Case {
-        plan: USAGE,
-        scale: TWO_THREE,
-        input: THREE_AND_THREE,
-        stop: Some(&[3, 4]),
-        number: 0,
-        steps: &[],
-        done: false,
-    };
-    assert_eq!(rt; outcome(&rt, case)?, Err(LegFault::StopRange));
-    Ok(())
 }

@@ -3,7 +3,6 @@ ghost use Rattle.task_setups.specs.Legs.{IsLayoutOf};
 
 use crate::making::layout_at;
 use dataflow_model::{Ending, Role};
-use lane_kernels::Cmp;
 use leg_lists::{Cut, Stop};
 use logical_plan::Plan;
 use plain_data::Items;
@@ -19,23 +18,8 @@ const NO_FILTER: &str =
 
 const TWO_THREE: &str = r#"{"ring":4,"operators":{"s":{"parallelism":2},"w":{"parallelism":3}}}"#;
 
-const TWO_FILTERS: &str =
-    r#"{"columns":3,"maxParallelism":128,"time":0,"key":1,"sources":[{"uid":"s","partitions":2}],"filters":[{"uid":"f","column":2,"op":"gt","value":0},{"uid":"g","column":1,"op":"lt","value":100}],"window":{"uid":"w","size":10,"aggregates":[{"fn":"count"}]}}"#;
-
-const ONE_CHAINED: &str =
-    r#"{"ring":4,"operators":{"s":{"parallelism":2},"f":{"parallelism":2},"g":{"parallelism":2,"chain":false},"w":{"parallelism":2}}}"#;
-
-const TWO_SOURCES: &str =
-    r#"{"columns":3,"maxParallelism":128,"time":1,"key":2,"sources":[{"uid":"r","partitions":1},{"uid":"s","partitions":2}],"window":{"uid":"w","size":10,"aggregates":[{"fn":"count"}]}}"#;
-
-const ONE_TWO_ONE: &str =
-    r#"{"ring":4,"operators":{"r":{"parallelism":1},"s":{"parallelism":2},"w":{"parallelism":1}}}"#;
-
 const THREE_AND_TWO: &str =
     r#"{"s":[[{"rows":[[1,1,5],[12,1,7]]},{"watermark":9},{"rows":[[15,0,-3]]}],[{"rows":[[3,0,4]]},{"watermark":11}]]}"#;
-
-const ONE_AND_NONE: &str =
-    r#"{"r":[[{"watermark":9}]],"s":[[],[{"watermark":5},{"watermark":7}]]}"#;
 
 fn told_on(
     rt: &(impl AllocGlobal + Abort),
@@ -125,75 +109,6 @@ fn each_task_of_a_leg_to_the_end(rt: HostRuntime) -> Result<(), Fail> {
         assert_eq!(rt; (setup.columns, setup.time, setup.key), (3, 0, 1));
         assert_eq!(rt; setup.having.len(), 1);
         assert_eq!(rt; setup.filters.len(), 0);
-    }
-    Ok(())
-}
-
-/// The filters of a task, each by its uid, column, comparison and number.
-fn check_filters(rt: &impl Abort, setup: &Setup, want: &[(&str, u32, Cmp, i64)]) {
-    let filters = setup.filters.as_slice();
-    assert_eq!(rt; filters.len(), want.len());
-    for (filter, want) in filters.iter().zip(want) {
-        assert_eq!(rt; filter.uid.as_str(), want.0);
-        assert_eq!(rt;
-            (filter.column, filter.cmp, filter.value),
-            (want.1, want.2, want.3)
-        );
-    }
-}
-
-#[test]
-fn a_task_has_the_filters_of_its_stage(rt: HostRuntime) -> Result<(), Fail> {
-    let leg = Leg {
-        number: 0,
-        stop: Stop::Never,
-    };
-    let f = ("f", 2, Cmp::Gt, 0);
-    let g = ("g", 1, Cmp::Lt, 100);
-    let want: [(Want, &[(&str, u32, Cmp, i64)]); 4] = [
-        ((Role::Source, 1, 1, None, &[0], &[3]), &[f]),
-        ((Role::Chain, 1, 2, Some(2), &[], &[]), &[g]),
-        ((Role::Window, 2, 1, None, &[], &[]), &[]),
-        ((Role::Sink, 2, 0, None, &[], &[]), &[]),
-    ];
-    for (stage, (want, filters)) in want.iter().enumerate() {
-        let task = 2 * stage as u32;
-        let setup = told(&rt, TWO_FILTERS, ONE_CHAINED, THREE_AND_TWO, &leg, task)?;
-        check(&rt, &setup, *want);
-        check_filters(&rt, &setup, filters);
-    }
-    Ok(())
-}
-
-#[test]
-fn the_second_source_to_a_cut(rt: HostRuntime) -> Result<(), Fail> {
-    let r = Items::from_vec(vec![in rt.alloc(); 1]?);
-    let s = Items::from_vec(vec![in rt.alloc(); 0, 2]?);
-    let leg = Leg {
-        number: 4,
-        stop: Stop::At(Cut {
-            counts: Items::from_vec(vec![in rt.alloc(); r, s]?),
-        }),
-    };
-    let want: [(Want, u32); 4] = [
-        ((Role::Source, 1, 1, Some(1), &[0], &[1]), 0),
-        ((Role::Source, 1, 1, Some(1), &[0], &[0]), 1),
-        ((Role::Source, 1, 1, Some(1), &[1], &[2]), 1),
-        ((Role::Window, 3, 1, None, &[], &[]), 0),
-    ];
-    for (task, (want, source)) in want.iter().enumerate() {
-        let setup = told(
-            &rt,
-            TWO_SOURCES,
-            ONE_TWO_ONE,
-            ONE_AND_NONE,
-            &leg,
-            task as u32,
-        )?;
-        check(&rt, &setup, *want);
-        assert_eq!(rt; setup.source, *source);
-        assert_eq!(rt; (setup.first, setup.ending), (5, Ending::AtCut));
-        assert_eq!(rt; (setup.time, setup.key), (1, 2));
     }
     Ok(())
 }

@@ -468,23 +468,6 @@ fn it_stops_at_its_cut(rt: HostRuntime) -> Result<(), Fail> {
     Ok(())
 }
 
-const OUT_OF_RANGE: &[&[u64]] = &[&[4, 3], &[3, 4], &[3], &[3, 3, 0], &[]];
-
-#[test]
-fn it_stops_only_at_a_cut_of_the_input(rt: HostRuntime) -> Result<(), Fail> {
-    for counts in OUT_OF_RANGE {
-        let case = Case {
-            scale: ONE_ONE,
-            stop: Some(counts),
-            parts: &[],
-            ending: Ending::GoesOn,
-        };
-        let answer = check(&rt, case)?;
-        assert_eq!(rt; answer, Err(LegFault::StopRange), "{counts:?}");
-    }
-    Ok(())
-}
-
 // Where no allocation is made to fail there is memory.
 #[test]
 fn a_world_that_found_no_memory_has_failed(rt: HostRuntime) -> Result<(), Fail> {

@@ -1,5 +1,6 @@
 use columns::{Batch, BatchFault};
 use std::alloc::{AllocError, Global};
+use std::process::Abort;
 use std::test::Fail;
 
 fn row(alloc: Global, numbers: &[i64]) -> Result<Vec<i64>, AllocError> {
@@ -30,66 +31,86 @@ fn rows_become_columns(rt: HostRuntime) -> Result<(), Fail> {
     Ok(())
 }
 
+/// Why two rows of different widths make no batch.
+fn fault_of_widths(alloc: Global) -> Result<Option<BatchFault>, AllocError> {
+    let rows = vec![in alloc; row(alloc, &[1, 2])?, row(alloc, &[3])?]?;
+    Ok(Batch::from_rows(alloc, &rows, 2).err())
+}
+
+/// Why so many rows make no batch, if they make none.
+fn fault_of_count(alloc: Global, count: i64) -> Result<Option<BatchFault>, AllocError> {
+    let rows = counted(alloc, count)?;
+    Ok(Batch::from_rows(alloc, &rows, 1).err())
+}
+
 #[test]
 fn rows_that_make_no_batch_are_refused(rt: HostRuntime) -> Result<(), Fail> {
-    let alloc = rt.alloc();
-    let rows = vec![in alloc; row(alloc, &[1, 2])?, row(alloc, &[3])?]?;
-    let fault = Batch::from_rows(alloc, &rows, 2).err();
-    assert_eq!(rt; fault, Some(BatchFault::Width(1)));
-    assert_eq!(rt;
-        Batch::from_rows(alloc, &counted(alloc, 4097)?, 1).err(),
-        Some(BatchFault::Rows)
-    );
-    let most = Batch::from_rows(alloc, &counted(alloc, 4096)?, 1)?;
-    assert_eq!(rt; most.len(), 4096);
-    assert_eq!(rt;
-        format!(in alloc; "{}", BatchFault::Width(7))?.as_str(),
-        "B1 Width(7)"
+    let faults = (
+        fault_of_widths(rt.alloc())?,
+        fault_of_count(rt.alloc(), 4096)?,
+        fault_of_count(rt.alloc(), 4097)?,
     );
     assert_eq!(rt;
-        format!(in alloc; "{}", BatchFault::Rows)?.as_str(),
-        "B2 Rows"
-    );
-    assert_eq!(rt;
-        format!(in alloc; "{}", BatchFault::Memory)?.as_str(),
-        "B3 Memory"
+        faults,
+        (Some(BatchFault::Width(1)), None, Some(BatchFault::Rows))
     );
     Ok(())
+}
+
+#[test]
+fn texts_of_faults(rt: HostRuntime) -> Result<(), Fail> {
+    for (fault, want) in [
+        (BatchFault::Width(7), "B1 Width(7)"),
+        (BatchFault::Rows, "B2 Rows"),
+        (BatchFault::Memory, "B3 Memory"),
+    ] {
+        let text = format!(in rt.alloc(); "{fault}")?;
+        assert_eq!(rt; text.as_str(), want);
+    }
+    Ok(())
+}
+
+/// A batch has just one column, of these numbers.
+fn check_column(rt: &impl Abort, batch: &Batch, want: &[i64]) {
+    assert_eq!(rt; batch.width(), 1);
+    assert_eq!(rt; batch.column(0), want);
+}
+
+fn check_kept(rt: &(impl Abort + AllocGlobal), batch: &Batch) -> Result<(), Fail> {
+    assert_eq!(rt; batch.len(), 3);
+    let kept = batch.keep(rt.alloc(), &[true, false, true])?;
+    check_column(rt, &kept, &[1, 3]);
+    Ok(())
+}
+
+fn check_copy(rt: &(impl Abort + AllocGlobal), batch: &Batch) -> Result<(), Fail> {
+    let copy = batch.copy(rt.alloc())?;
+    check_column(rt, &copy, &[1, 2, 3]);
+    Ok(())
+}
+
+fn check_split(rt: &(impl Abort + AllocGlobal), batch: &Batch) -> Result<(), Fail> {
+    assert_eq!(rt; batch.len(), 3);
+    let pieces = batch.split(rt.alloc(), &[1, 0, 1], 3)?;
+    assert_eq!(rt; pieces.len(), 3);
+    let wanted: [&[i64]; 3] = [&[2], &[1, 3], &[]];
+    for (piece, want) in pieces.iter().zip(wanted) {
+        check_column(rt, piece, want);
+    }
+    Ok(())
+}
+
+fn check_parts(rt: &(impl Abort + AllocGlobal), batch: &Batch) -> Result<(), Fail> {
+    check_kept(rt, batch)?;
+    check_copy(rt, batch)?;
+    check_split(rt, batch)
 }
 
 #[test]
 fn parts_have_their_rows(rt: HostRuntime) -> Result<(), Fail> {
-    let alloc = rt.alloc();
-    let batch = Batch::from_rows(alloc, &counted(alloc, 3)?, 1)?;
-    assert!(rt; batch.len() == 3 && batch.width() == 1);
-    let kept = batch.keep(alloc, &[true, false, true])?;
-    assert_eq!(rt; kept.width(), 1);
-    assert_eq!(rt; kept.column(0), [1, 3].as_slice());
-    let copy = batch.copy(alloc)?;
-    assert_eq!(rt; copy.width(), 1);
-    assert_eq!(rt; copy.column(0), [1, 2, 3].as_slice());
-    let pieces = batch.split(alloc, &[1, 0, 1], 3)?;
-    assert_eq!(rt; pieces.len(), 3);
-    let wanted: [&[i64]; 3] = [&[2], &[1, 3], &[]];
-    for t in 0..3 {
-        assert_eq!(rt; pieces[t].width(), 1);
-        assert_eq!(rt; pieces[t].column(0), wanted[t]);
-    }
-    Ok(())
-}
-
-#[test]
-fn a_batch_at_its_limits(rt: HostRuntime) -> Result<(), Fail> {
-    let alloc = rt.alloc();
-    let mut rows = Vec::new(alloc);
-    for _ in 0..4096 {
-        rows.push(row(alloc, &[7; 16])?)?;
-    }
-    let batch = Batch::from_rows(alloc, &rows, 16)?;
-    assert!(rt; batch.len() == 4096 && batch.width() == 16);
-    let none = batch.keep(alloc, &[false; 4096])?;
-    assert!(rt; none.is_empty() && none.width() == 16);
-    Ok(())
+    let rows = counted(rt.alloc(), 3)?;
+    let batch = Batch::from_rows(rt.alloc(), &rows, 1)?;
+    check_parts(&rt, &batch)
 }
 
 #[test]

@@ -36,24 +36,6 @@ fn keys_have_the_known_groups(rt: HostRuntime) -> Result<(), Fail> {
 }
 
 #[test]
-fn columns_of_keys_are_grouped_one_by_one(rt: HostRuntime) -> Result<(), Fail> {
-    let max = MaxParallelism::new(1000).ok_or("1000")?;
-    let mut keys = Vec::new(rt.alloc());
-    for key in -300..300i64 {
-        keys.push(key.wrapping_mul(0x1234_5678_9abc))?;
-    }
-    for length in [0, 1, 255, 256, 257, 512, 600] {
-        assert!(rt; length <= keys.len());
-        let mut groups = vec![in rt.alloc(); 0u32; length]?;
-        groups_into(&keys[..length], max, &mut groups);
-        for i in 0..length {
-            assert_eq!(rt; groups[i], group_of(keys[i], max), "at {i} of {length}");
-        }
-    }
-    Ok(())
-}
-
-#[test]
 fn ranges_and_owners_are_the_known_ones(rt: HostRuntime) -> Result<(), Fail> {
     let max = MaxParallelism::new(128).ok_or("128")?;
     let three = Parallelism::new(3, max).ok_or("3")?;

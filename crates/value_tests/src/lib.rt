@@ -1,4 +1,4 @@
-//! Tests of values: batches, accumulators, fields of bytes, tokens, key groups, kernels, watermarks and steps.
+//! Tests of values: batches, accumulators, fields of bytes, parts and tokens of JSON, key groups, kernels, watermarks and steps.
 #![tactic(auto)]
 
 #[cfg(test)]
@@ -17,6 +17,8 @@ mod groups;
 mod kernels;
 #[cfg(test)]
 mod marks;
+#[cfg(test)]
+mod parts;
 #[cfg(test)]
 mod steps;
 #[cfg(test)]
