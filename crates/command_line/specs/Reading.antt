@@ -15,7 +15,7 @@ name_of (Run _ _ _) = codes "run"
 name_of (Simulate _ _ _ _) = codes "simulate"
 name_of (Leg _ _ _ _ _ _) = codes "leg"
 name_of (Layout _ _) = codes "layout"
-name_of (Check _) = codes "check"
+name_of (Check _ _ _) = codes "check"
 name_of (Show _) = codes "show"
 name_of (Group _ _ _) = codes "group"
 name_of (Explain _) = codes "explain"
@@ -31,7 +31,7 @@ HasWords words (Leg plan input scale from stop save) =
     × (option_map (λ w. w.now) from ≡ first_value words (codes "from")) × (option_map (λ w. w.now) stop ≡ first_value words (codes "stop"))
     × (option_map (λ w. w.now) save ≡ first_value words (codes "save"))
 HasWords words (Layout plan scale) = (plan.now ≡ word words (codes "PLAN")) × (scale.now ≡ word words (codes "SCALE"))
-HasWords words (Check plan) = plan.now ≡ word words (codes "PLAN")
+HasWords words (Check plan input scale) = (plan.now ≡ word words (codes "PLAN")) × (option_map (λ w. w.now) input ≡ first_value words (codes "INPUT")) × (option_map (λ w. w.now) scale ≡ first_value words (codes "scale"))
 HasWords words (Show savepoint) = savepoint.now ≡ word words (codes "SAVEPOINT")
 HasWords words (Group key max par) = (key.now ≡ word words (codes "KEY")) × (max.now ≡ word words (codes "MAX")) × (par.now ≡ word words (codes "PAR"))
 HasWords words (Explain code) = code.now ≡ word words (codes "CODE")

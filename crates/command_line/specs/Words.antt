@@ -34,8 +34,9 @@ leg_shape = record leg_files_shape { rules = leg_files_shape.rules ++ option_rul
 abbrev pub layout_shape : Shape
 layout_shape = command_shape (codes "layout") (codes "PLAN" ∷ codes "SCALE" ∷ [])
 
+-- a plan, an input that may be left out, and an option
 abbrev pub check_shape : Shape
-check_shape = command_shape (codes "check") (codes "PLAN" ∷ [])
+check_shape = record (new_shape (codes "check")) { rules = required_rule (codes "PLAN") ∷ new_rule (codes "INPUT") ∷ option_rule (codes "scale") ∷ [] }
 
 abbrev pub show_shape : Shape
 show_shape = command_shape (codes "show") (codes "SAVEPOINT" ∷ [])

@@ -43,6 +43,8 @@ fn command_in<'a>(name: &str, words: &ArgMatches<'a>) -> Option<Command<'a>>
         }),
         "check" => Some(Command::Check {
             plan: named(words, "PLAN"),
+            input: words.get_str("INPUT"),
+            scale: words.get_str("scale"),
         }),
         "show" => Some(Command::Show {
             savepoint: named(words, "SAVEPOINT"),

@@ -192,18 +192,21 @@ fn layout_words<'a>(alloc: Global) -> Result<Command<'a>, AllocError>
 }
 
 const CHECK: &str = "\
-It prints nothing of a plan that is right. Of another each place, up to 20, at which the requirement
-that standard error names is not met: `FILE:LINE:COLUMN: what stands there, and what has to`.
+It prints nothing of files that are right. Of the first that is refused, in the order plan, input, scale,
+it prints each place, up to 20, at which the requirement that standard error names is not met:
+`FILE:LINE:COLUMN: what stands there, and what has to`.
 
-Example: streamjob check plan.json
-Page: docs/FORMATS.md, under Plan";
+Example: streamjob check plan.json input.json --scale scale.json
+Page: docs/FORMATS.md, under Plan, Input and Scale";
 
 fn check_words<'a>(alloc: Global) -> Result<Command<'a>, AllocError>
     ensures { IfOk result (λ c. IsCommand check_shape c) }
 {
-    let about = "Print the places at which a plan is refused";
+    let about = "Print the places at which a plan, an input or a scale is refused";
     let command = named(alloc, "check", about, CHECK);
-    required(alloc, command, "PLAN", PLAN)
+    let command = required(alloc, command, "PLAN", PLAN)?;
+    let command = optional(alloc, command, "INPUT", INPUT)?;
+    option(alloc, command, "scale", "SCALE", SCALE)
 }
 
 const SHOW: &str = "\

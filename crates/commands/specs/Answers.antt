@@ -10,11 +10,6 @@ use Rattle.job.specs.Layout.{TellsLayout, layout_said}
 use Rattle.job.specs.Leg.{LegJob, TellsLeg, leg_said}
 use Rattle.job.specs.Run.{Answers, run_said}
 use Rattle.job.specs.Show.{TellsSavepoint, show_said}
-use Rattle.job.specs.Ends.{as_job}
-use Rattle.job_texts.specs.Fault.{plan_fault}
-use Rattle.logical_plan.specs.Answer.{plan_of_bytes}
-use Rattle.logical_plan.specs.declared.fault.PlanFault.{PlanFault}
-use Rattle.plan_places.specs.Answer as places
 use Rattle.user_texts.specs.Pages.{TellsPage, explained}
 use Rattle.user_texts.specs.declared.writing.TextFault.{TextFault}
 
@@ -62,10 +57,6 @@ AnswersLeg names_savepoint stop result =
 -- what `job_layout` answers of some plan and scale, or that one of them was not read
 abbrev pub AnswersLayout : Result (Unit {0}) JobFault → Type 0
 AnswersLayout result = CannotRead result ⊎ ((plan : List ℕ) × (scale : List ℕ) × TellsLayout (layout_said plan scale) result None None)
-
--- what `check_plan` answers of some plan, or that it was not read
-abbrev pub AnswersCheck : Result (Unit {0}) JobFault → Type 0
-AnswersCheck result = CannotRead result ⊎ ((plan : List ℕ) × (answer : Result (Unit {0}) PlanFault) × places.AnswersCheck (plan_of_bytes plan) answer × (result ≡ as_job plan_fault answer))
 
 -- what `job_show` answers of some savepoint, or that it was not read
 abbrev pub AnswersShow : Result (Unit {0}) JobFault → Type 0

@@ -1,3 +1,4 @@
 pub mod Answers
 pub mod Outcome
 pub mod Status
+pub mod Checking

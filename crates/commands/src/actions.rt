@@ -3,12 +3,11 @@
 ghost use Rattle.std.specs.Prelude.{◌≡◌, ◌⊎◌, is_some, option_map, IfErr};
 ghost use Rattle.job.specs.Leg.{leg_said};
 ghost use Rattle.commands.specs.Answers as answers;
-ghost use Rattle.commands.specs.Answers.{AnswersRun, AnswersSimulate, AnswersLeg, ComesOfLeg, AnswersLayout, AnswersCheck, AnswersShow, AnswersGroup, AnswersExplain};
+ghost use Rattle.commands.specs.Answers.{AnswersRun, AnswersSimulate, AnswersLeg, ComesOfLeg, AnswersLayout, AnswersShow, AnswersGroup, AnswersExplain};
 
 use crate::files::{file, optional_file};
 use crate::saving::save;
 use job::{HashKeys, JobFault, job_group, job_layout, job_leg, job_run, job_show, job_simulate};
-use plan_places::check_plan;
 use std::io::{Write, writer};
 use std::random::RandomSource;
 use std::rt::Files;
@@ -175,19 +174,6 @@ pub fn layout<R: Files + Print + AllocGlobal>(
     let plan = file(rt, plan)?;
     let scale = file(rt, scale)?;
     job_layout(rt.alloc(), &plan, &scale, &mut writer(rt))
-}
-
-/// Prints the places at which a plan is refused.
-///
-/// # Errors
-///
-/// `Read` where the file cannot be read, else the plan's fault.
-pub fn check<R: Files + Print + AllocGlobal>(rt: &R, plan: &str) -> Result<(), JobFault>
-    ensures { AnswersCheck result }
-{
-    let bytes = file(rt, plan)?;
-    check_plan(rt.alloc(), &bytes, plan, &mut writer(rt))?;
-    Ok(())
 }
 
 /// Prints what a savepoint holds.

@@ -30,9 +30,11 @@ pub enum Command<'a> {
         plan: &'a str,
         scale: &'a str,
     },
-    /// Print the places at which a plan is refused.
+    /// Print the places at which a plan is refused, or an input or a scale of it.
     Check {
         plan: &'a str,
+        input: Option<&'a str>,
+        scale: Option<&'a str>,
     },
     /// Print what a savepoint holds.
     Show {

@@ -2,6 +2,7 @@
 #![tactic(auto)]
 
 mod actions;
+mod checking;
 mod command;
 mod fault;
 mod files;

@@ -2,7 +2,8 @@
 
 ghost use Rattle.commands.specs.Outcome.{Performs};
 
-use crate::actions::{check, explain, group, layout, leg, run, show, simulate, version};
+use crate::actions::{explain, group, layout, leg, run, show, simulate, version};
+use crate::checking::check;
 use crate::command::Command;
 use crate::fault::{CommandFault, after_job, after_page};
 use std::random::RandomSource;
@@ -36,7 +37,7 @@ pub fn performed<R: Files + Print + RandomSource + AllocGlobal>(
             save,
         } => after_job(leg(rt, plan, input, scale, *from, *stop, *save)),
         Command::Layout { plan, scale } => after_job(layout(rt, plan, scale)),
-        Command::Check { plan } => after_job(check(rt, plan)),
+        Command::Check { plan, input, scale } => after_job(check(rt, plan, *input, *scale)),
         Command::Show { savepoint } => after_job(show(rt, savepoint)),
         Command::Group { key, max, par } => after_job(group(rt, key, max, par)),
         Command::Explain { code } => after_page(explain(rt, code)),

@@ -1,7 +1,7 @@
 //! Plans that are checked.
 
+use fault_places::check_plan;
 use logical_plan::PlanFault;
-use plan_places::check_plan;
 use std::test::Fail;
 
 #[test]

@@ -1,14 +1,14 @@
 //! Plans that are refused.
 
+use fault_places::{Refused, places_of};
 use logical_plan::PlanFault;
-use plan_places::places_of_plan;
 use std::test::Fail;
 use text_places::place_of;
 
 /// The first place of a plan's fault, and how many there are, as a line.
 fn told(rt: &HostRuntime, text: &str, fault: PlanFault) -> Result<String, Fail> {
     let alloc = rt.alloc();
-    let found = places_of_plan(alloc, text.as_bytes(), fault)?;
+    let found = places_of(alloc, text.as_bytes(), Refused::Plan(fault))?;
     let mut line = format!(in alloc; "{}", found.places().len())?;
     for finding in found.places() {
         let place = place_of(text.as_bytes(), finding.offset);

@@ -1,0 +1,126 @@
+//! What the command `check` does.
+
+ghost use Rattle.std.specs.Prelude.{is_some, option_map};
+ghost use Rattle.stream_input.specs.Answer.{input_of_bytes};
+ghost use Rattle.stream_input.specs.Answer.{is_memory as is_input_memory};
+ghost use Rattle.plan_scale.specs.Answer.{scale_of_bytes};
+ghost use Rattle.plan_scale.specs.Answer.{is_memory as is_scale_memory};
+ghost use Rattle.job_texts.specs.Fault.{input_fault, scale_fault};
+ghost use Rattle.commands.specs.Checking.{AnswersCheck, ChecksPart, ChecksParts, ChecksTexts};
+
+use crate::files::{file, optional_file};
+use fault_places::{check_input, check_plan, check_scale};
+use job::JobFault;
+use logical_plan::Plan;
+use std::io::writer;
+use std::rt::Files;
+
+/// The names of the files.
+#[derive(Clone, Copy)]
+struct Names<'n> {
+    plan: &'n str,
+    input: &'n str,
+    scale: &'n str,
+}
+
+/// Prints the places at which an input of the plan is refused, if there is one.
+fn check_its_input<R: Print + AllocGlobal>(
+    rt: &R,
+    plan: &Plan,
+    input: Option<&[u8]>,
+    name: &str,
+) -> Result<(), JobFault>
+    ensures { ChecksPart is_input_memory input_fault (input_of_bytes plan.now) (option_map (λ bytes. bytes.now) input.entry) result }
+{
+    match input {
+        Some(bytes) => Ok(check_input(
+            rt.alloc(),
+            plan,
+            bytes,
+            name,
+            &mut writer(rt),
+        )?),
+        None => Ok(()),
+    }
+}
+
+/// The same of a scale.
+fn check_its_scale<R: Print + AllocGlobal>(
+    rt: &R,
+    plan: &Plan,
+    scale: Option<&[u8]>,
+    name: &str,
+) -> Result<(), JobFault>
+    ensures { ChecksPart is_scale_memory scale_fault (scale_of_bytes plan.now) (option_map (λ bytes. bytes.now) scale.entry) result }
+{
+    match scale {
+        Some(bytes) => Ok(check_scale(
+            rt.alloc(),
+            plan,
+            bytes,
+            name,
+            &mut writer(rt),
+        )?),
+        None => Ok(()),
+    }
+}
+
+/// Prints the places at which an input and a scale of the plan are refused, of those that there are.
+fn check_parts<R: Print + AllocGlobal>(
+    rt: &R,
+    plan: &Plan,
+    input: Option<&[u8]>,
+    scale: Option<&[u8]>,
+    names: Names<'_>,
+) -> Result<(), JobFault>
+    ensures { ChecksParts plan.now (option_map (λ bytes. bytes.now) input.entry) (option_map (λ bytes. bytes.now) scale.entry) result }
+{
+    check_its_input(rt, plan, input, names.input)?;
+    check_its_scale(rt, plan, scale, names.scale)
+}
+
+/// Prints the places at which a plan is refused, or else its input, or else its scale.
+fn check_texts<R: Print + AllocGlobal>(
+    rt: &R,
+    plan: &[u8],
+    input: Option<&[u8]>,
+    scale: Option<&[u8]>,
+    names: Names<'_>,
+) -> Result<(), JobFault>
+    ensures { ChecksTexts plan.now (option_map (λ bytes. bytes.now) input.entry) (option_map (λ bytes. bytes.now) scale.entry) result }
+{
+    match check_plan(rt.alloc(), plan, names.plan, &mut writer(rt)) {
+        Ok(read) => check_parts(rt, &read, input, scale, names),
+        Err(fault) => Err(JobFault::from(fault)),
+    }
+}
+
+/// Prints the places at which a plan is refused, or else an input or a scale of it, where they are named.
+///
+/// # Errors
+///
+/// `Read` where a file cannot be read, else the fault of the plan, the input or the scale, the first of these.
+pub fn check<R: Files + Print + AllocGlobal>(
+    rt: &R,
+    plan: &str,
+    input: Option<&str>,
+    scale: Option<&str>,
+) -> Result<(), JobFault>
+    ensures { AnswersCheck (is_some input.entry) (is_some scale.entry) result }
+{
+    let names = Names {
+        plan,
+        input: input.unwrap_or(""),
+        scale: scale.unwrap_or(""),
+    };
+    let plan_bytes = file(rt, plan)?;
+    let input_bytes = optional_file(rt, input)?;
+    let scale_bytes = optional_file(rt, scale)?;
+    check_texts(
+        rt,
+        &plan_bytes,
+        input_bytes.as_deref(),
+        scale_bytes.as_deref(),
+        names,
+    )
+}

@@ -1,0 +1,38 @@
+//! The places of a plan.
+
+mod counts;
+mod kinds;
+mod numbers;
+mod shape;
+mod uids;
+mod window;
+
+use crate::telling::Notes;
+use logical_plan::PlanFault;
+use std::alloc::AllocError;
+use text_places::Placed;
+
+/// Tells of the places at which a plan, which is JSON, does not meet the requirement of a fault.
+pub(crate) fn check(
+    notes: &mut Notes,
+    plan: &Placed<'_>,
+    fault: PlanFault,
+) -> Result<(), AllocError> {
+    match fault {
+        PlanFault::NotJson | PlanFault::Memory => Ok(()),
+        PlanFault::Member => shape::check_shape(notes, plan),
+        PlanFault::Columns => numbers::check_columns(notes, plan),
+        PlanFault::ColumnIndex => numbers::check_column_indices(notes, plan),
+        PlanFault::MaxParallelism => numbers::check_max(notes, plan),
+        PlanFault::Sources => counts::check_sources(notes, plan),
+        PlanFault::Partitions => numbers::check_partitions(notes, plan),
+        PlanFault::Uid => uids::check_uids(notes, plan),
+        PlanFault::UidTwice => uids::check_uids_twice(notes, plan),
+        PlanFault::Filters => counts::check_conditions(notes, plan),
+        PlanFault::WindowSize => window::check_length(notes, plan, "size"),
+        PlanFault::WindowSlide => window::check_length(notes, plan, "slide"),
+        PlanFault::WindowOffset => window::check_offset(notes, plan),
+        PlanFault::Panes => window::check_panes(notes, plan),
+        PlanFault::Aggregates => counts::check_aggregates(notes, plan),
+    }
+}

@@ -1,0 +1,216 @@
+//! The places of a scale.
+
+use crate::forms::{Form, Rule, Shape, check_object, tell_other};
+use crate::owner::{Member, Owner};
+use crate::seeing::member_of;
+use crate::telling::{Notes, Range, check_range};
+use json::Token;
+use key_groups::MOST_SUBTASKS;
+use layout_rules::MOST_CAPACITY;
+use logical_plan::Plan;
+use plan_model::{FilterSpec, SourceSpec};
+use plan_scale::ScaleFault;
+use std::alloc::AllocError;
+use text_places::{Part, Placed, part_named};
+
+const SCALE_MEMBERS: [Rule; 2] = [
+    Rule {
+        name: "ring",
+        form: Form::Whole,
+        may_be_absent: false,
+    },
+    Rule {
+        name: "operators",
+        form: Form::Object,
+        may_be_absent: false,
+    },
+];
+
+const OPERATOR_MEMBERS: [Rule; 2] = [
+    Rule {
+        name: "parallelism",
+        form: Form::Whole,
+        may_be_absent: false,
+    },
+    Rule {
+        name: "chain",
+        form: Form::Flag,
+        may_be_absent: true,
+    },
+];
+
+fn scale_shape() -> Shape {
+    Shape {
+        rules: &SCALE_MEMBERS,
+        names: "ring and operators",
+    }
+}
+
+fn operator_shape() -> Shape {
+    Shape {
+        rules: &OPERATOR_MEMBERS,
+        names: "parallelism, and perhaps chain",
+    }
+}
+
+/// Tells of the operators whose members are missing, unknown or of another form.
+fn check_operators(notes: &mut Notes, operators: &Placed<'_>) -> Result<(), AllocError> {
+    if !matches!(operators.token, Token::BeginObject) {
+        return tell_other(
+            notes,
+            Owner::One("`operators` of the scale"),
+            operators,
+            "an object",
+        );
+    }
+    let parts = operators.parts(notes.alloc)?;
+    for part in &parts {
+        let owner = Owner::Named("operator", part.name);
+        check_object(notes, owner, &part.value, operator_shape())?;
+    }
+    Ok(())
+}
+
+/// Tells of the members that are missing, unknown or of another form.
+fn check_shape(notes: &mut Notes, scale: &Placed<'_>) -> Result<(), AllocError> {
+    check_object(notes, Owner::One("the scale"), scale, scale_shape())?;
+    match member_of(notes.alloc, scale, "operators")? {
+        Some(operators) => check_operators(notes, &operators),
+        None => Ok(()),
+    }
+}
+
+/// Tells of a name under which the plan has no operator.
+fn check_known(notes: &mut Notes, plan: &Plan, part: &Part<'_>) -> Result<(), AllocError> {
+    let name = part.name;
+    if plan.place_of(name).is_some() {
+        return Ok(());
+    }
+    let sentence = format!(in notes.alloc; "the plan has no operator {name:?}")?;
+    notes.tell(part.offset, sentence)
+}
+
+/// Tells of an operator of the plan that no part names.
+fn check_given(
+    notes: &mut Notes,
+    operators: &Placed<'_>,
+    parts: &[Part<'_>],
+    uid: &str,
+) -> Result<(), AllocError> {
+    if part_named(parts, uid).is_some() {
+        return Ok(());
+    }
+    let sentence = format!(in notes.alloc; "the operator {uid:?} of the plan is missing here")?;
+    notes.tell(operators.offset, sentence)
+}
+
+fn check_sources_given(
+    notes: &mut Notes,
+    operators: &Placed<'_>,
+    parts: &[Part<'_>],
+    sources: &[SourceSpec],
+) -> Result<(), AllocError> {
+    for source in sources {
+        check_given(notes, operators, parts, source.uid.as_str())?;
+    }
+    Ok(())
+}
+
+fn check_filters_given(
+    notes: &mut Notes,
+    operators: &Placed<'_>,
+    parts: &[Part<'_>],
+    filters: &[FilterSpec],
+) -> Result<(), AllocError> {
+    for filter in filters {
+        check_given(notes, operators, parts, filter.uid.as_str())?;
+    }
+    Ok(())
+}
+
+/// Tells of the operators of the plan that are missing.
+fn check_all_given(
+    notes: &mut Notes,
+    plan: &Plan,
+    operators: &Placed<'_>,
+    parts: &[Part<'_>],
+) -> Result<(), AllocError> {
+    check_sources_given(notes, operators, parts, plan.sources())?;
+    check_filters_given(notes, operators, parts, plan.filters())?;
+    check_given(notes, operators, parts, plan.window().uid.as_str())
+}
+
+/// Tells of a parallelism that is not 1 to 64, or over the number of key groups.
+fn check_parallelism(notes: &mut Notes, plan: &Plan, part: &Part<'_>) -> Result<(), AllocError> {
+    let member = Member {
+        owner: Owner::Named("operator", part.name),
+        object: &part.value,
+        name: "parallelism",
+    };
+    let most = i64::from(plan.max().min(MOST_SUBTASKS));
+    check_range(notes, member, Range { least: 1, most })
+}
+
+/// Tells of each part that does not meet the requirement of a fault.
+fn check_each(
+    notes: &mut Notes,
+    plan: &Plan,
+    parts: &[Part<'_>],
+    fault: ScaleFault,
+) -> Result<(), AllocError> {
+    for part in parts {
+        if fault == ScaleFault::UnknownUid {
+            check_known(notes, plan, part)?;
+        } else {
+            check_parallelism(notes, plan, part)?;
+        }
+    }
+    Ok(())
+}
+
+/// Tells of the operators that do not meet the requirement of a fault.
+fn check_under(
+    notes: &mut Notes,
+    plan: &Plan,
+    scale: &Placed<'_>,
+    fault: ScaleFault,
+) -> Result<(), AllocError> {
+    let Some(operators) = member_of(notes.alloc, scale, "operators")? else {
+        return Ok(());
+    };
+    let parts = operators.parts(notes.alloc)?;
+    match fault {
+        ScaleFault::MissingUid => check_all_given(notes, plan, &operators, &parts),
+        ScaleFault::Tasks => notes.tell(
+            operators.offset,
+            String::from_str(notes.alloc, "the layout has more than 256 tasks")?,
+        ),
+        _ => check_each(notes, plan, &parts, fault),
+    }
+}
+
+/// Tells of a ring that holds not 1 to 1,024 messages.
+fn check_ring(notes: &mut Notes, scale: &Placed<'_>) -> Result<(), AllocError> {
+    let member = Member {
+        owner: Owner::One("the scale"),
+        object: scale,
+        name: "ring",
+    };
+    let most = i64::from(MOST_CAPACITY);
+    check_range(notes, member, Range { least: 1, most })
+}
+
+/// Tells of the places at which a scale, which is JSON, does not meet the requirement of a fault.
+pub(crate) fn check(
+    notes: &mut Notes,
+    plan: &Plan,
+    scale: &Placed<'_>,
+    fault: ScaleFault,
+) -> Result<(), AllocError> {
+    match fault {
+        ScaleFault::NotJson | ScaleFault::Memory => Ok(()),
+        ScaleFault::Member => check_shape(notes, scale),
+        ScaleFault::Ring => check_ring(notes, scale),
+        _ => check_under(notes, plan, scale, fault),
+    }
+}

@@ -1,0 +1,112 @@
+//! What is told of places, and how it is written.
+
+use crate::owner::{Member, Owner};
+use crate::seeing::{member_of, whole_of};
+use std::alloc::{AllocError, Global};
+use std::io::Write;
+use std::{fmt, io};
+use text_places::{Finding, Findings, MOST_PLACES, Placed, place_of};
+
+/// What is told of a text: its places in the order in which they were found, at most [`MOST_PLACES`].
+#[derive(Drop)]
+pub(crate) struct Notes {
+    pub(crate) alloc: Global,
+    pub(crate) places: Vec<Finding>,
+}
+
+impl Notes {
+    pub(crate) fn new(alloc: Global) -> Notes {
+        Notes {
+            alloc,
+            places: Vec::new(alloc),
+        }
+    }
+
+    /// Keeps one more place, unless there are enough.
+    pub(crate) fn tell(&mut self, offset: usize, sentence: String) -> Result<(), AllocError> {
+        if self.places.len() < MOST_PLACES {
+            self.places.push(Finding { offset, sentence })?;
+        }
+        Ok(())
+    }
+}
+
+/// Tells of the value of a member, and what is wanted of it.
+pub(crate) fn tell_value<D: fmt::Display + Drop>(
+    notes: &mut Notes,
+    owner: Owner<'_>,
+    name: &str,
+    value: &Placed<'_>,
+    wanted: D,
+) -> Result<(), AllocError> {
+    let sentence = format!(in notes.alloc; "`{name}` of {owner} is {value}, and {wanted}")?;
+    notes.tell(value.offset, sentence)
+}
+
+/// Numbers from a least one to a greatest one.
+#[derive(Clone, Copy)]
+pub(crate) struct Range {
+    pub(crate) least: i64,
+    pub(crate) most: i64,
+}
+
+impl Range {
+    /// Whether there is a number, and it is one of these.
+    pub(crate) fn has(self, number: Option<i64>) -> bool {
+        match number {
+            Some(number) => self.least <= number && number <= self.most,
+            None => false,
+        }
+    }
+}
+
+impl fmt::Display for Range {
+    fn fmt<W: fmt::Write>(&self, f: &mut fmt::Formatter<W>) -> fmt::Result {
+        let (least, most) = (self.least, self.most);
+        write!(f, "has to be from {least} to {most}")
+    }
+}
+
+/// Tells of a member that is there and no number of a range.
+pub(crate) fn check_range(
+    notes: &mut Notes,
+    member: Member<'_, '_>,
+    range: Range,
+) -> Result<(), AllocError> {
+    match member_of(notes.alloc, member.object, member.name)? {
+        Some(value) if !range.has(whole_of(&value)) => tell_value(
+            notes,
+            member.owner,
+            member.name,
+            &value,
+            range,
+        ),
+        _ => Ok(()),
+    }
+}
+
+/// Writes a line for a place: the file, its line and column, and the sentence.
+fn write_place<W: Write>(
+    out: &mut W,
+    file: &str,
+    text: &[u8],
+    finding: &Finding,
+) -> io::Result<()> {
+    let place = place_of(text, finding.offset);
+    let (line, column) = (place.line, place.column);
+    let sentence = finding.sentence.as_str();
+    writeln!(out, "{file}:{line}:{column}: {sentence}")
+}
+
+/// Writes a line for each place.
+pub(crate) fn write_places<W: Write>(
+    out: &mut W,
+    file: &str,
+    text: &[u8],
+    found: &Findings,
+) -> io::Result<()> {
+    for finding in found.places() {
+        write_place(out, file, text, finding)?;
+    }
+    out.flush()
+}
