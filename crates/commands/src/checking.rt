@@ -33,13 +33,7 @@ fn check_its_input<R: Print + AllocGlobal>(
     ensures { ChecksPart is_input_memory input_fault (input_of_bytes plan.now) (option_map (λ bytes. bytes.now) input.entry) result }
 {
     match input {
-        Some(bytes) => Ok(check_input(
-            rt.alloc(),
-            plan,
-            bytes,
-            name,
-            &mut writer(rt),
-        )?),
+        Some(bytes) => Ok(check_input(rt.alloc(), plan, bytes, name, &mut writer(rt))?),
         None => Ok(()),
     }
 }
@@ -54,13 +48,7 @@ fn check_its_scale<R: Print + AllocGlobal>(
     ensures { ChecksPart is_scale_memory scale_fault (scale_of_bytes plan.now) (option_map (λ bytes. bytes.now) scale.entry) result }
 {
     match scale {
-        Some(bytes) => Ok(check_scale(
-            rt.alloc(),
-            plan,
-            bytes,
-            name,
-            &mut writer(rt),
-        )?),
+        Some(bytes) => Ok(check_scale(rt.alloc(), plan, bytes, name, &mut writer(rt))?),
         None => Ok(()),
     }
 }
