@@ -1,6 +1,8 @@
 -- Legs one after another deliver what is due.
-use Rattle.std.proofs.Common.{◌≡◌, ◌∙◌, ℕ, ◌+◌, ◌≤◌, ◌^◌, List, [], ◌∷◌, ◌++◌, length, Option, Some, None, Ok, Err, refl, sym, ap, subst, arith}
-use Rattle.std.specs.Option.{option_map_or, option_to_list}
+use Rattle.std.proofs.Common.{◌≡◌, ◌∙◌, ℕ, ◌+◌, ◌≤◌, ◌^◌, List, [], ◌∷◌, ◌++◌, length, Ok, refl, sym, ap, subst, arith}
+use Rattle.std.proofs.lemmas.Bool.{leb-true}
+use Rattle.std.specs.Option.{option_to_list}
+use Rattle.json_parts.proofs.Facts.{met_first, no_fault}
 use Rattle.plan_model.specs.PlanData.{PlanData}
 use Rattle.plan_model.specs.Rows.{AreRowsOf}
 use Rattle.plan_model.specs.declared.spec.Row.{Row}
@@ -22,7 +24,8 @@ use Rattle.redistribute.specs.Snapshots.{saved_sources}
 use Rattle.savepoint_codec.specs.Layout.{IsSavepoint, savepoint_bytes}
 use Rattle.savepoint_codec.specs.declared.savepoint.Contents.{Contents}
 use Rattle.restore.specs.Answer.{start_of, start_or_fault}
-use Rattle.restore.specs.declared.fault.RestoreFault.{RestoreFault}
+use Rattle.restore.specs.Requirements.{has_max, has_known_uids, has_all_uids, has_plan, has_partitions, has_offsets, has_watermarks, has_groups, has_open_windows, has_counts, has_number, plan_requirements, input_requirements}
+use Rattle.restore.specs.declared.fault.RestoreFault.TheVariants.{MaxParallelism, UnknownUid, MissingUid, PlanChanged, Partitions, Offset, Watermark, WrongGroup, ClosedWindow, Count, Number}
 use Rattle.restarts.specs.Laws.{IsStartAt, SnapshotsRestart, savepoint_at}
 use Rattle.gather.specs.Laws.{SamePanesSameSavepoint}
 use Rattle.leg_tasks.specs.Saved.{IsSavedAt}
@@ -34,8 +37,34 @@ use Rattle.core_steps.proofs.Delivered.{none_at_first, world_delivers, world_sav
 use Rattle.job_legs.specs.Laws.{NothingDueAtFirst, RowsAddUp}
 use Rattle.job_legs.specs.Ending.{rows_to}
 use Rattle.job_legs.proofs.Facts.{before_end, come_to}
-use Rattle.lineages.specs.Lineage.{AreExact, ComesFrom, Headline, IsLeg, IsUnderWay, Lineage, LineagesAreExact, OneSavepoint, delivered, given_of}
+use Rattle.lineages.specs.Lineage.{AreExact, BytesRestart, ComesFrom, Headline, IsLeg, IsUnderWay, Lineage, LineagesAreExact, OneSavepoint, delivered, given_of}
 use Rattle.lineages.specs.Lineage.Lineage.{begins, goes_on}
+
+-- ---- a start from bytes
+
+-- the number of a savepoint that is accepted leaves room for those of legs to come
+few : (p : PlanData) (i : InputData) (s : Contents) (d : StartData) → start_or_fault p i s ≡ Ok d → s.number ≤ 2 ^ 63
+unfolding plan_requirements input_requirements has_number
+few p i s d accepted =
+    let said = no_fault _ (start_of p s) d accepted in
+    let a = (met_first MaxParallelism (has_max p s) _ said.0).1 in
+    let b = (met_first UnknownUid (has_known_uids p s) _ a).1 in
+    let e = (met_first MissingUid (has_all_uids p s) _ b).1 in
+    let f = (met_first PlanChanged (has_plan p s) _ e).1 in
+    let g = (met_first Partitions (has_partitions p s) _ f).1 in
+    let h = (met_first Offset (has_offsets p i s) _ g).1 in
+    let k = (met_first Watermark (has_watermarks p i s) _ h).1 in
+    let l = (met_first WrongGroup (has_groups p s) _ k).1 in
+    let m = (met_first ClosedWindow (has_open_windows p i s) _ l).1 in
+    let n = (met_first Count (has_counts p i s) _ m).1 in
+    leb-true s.number (2 ^ 63) (met_first Number (has_number s) _ n).0
+
+pub bytes_restart : SnapshotsRestart → ((a b : Contents) → IsSavepoint a → IsSavepoint b → savepoint_bytes a ≡ savepoint_bytes b → a ≡ b) → BytesRestart
+bytes_restart restart one p i cut number old s plan input belongs is at savepoint from =
+    let held = savepoint_at p i cut at.windows number in
+    let checked : start_or_fault p i held ≡ Ok s = subst (λ x. start_or_fault p i x ≡ Ok s) (one from.savepoint old from.is_savepoint savepoint from.spelled ∙ at.is) from.checked in
+    let start = (no_fault _ (start_of p held) s checked).1 in
+    subst (IsStartAt p i cut number) start (restart p i cut at.windows number (record { plan = plan; input = input; belongs = belongs; cut = is; windows = at.snapshot }) (few p i held s checked))
 
 -- ---- one leg
 
@@ -49,18 +78,10 @@ module _ (p : PlanData) (i : InputData) (s : StartData) (stop : Stop) (w : World
   pub at_first : IsFromNothing i s → IsStartAt p i (empty_cut i.sources) 0 s
   at_first nothing = record { in_input = given.starts; snapshot = none_at_first p i s nothing; offsets = nothing.offsets; number = nothing.number }
 
-  only_start : (o : Option RestoreFault) (x y : StartData) → option_map_or Err o (Ok x) ≡ Ok y → x ≡ y
-  only_start None x y e = cc
-  only_start (Some fault) x y e = absurd cc
-
   -- where it starts from the bytes of a cut's savepoint, it begins at that cut, with its snapshot
   pub from_bytes : SnapshotsRestart → ((a b : Contents) → IsSavepoint a → IsSavepoint b → savepoint_bytes a ≡ savepoint_bytes b → a ≡ b)
       → (cut : List (List ℕ)) (number : ℕ) (old : Contents) → IsCut i.sources cut → IsSavedAt p i cut number old → IsSavepoint old → ComesFrom p i (savepoint_bytes old) s → IsStartAt p i cut number s
-  from_bytes restart one cut number old is at savepoint from =
-      let checked : start_or_fault p i (savepoint_at p i cut at.windows number) ≡ Ok s = subst (λ x. start_or_fault p i x ≡ Ok s) (one from.savepoint old from.is_savepoint savepoint from.spelled ∙ at.is) from.checked in
-      let start = only_start _ (start_of p (savepoint_at p i cut at.windows number)) s checked in
-      let few = subst (λ (x : StartData). x.number ≤ 2 ^ 63) (sym start) given.starts.number in
-      subst (IsStartAt p i cut number) start (restart p i cut at.windows number (record { plan = given.plan; input = given.input; belongs = given.belongs; cut = is; windows = at.snapshot }) few)
+  from_bytes restart one cut number old is at savepoint from = bytes_restart restart one p i cut number old s given.plan given.input given.belongs is at savepoint from
 
   pub is_end : (b : List (List ℕ)) (number : ℕ) → IsStartAt p i b number s → IsCut i.sources (cut_to i (until_of stop))
   is_end b number at = end_is_cut i b stop (can_stop b number at)

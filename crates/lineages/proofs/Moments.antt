@@ -14,7 +14,6 @@ use Rattle.stream_model.specs.PlanRows.{due_rows, plan_rows}
 use Rattle.input_flow.proofs.Facts.{empty_is_cut}
 use Rattle.dataflow_laws.specs.Compiled.{cut_to}
 use Rattle.dataflow_laws.specs.Inputs.{due_between}
-use Rattle.leg_lists.specs.declared.cut.Cut.{Cut}
 use Rattle.leg_lists.specs.declared.stop.Stop.{Stop}
 use Rattle.leg_lists.specs.declared.stop.Stop.TheVariants.{At}
 use Rattle.leg_lists.specs.Stops.{until_of}
@@ -31,7 +30,7 @@ use Rattle.core_steps.proofs.Ending.{end_is_cut}
 use Rattle.job_legs.specs.Laws.{EachRowAddsUp, NothingDueAtFirst, RowsAddUp}
 use Rattle.job_legs.specs.Ending.{rows_to}
 use Rattle.job_legs.proofs.Facts.{before_end, row_to}
-use Rattle.lineages.specs.Lineage.{EachMomentIsPart, IsUnderWay, UnderWay, delivered}
+use Rattle.lineages.specs.Lineage.{EachMomentIsPart, IsUnderWay, delivered}
 use Rattle.lineages.specs.Lineage.UnderWay.{sets_out, goes_further}
 use Rattle.lineages.proofs.Exact.{LastIs, at_first, can_stop, comes, from_bytes, given}
 
@@ -53,7 +52,7 @@ module _ (p : PlanData) (i : InputData) (s : StartData) (stop : Stop) (w : World
   abbrev end : List (List ℕ)
   end = cut_to i (until_of stop)
 
-  so_far : HasSnapshot p i s → (q : Pane) → IsPart (filter (row_is_at q) (rows_in w)) (option_to_list (due_between p i.sources (offsets_of s) end q))
+  pub so_far : HasSnapshot p i s → (q : Pane) → IsPart (filter (row_is_at q) (rows_in w)) (option_to_list (due_between p i.sources (offsets_of s) end q))
   so_far = subst (λ (g : GivenData). HasSnapshot g.plan g.input g.start → (q : Pane) → IsPart (filter (row_is_at q) (rows_in w)) (option_to_list (due_between g.plan g.input.sources (offsets_of g.start) (cut_to g.input (until_of g.stop)) q))) way.given (world_so_far w way.world)
 
   -- with what was delivered where it began

@@ -1,19 +1,23 @@
 -- Legs of a job, one after another, in whatever order their tasks made their steps.
 use Rattle.std.specs.Prelude.{◌≡◌, ◌⊎◌, ℕ, List, [], ◌∷◌, ◌++◌, filter, length, option_to_list, Ok}
-use Rattle.plan_model.specs.PlanData.{PlanData}
+use Rattle.plan_model.specs.PlanData.{PlanData, IsPlan}
 use Rattle.plan_model.specs.declared.spec.Pane.{Pane}
 use Rattle.plan_model.specs.Rows.{AreRowsOf, row_is_at}
 use Rattle.plan_model.specs.declared.spec.Row.{Row}
-use Rattle.stream_model.specs.InputData.{InputData}
+use Rattle.stream_model.specs.InputData.{InputData, IsInput, BelongsTo}
+use Rattle.stream_model.specs.Watermarks.{IsCut}
 use Rattle.stream_model.specs.PlanRows.{plan_rows}
 use Rattle.plan_compiler.specs.LayoutData.{LayoutData}
+use Rattle.dataflow_laws.specs.Compiled.{cut_to}
+use Rattle.dataflow_laws.specs.Inputs.{due_between}
 use Rattle.leg_lists.specs.declared.cut.Cut.{Cut}
 use Rattle.leg_lists.specs.declared.stop.Stop.{Stop}
 use Rattle.leg_lists.specs.declared.stop.Stop.TheVariants.{Never, At}
 use Rattle.savepoint_codec.specs.Layout.{IsSavepoint, savepoint_bytes}
 use Rattle.savepoint_codec.specs.declared.savepoint.Contents.{Contents}
-use Rattle.redistribute.specs.StartData.{StartData}
-use Rattle.redistribute.specs.Begins.{IsFromNothing}
+use Rattle.leg_lists.specs.Stops.{until_of}
+use Rattle.redistribute.specs.StartData.{StartData, offsets_of}
+use Rattle.redistribute.specs.Begins.{HasSnapshot, IsFromNothing}
 use Rattle.restore.specs.Answer.{start_or_fault}
 use Rattle.restarts.specs.Laws.{IsStartAt}
 use Rattle.core_steps.specs.Given.{GivenData}
@@ -44,6 +48,11 @@ pub record ComesFrom (p : PlanData) (i : InputData) (bytes : List ℕ) (s : Star
   pub spelled : savepoint_bytes savepoint ≡ bytes
   pub checked : start_or_fault p i savepoint ≡ Ok s
 
+-- a start that comes from the bytes of a cut's savepoint is at that cut, with its snapshot, after as many savepoints
+abbrev pub BytesRestart : Type 0
+BytesRestart = (p : PlanData) (i : InputData) (cut : List (List ℕ)) (number : ℕ) (old : Contents) (s : StartData) → IsPlan p → IsInput i → BelongsTo p i → IsCut i.sources cut → IsSavedAt p i cut number old → IsSavepoint old
+    → ComesFrom p i (savepoint_bytes old) s → IsStartAt p i cut number s
+
 -- one leg or more, the last first, of which the last was to stop so: the first from nothing, and each other from the bytes of the savepoint that the one before left where it stopped
 pub data Lineage (p : PlanData) (i : InputData) : Stop → List WorldData → Type 0 where
   begins : {s : StartData} {stop : Stop} {w : WorldData} → IsFromNothing i s → IsLeg p i s stop w → Lineage p i stop (w ∷ [])
@@ -72,6 +81,12 @@ LineagesAreExact = (p : PlanData) (i : InputData) (stop : Stop) (last : WorldDat
 abbrev pub OneSavepoint : Type 0
 OneSavepoint = (p : PlanData) (i : InputData) (cut : List (List ℕ)) (number : ℕ) (end : Cut) (s other : StartData) (w v : WorldData) → IsStartAt p i cut number s → IsStartAt p i cut number other → IsLeg p i s (At end) w → IsLeg p i other (At end) v
     → savepoint_bytes (savepoint_in w) ≡ savepoint_bytes (savepoint_in v)
+
+-- at every moment of one leg that starts with the snapshot of its cut, of each pane its sink has nothing, or just the row that becomes due between the start and where the leg is to stop, once
+abbrev pub EachMomentOfALeg : Type 0
+EachMomentOfALeg = (p : PlanData) (i : InputData) (s : StartData) (stop : Stop) (w : WorldData) → HasSnapshot p i s → IsUnderWay p i s stop w → (q : Pane)
+    → let owed = due_between p i.sources (offsets_of s) (cut_to i (until_of stop)) q in
+    (filter (row_is_at q) (rows_in w) ≡ []) ⊎ (filter (row_is_at q) (rows_in w) ≡ option_to_list owed)
 
 -- legs one after another, the last first, of which the last is on its way
 pub data UnderWay (p : PlanData) (i : InputData) : Stop → List WorldData → Type 0 where

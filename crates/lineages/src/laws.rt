@@ -1,6 +1,6 @@
 //! Laws of the legs of a job, each the contract of a function that does nothing.
 
-ghost use Rattle.lineages.specs.Lineage.{EachMomentIsPart, Headline, LineagesAreExact, OneSavepoint};
+ghost use Rattle.lineages.specs.Lineage.{BytesRestart, EachMomentIsPart, EachMomentOfALeg, Headline, LineagesAreExact, OneSavepoint};
 
 use gather::laws::same_panes_same_savepoint;
 use job_legs::laws::{each_row_adds_up, nothing_due_at_first, rows_add_up};
@@ -40,6 +40,20 @@ pub fn each_moment_is_part()
     let _restart = snapshots_restart();
     let _content = one_content();
     let _end = end_is_due();
+}
+
+/// At every moment of one leg that starts with the snapshot of its cut, its sink has, of each pane, nothing or just the row that
+/// becomes due between the start and where the leg is to stop.
+pub fn each_moment_of_a_leg()
+    ensures { EachMomentOfALeg }
+{}
+
+/// A start that comes from the bytes of a cut's savepoint is at that cut, with its snapshot, after as many savepoints.
+pub fn bytes_restart()
+    ensures { BytesRestart }
+{
+    let _restart = snapshots_restart();
+    let _content = one_content();
 }
 
 /// Legs from one snapshot to one cut, after as many savepoints, leave the same bytes at every scale and in every order of steps.

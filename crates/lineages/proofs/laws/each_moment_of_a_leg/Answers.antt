@@ -1,0 +1,5 @@
+use Rattle.lineages.proofs.Moments.{so_far}
+use Rattle.lineages.proofs.laws.each_moment_of_a_leg.Goals as goal
+
+pub returns : goal.returns
+returns c = λ p i s stop w has way. so_far p i s stop w way has
