@@ -1,2 +1,4 @@
 mod Exact
 mod Moments
+mod SavepointExact
+mod Calls

@@ -1,1 +1,2 @@
 pub mod Lineage
+pub mod Calls

@@ -1,5 +1,6 @@
 //! Laws of the legs of a job, each the contract of a function that does nothing.
 
+ghost use Rattle.lineages.specs.Calls.{CallsAreAnswered, CallsAreExact, SaidComesFrom};
 ghost use Rattle.lineages.specs.Lineage.{BytesRestart, EachMomentIsPart, EachMomentOfALeg, Headline, LineagesAreExact, OneSavepoint};
 
 use gather::laws::same_panes_same_savepoint;
@@ -54,6 +55,29 @@ pub fn bytes_restart()
 {
     let _restart = snapshots_restart();
     let _content = one_content();
+}
+
+/// The start that the bytes of a savepoint say is what the check gives of the savepoint that they spell.
+pub fn said_comes_from()
+    ensures { SaidComesFrom }
+{}
+
+/// Each call of `job_leg` that answers Ok has written the text, and given the bytes, of the leg that its texts say.
+pub fn calls_are_answered()
+    ensures { CallsAreAnswered }
+{}
+
+/// Calls of `job_leg` for one plan and one input, the first from nothing and each other from the bytes that the one before gave,
+/// have written together the lines of just the rows that are due where the last stops, and of all of the plan's rows where it runs
+/// to the end.
+pub fn calls_are_exact()
+    ensures { CallsAreExact }
+{
+    let _first = nothing_due_at_first();
+    let _add = rows_add_up();
+    let _restart = snapshots_restart();
+    let _content = one_content();
+    let _end = end_is_due();
 }
 
 /// Legs from one snapshot to one cut, after as many savepoints, leave the same bytes at every scale and in every order of steps.

@@ -2,7 +2,8 @@
 //! tasks made their steps.
 //!
 //! `specs/Lineage` says what legs one after another are, in the words of the public calls: each is a `World` to which steps led
-//! that it accepted, and each but the first starts from the bytes of the savepoint that the one before left.
+//! that it accepted, and each but the first starts from the bytes of the savepoint that the one before left. `specs/Calls` says it
+//! of calls of `job::job_leg`, from bytes to bytes.
 #![tactic(auto)]
 
 pub mod laws;

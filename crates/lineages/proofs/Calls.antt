@@ -1,0 +1,196 @@
+-- Calls of `job_leg`, each from the bytes that the one before gave, have written what is due.
+use Rattle.std.proofs.Common.{◌≡◌, ◌∙◌, ℕ, ◌+◌, ◌<◌, List, [], ◌∷◌, ◌++◌, length, map, Option, Some, None, Result, Ok, Err, refl, sym, ap, subst, arith, inl, inr}
+use Rattle.std.proofs.lemmas.Bool.{cases_lt}
+use Rattle.std.proofs.lemmas.List.{get_or_past}
+use Rattle.std.proofs.lemmas.List.Concat.{flat_map-append}
+use Rattle.std.specs.List.{All}
+use Rattle.std.specs.Option.{option_map, option_to_list}
+use Rattle.byte_fields.specs.declared.fault.FieldFault.{FieldFault}
+use Rattle.byte_fields.specs.Format.{whole}
+use Rattle.byte_fields.proofs.Exact.{IsBytes, whole_again, whole_takes}
+use Rattle.plan_model.specs.PlanData.{PlanData}
+use Rattle.plan_model.specs.Rows.{AreRowsOf}
+use Rattle.plan_model.specs.declared.spec.Row.{Row}
+use Rattle.stream_model.specs.declared.entry.Entry.{Entry}
+use Rattle.stream_model.specs.InputData.{InputData}
+use Rattle.stream_model.specs.Laws.{EndIsDue}
+use Rattle.stream_model.specs.PlanRows.{due_rows}
+use Rattle.stream_model.specs.Watermarks.{IsCut, IsOrderly, empty_cut}
+use Rattle.input_flow.proofs.Facts.{empty_is_cut}
+use Rattle.dataflow_laws.specs.Compiled.{cut_to}
+use Rattle.dataflow_laws.specs.Inputs.{due_between}
+use Rattle.plan_scale.specs.Answer.{scale_of_bytes}
+use Rattle.leg_lists.specs.declared.cut.Cut.{Cut}
+use Rattle.leg_lists.specs.declared.stop.Stop.{Stop}
+use Rattle.leg_lists.specs.declared.stop.Stop.TheVariants.{Never, At}
+use Rattle.leg_lists.specs.Stops.{until_of}
+use Rattle.savepoint_codec.specs.Answer.{fault_said, savepoint_of_bytes}
+use Rattle.savepoint_codec.specs.Layout.{IsSavepoint, savepoint_bytes, savepoint_format}
+use Rattle.savepoint_codec.specs.declared.savepoint.Contents.{Contents}
+use Rattle.redistribute.specs.Begins.{HasSnapshot, IsFromNothing}
+use Rattle.redistribute.specs.Snapshots.{saved_source, start_at}
+use Rattle.redistribute.specs.StartData.{StartData, offsets_of}
+use Rattle.redistribute.specs.Stopping.{CanStop}
+use Rattle.restore.specs.Answer.{start_or_fault}
+use Rattle.restarts.specs.Laws.{SnapshotsRestart}
+use Rattle.leg_tasks.specs.Saved.{IsSavedAt}
+use Rattle.core_steps.proofs.Delivered.{none_at_first}
+use Rattle.core_steps.proofs.Ending.{end_is_cut}
+use Rattle.job_texts.specs.Text.{IsTextOf, line_of, text_of_rows}
+use Rattle.job_texts.specs.declared.fault.JobFault.{JobFault}
+use Rattle.job_texts.specs.declared.fault.JobFault.TheVariants.{Plan, Input, Scale, Save, Restore}
+use Rattle.job_legs.specs.Laws.{NothingDueAtFirst, RowsAddUp}
+use Rattle.job_legs.proofs.Facts.{before_end, come_to}
+use Rattle.job.specs.Ends.{and_then, as_job}
+use Rattle.job.specs.Leg.{CanStopSo, IsLegText, IsSavedBy, LegJob, job_with, leg_by, leg_job, leg_on, leg_said, start_said, stop_said}
+use Rattle.lineages.specs.Lineage.{ComesFrom}
+use Rattle.lineages.specs.Calls.{AreExactCalls, AreGivenAt, AreRead, Calls, CallsAreAnswered, CallsAreExact, IsAnswered, LegCall, SaidComesFrom, written}
+use Rattle.lineages.specs.Calls.Calls.{first, next}
+use Rattle.lineages.proofs.Exact.{bytes_restart}
+use Rattle.lineages.proofs.SavepointExact.{savepoint_exact}
+
+-- ---- what was said
+
+ok_is : {X F : Type 0} (x y : X) → ◌≡◌ {A = Result X F} (Ok x) (Ok y) → x ≡ y
+ok_is x y e = cc
+
+then_ok : {X Y : Type 0} (more : X → Result Y JobFault) (said : Result X JobFault) (y : Y) → and_then more said ≡ Ok y → (x : X) × (said ≡ Ok x) × (more x ≡ Ok y)
+then_ok more (Ok x) y e = (x, refl, e)
+then_ok more (Err fault) y e = absurd cc
+
+job_ok : {X F : Type 0} (fault_of : F → JobFault) (said : Result X F) (x : X) → as_job fault_of said ≡ Ok x → said ≡ Ok x
+job_ok fault_of (Ok y) x e = let same : y ≡ x = cc in ap Ok same
+job_ok fault_of (Err fault) x e = absurd cc
+
+field_ok : {X : Type 0} (said : Result X FieldFault) (x : X) → fault_said said ≡ Ok x → said ≡ Ok x
+field_ok (Ok y) x e = let same : y ≡ x = cc in ap Ok same
+field_ok (Err fault) x e = absurd cc
+
+are_bytes : (bytes : List ℕ) → All (λ b. b < 256) bytes → IsBytes bytes
+are_bytes bytes small i = elim (cases_lt i (length bytes)) [
+  | inl lt ↦ small i 0 lt
+  | inr le ↦ rw (get_or_past bytes i 0 le) (omega arith)
+]
+
+pub said_comes_from : SaidComesFrom
+unfolding start_said savepoint_of_bytes
+said_comes_from p i bytes s small e =
+    let a = then_ok (λ x. as_job Restore (start_or_fault p i x)) (as_job Save (savepoint_of_bytes bytes)) s e in
+    let read = whole_takes savepoint_format savepoint_exact bytes a.0 (are_bytes bytes small) (field_ok (whole savepoint_format bytes) a.0 (job_ok Save (savepoint_of_bytes bytes) a.0 a.1)) in
+    record { savepoint = a.0; is_savepoint = read.0; spelled = sym read.1; checked = job_ok Restore (start_or_fault p i a.0) s a.2 }
+
+-- and so it is of what was spelled
+from_spelling : (p : PlanData) (i : InputData) (old : Contents) (s : StartData) → IsSavepoint old → start_said p i (Some (savepoint_bytes old)) ≡ Ok s → ComesFrom p i (savepoint_bytes old) s
+unfolding start_said savepoint_of_bytes
+from_spelling p i old s sound e =
+    let again : as_job Restore (start_or_fault p i old) ≡ Ok s = subst (λ r. and_then (λ x. as_job Restore (start_or_fault p i x)) (as_job Save (fault_said r)) ≡ Ok s) (whole_again savepoint_format savepoint_exact old sound) e in
+    record { savepoint = old; is_savepoint = sound; spelled = refl; checked = job_ok Restore (start_or_fault p i old) s again }
+
+pub calls_are_answered : CallsAreAnswered
+calls_are_answered plan input scale from stop saved old new (job, said, can, (bytes, (text, is, appends))) = (text, appends, record { job = job; said = said; can = can; bytes = bytes; written = is })
+
+-- ---- a start from nothing
+
+unread : (ps : List (List Entry)) → map (λ p. p.offset) (saved_source ps (map (λ p. 0) ps)) ≡ map (λ p. 0) ps
+unread [] = refl
+unread (p ∷ ps) = ap (λ z. 0 ∷ z) (unread ps)
+
+all_unread : (ss : List (List (List Entry))) → offsets_of (start_at ss (empty_cut ss) 0) ≡ empty_cut ss
+all_unread [] = refl
+all_unread (s ∷ ss) = λ j. unread s j ∷ all_unread ss j
+
+said_nothing : (p : PlanData) (i : InputData) (s : StartData) → start_said p i None ≡ Ok s → IsFromNothing i s
+unfolding start_said
+said_nothing p i s e = subst (IsFromNothing i) (ok_is (start_at i.sources (empty_cut i.sources) 0) s e) (record { number = refl; offsets = all_unread i.sources; groups = refl })
+
+-- ---- one call
+
+-- where its leg starts and stops
+record Says (p : PlanData) (i : InputData) (c : LegCall) (job : LegJob) : Type 0 where
+  start : StartData
+  stop : Stop
+  is : leg_job p i start stop ≡ job
+  started : start_said p i c.from ≡ Ok start
+  stopped : stop_said c.stop ≡ Ok stop
+
+says : (plan input : List ℕ) (p : PlanData) (i : InputData) (c : LegCall) (job : LegJob) → AreRead plan input p i → leg_said plan input c.scale c.from c.stop ≡ Ok job → Says p i c job
+unfolding leg_said leg_by leg_on job_with
+says plan input p i c job read e =
+    let of_plan : leg_by p input c.scale c.from c.stop ≡ Ok job = subst (λ r. and_then (λ x. leg_by x input c.scale c.from c.stop) (as_job Plan r) ≡ Ok job) read.plan_said e in
+    let of_input : leg_on p i c.scale c.from c.stop ≡ Ok job = subst (λ r. and_then (λ x. leg_on p x c.scale c.from c.stop) (as_job Input r) ≡ Ok job) read.input_said of_plan in
+    let a = then_ok (λ x. job_with p i c.from c.stop) (as_job Scale (scale_of_bytes p c.scale)) job of_input in
+    let b = then_ok (λ s. and_then (λ t. Ok (leg_job p i s t)) (stop_said c.stop)) (start_said p i c.from) job a.2 in
+    let d = then_ok (λ t. Ok (leg_job p i b.0 t)) (stop_said c.stop) job b.2 in
+    record { start = b.0; stop = d.0; is = ok_is (leg_job p i b.0 d.0) job d.2; started = b.1; stopped = d.1 }
+
+one_more : (c : LegCall) (earlier : List LegCall) → length earlier + 1 ≡ length (c ∷ earlier)
+one_more c earlier = omega (arith)
+
+left_by : (p : PlanData) (i : InputData) (s : StartData) (stop at : Stop) (number : ℕ) (bytes : Option (List ℕ)) (saved : Option Contents) → HasSnapshot p i s → s.number + 1 ≡ number → bytes ≡ option_map savepoint_bytes saved
+    → IsSavedBy (leg_job p i s stop) at saved → AreGivenAt p i number at bytes
+left_by p i s stop Never number bytes saved has follows e none = e ∙ ap (option_map savepoint_bytes) none
+left_by p i s stop (At cut) number bytes None has follows e impossible = absurd impossible
+left_by p i s stop (At cut) number bytes (Some old) has follows e is = (old, e, is.sound, subst (λ n. IsSavedAt p i cut.counts n old) follows (is.saved has))
+
+-- bytes that were given are those of a savepoint at a cut
+gave : (p : PlanData) (i : InputData) (number : ℕ) (stop : Stop) (saved : Option (List ℕ)) (bytes : List ℕ) → saved ≡ Some bytes → AreGivenAt p i number stop saved
+    → (cut : Cut) × (old : Contents) × (stop ≡ At cut) × (bytes ≡ savepoint_bytes old) × IsSavepoint old × IsSavedAt p i cut.counts number old
+gave p i number Never saved bytes e none = absurd (let z : None ≡ Some bytes = sym none ∙ e in cc)
+gave p i number (At cut) saved bytes e (old, is, sound, at) = (cut, old, refl, (let z : Some bytes ≡ Some (savepoint_bytes old) = sym e ∙ is in cc), sound, at)
+
+-- ---- all of them
+
+record Comes (p : PlanData) (i : InputData) (last : LegCall) (earlier : List LegCall) : Type 0 where
+  stop : Stop
+  stopped : stop_said last.stop ≡ Ok stop
+  is_cut : IsCut i.sources (cut_to i (until_of stop))
+  rows : List Row
+  due : AreRowsOf (due_rows p i.sources (cut_to i (until_of stop))) rows
+  lines : written (last ∷ earlier) ≡ text_of_rows rows
+  given : AreGivenAt p i (length (last ∷ earlier)) stop last.saved
+
+module _ (none : NothingDueAtFirst) (add : RowsAddUp) (restart : SnapshotsRestart) (one : (a b : Contents) → IsSavepoint a → IsSavepoint b → savepoint_bytes a ≡ savepoint_bytes b → a ≡ b) (plan input : List ℕ) (p : PlanData) (i : InputData) (read : AreRead plan input p i) where
+  -- a call from a cut, with its snapshot, adds the lines of what becomes due
+  after : (c : LegCall) (earlier : List LegCall) (a : IsAnswered plan input c) (says : Says p i c a.job) (b : List (List ℕ)) → HasSnapshot p i says.start → offsets_of says.start ≡ b → says.start.number ≡ length earlier → IsCut i.sources b
+      → (before : List Row) → AreRowsOf (due_rows p i.sources b) before → written earlier ≡ text_of_rows before → Comes p i c earlier
+  after c earlier a says b has offsets number is before due lines =
+      let stop = says.stop in
+      let end = cut_to i (until_of stop) in
+      let can : CanStop i.sources b stop = subst (λ o. CanStop i.sources o stop) offsets (subst CanStopSo (sym says.is) a.can) in
+      let text : IsTextOf (due_between p i.sources (offsets_of says.start) end) c.text = (subst (λ job. IsLegText job c.text) (sym says.is) a.written) has in
+      let rows : AreRowsOf (due_between p i.sources b end) text.rows = subst (λ o. AreRowsOf (due_between p i.sources o end) text.rows) offsets text.are in
+      record {
+        stop = stop;
+        stopped = says.stopped;
+        is_cut = end_is_cut i b stop can;
+        rows = before ++ text.rows;
+        due = add p i b end before text.rows read.input (before_end i b stop is can) (end_is_cut i b stop can) due rows;
+        lines = (λ k. lines k ++ text.lines k) ∙ sym (flat_map-append line_of before text.rows);
+        given = left_by p i says.start stop stop (length (c ∷ earlier)) c.saved a.bytes.0 has (ap (λ n. n + 1) number ∙ one_more c earlier) a.bytes.1
+            (subst (λ (job : LegJob). IsSavedBy job job.stop a.bytes.0) (sym says.is) a.bytes.2);
+      }
+
+  comes : (last : LegCall) (earlier : List LegCall) → Calls plan input (last ∷ earlier) → Comes p i last earlier
+  comes last [] (first nothing a) =
+      let said = says plan input p i last a.job read a.said in
+      let from = said_nothing p i said.start (subst (λ o. start_said p i o ≡ Ok said.start) nothing said.started) in
+      let none_due : AreRowsOf (due_rows p i.sources (empty_cut i.sources)) [] = λ q. sym (ap option_to_list (none p i q (subst (λ t. IsOrderly t i.sources) read.belongs.time read.orderly))) in
+      after last [] a said (empty_cut i.sources) (none_at_first p i said.start from) from.offsets from.number (empty_is_cut i.sources) [] none_due refl
+  comes last (before ∷ earlier) (next {bytes = bytes} calls saved from a) =
+      let c = comes before earlier calls in
+      let (cut, old, stops, spelled, sound, at) = gave p i (length (before ∷ earlier)) c.stop before.saved bytes saved c.given in
+      let said = says plan input p i last a.job read a.said in
+      let started = subst (λ o. start_said p i o ≡ Ok said.start) (from ∙ ap Some spelled) said.started in
+      let is_cut : IsCut i.sources cut.counts = subst (λ x. IsCut i.sources (cut_to i (until_of x))) stops c.is_cut in
+      let due : AreRowsOf (due_rows p i.sources cut.counts) c.rows = subst (λ x. AreRowsOf (due_rows p i.sources (cut_to i (until_of x))) c.rows) stops c.due in
+      let start = bytes_restart restart one p i cut.counts (length (before ∷ earlier)) old said.start read.plan read.input read.belongs is_cut at sound (from_spelling p i old said.start sound started) in
+      after last (before ∷ earlier) a said cut.counts start.snapshot start.offsets start.number is_cut c.rows due c.lines
+
+  exact : EndIsDue → (stop : Stop) (last : LegCall) (earlier : List LegCall) → stop_said last.stop ≡ Ok stop → Calls plan input (last ∷ earlier) → AreExactCalls p i stop last (last ∷ earlier)
+  exact end stop last earlier stopped calls =
+      let c = comes last earlier calls in
+      let same : c.stop ≡ stop = ok_is c.stop stop (sym c.stopped ∙ stopped) in
+      subst (λ x. AreExactCalls p i x last (last ∷ earlier)) same (record { rows = c.rows; are = come_to end p i c.stop c.rows read.plan read.input read.belongs c.due; lines = c.lines; given = c.given })
+
+pub calls_are_exact : NothingDueAtFirst → RowsAddUp → SnapshotsRestart → ((a b : Contents) → IsSavepoint a → IsSavepoint b → savepoint_bytes a ≡ savepoint_bytes b → a ≡ b) → EndIsDue → CallsAreExact
+calls_are_exact none add restart one end plan input p i stop last earlier read stopped calls = exact none add restart one plan input p i read end stop last earlier stopped calls
