@@ -10,7 +10,7 @@ use std::io::Write;
 /// `rt version` names it.
 pub const VERSION: &str = "\
 streamjob 0.1.0
-built with rattle-kit-13b logic dac8208d650f15bf
+built with rattle-kit-13f logic dac8208d650f15bf
 ";
 
 /// Writes the version of the program and its toolchain, a line for each.
