@@ -1,0 +1,6 @@
+//! Names by their numbers.
+#![tactic(auto)]
+
+mod table;
+
+pub use table::NameTable;
