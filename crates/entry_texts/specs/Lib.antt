@@ -1,1 +1,2 @@
 pub mod EntryTexts
+pub mod Partitions
