@@ -40,7 +40,7 @@ fn value(word: &str, text: &str) -> Option<Result<i64, FieldFault>> {
                 kind: ColumnKind::Value(kind),
                 ..
             },
-        ) => Some(value_of(kind, text.as_bytes())),
+        ) => Some(value_of(&kind, text.as_bytes())),
         _ => None,
     }
 }

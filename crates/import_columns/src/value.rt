@@ -22,13 +22,13 @@ fn compared(cmp: Cmp, bound: i64, text: &[u8]) -> Result<i64, FieldFault>
 ///
 /// Those of [`scaled`] and [`milliseconds`].
 #[tactic(auto, unfolding(crate::specs::Values::value_said))]
-pub fn value_of(kind: ValueKind<'_>, text: &[u8]) -> Result<i64, FieldFault>
-    ensures { result ≡ value_said kind.entry text.now }
+pub fn value_of(kind: &ValueKind<'_>, text: &[u8]) -> Result<i64, FieldFault>
+    ensures { result ≡ value_said kind.now text.now }
 {
     match kind {
-        ValueKind::Scaled(places) => scaled(text, places),
+        ValueKind::Scaled(places) => scaled(text, *places),
         ValueKind::Milliseconds => milliseconds(text),
-        ValueKind::Compared(cmp, bound) => compared(cmp, bound, text),
+        ValueKind::Compared(cmp, bound) => compared(*cmp, *bound, text),
         ValueKind::Same(wanted) => Ok(i64::from(text == wanted.as_bytes())),
         ValueKind::Other(wanted) => Ok(i64::from(text != wanted.as_bytes())),
     }
