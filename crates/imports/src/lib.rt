@@ -1,0 +1,23 @@
+//! An import: from CSV files to the JSON text of an input, in one pass, with no more than one entry's rows in memory.
+#![tactic(auto)]
+
+mod fault;
+mod files;
+mod late;
+mod names;
+mod partition;
+mod placing;
+mod records;
+mod refusal;
+mod row;
+mod telling;
+mod words;
+
+pub use fault::RowFault;
+pub use files::{ImportRule, import_files};
+pub use late::LateRows;
+pub use names::{read_names, text_of_names};
+pub use partition::copy_rows;
+pub use records::CsvRows;
+pub use refusal::{ImportCode, ImportFault, status_of};
+pub use words::{check_columns, read_columns};

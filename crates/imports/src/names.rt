@@ -1,0 +1,72 @@
+//! The table of names as a file.
+
+use crate::fault::{RowFault, write_fault};
+use crate::records::CsvRows;
+use csv::{ByteRecord, Error, Writer, WriterBuilder};
+use itoa::Buffer;
+use name_table::NameTable;
+use std::alloc::Global;
+use std::hash::RandomState;
+use std::io::Read;
+use std::str;
+
+/// Adds the name of a record, which is to be `NUMBER,NAME` with the next number and a name that is not there.
+fn add(names: &mut NameTable, record: &ByteRecord) -> Result<(), RowFault> {
+    let next = names.names().len() as u64 + 1;
+    let mut buffer = Buffer::new();
+    if record.len() != 2 || record.get(0) != Some(buffer.format(next).as_bytes()) {
+        return Err(RowFault::Width(record.len(), 2));
+    }
+    let Ok(name) = str::from_utf8(record.get(1).unwrap_or(b"")) else {
+        return Err(RowFault::NoText(1));
+    };
+    if names.number_of(name)? as u64 != next {
+        return Err(RowFault::FieldTwice(1));
+    }
+    Ok(())
+}
+
+/// The table that CSV records tell: `NUMBER,NAME`, with the numbers from 1 on and each name once.
+///
+/// # Errors
+///
+/// `Read`; `Memory`; any other where the record that `rows` has is none of these.
+pub fn read_names<R: Read>(
+    alloc: Global,
+    state: RandomState,
+    rows: &mut CsvRows<R>,
+) -> Result<NameTable, RowFault> {
+    let mut names = NameTable::new(alloc, state);
+    for _ in 0..u64::MAX {
+        if !rows.advance()? {
+            return Ok(names);
+        }
+        add(&mut names, rows.record())?;
+    }
+    Err(RowFault::Read)
+}
+
+fn write_name(out: &mut Writer<Vec<u8>>, number: u64, name: &str) -> Result<(), Error> {
+    let mut buffer = Buffer::new();
+    out.write_field(buffer.format(number).as_bytes())?;
+    out.write_field(name.as_bytes())?;
+    out.end_record()
+}
+
+/// The CSV text of a table.
+///
+/// # Errors
+///
+/// `Memory`, and `Write` where memory ran out for the text.
+pub fn text_of_names(alloc: Global, names: &NameTable) -> Result<Vec<u8>, RowFault> {
+    let mut out = WriterBuilder::new().from_writer(Vec::new(alloc));
+    for (i, name) in names.names().iter().enumerate() {
+        if let Err(error) = write_name(&mut out, i as u64 + 1, name.as_str()) {
+            return Err(write_fault(&error));
+        }
+    }
+    match out.into_inner() {
+        Ok(text) => Ok(text),
+        Err(_) => Err(RowFault::Memory),
+    }
+}

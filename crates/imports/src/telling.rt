@@ -1,0 +1,168 @@
+//! The sentences of refusals: where something stands, and what it has to be.
+
+use crate::fault::RowFault;
+use crate::records::CsvRows;
+use crate::refusal::{ImportCode, ImportFault, refused};
+use field_values::FieldFault;
+use import_columns::{Column, ColumnKind, ValueKind};
+use import_entries::PlaceFault;
+use std::alloc::{AllocError, Global};
+use std::io::Read;
+use std::str;
+
+/// The longest text of a field that is shown.
+const MOST_SHOWN: usize = 100;
+
+/// Where a record stands.
+#[derive(Clone, Copy)]
+struct Spot<'p> {
+    file: &'p str,
+    line: u64,
+}
+
+/// The name of a column's field.
+fn name_of<'w>(columns: &[Column<'w>], column: usize) -> &'w str {
+    match columns.get(column) {
+        Some(column) => column.field,
+        None => "",
+    }
+}
+
+/// A text between quotes, if it is no long one.
+fn shown(alloc: Global, text: &[u8]) -> Result<String, AllocError> {
+    match str::from_utf8(text) {
+        Ok(text) if text.len() <= MOST_SHOWN => format!(in alloc; "{text:?}"),
+        _ => format!(in alloc; "the text"),
+    }
+}
+
+/// How many decimal places a column keeps.
+fn places_kept(columns: &[Column<'_>], column: usize) -> u32 {
+    match columns.get(column) {
+        Some(
+            Column {
+                kind: ColumnKind::Value(ValueKind::Scaled(places)),
+                ..
+            },
+        ) => places.get(),
+        _ => 0,
+    }
+}
+
+/// What is wrong with the text of a field.
+fn wrong(alloc: Global, fault: FieldFault, places: u32) -> Result<String, AllocError> {
+    match fault {
+        FieldFault::NoNumber => format!(in alloc; "is no number"),
+        FieldFault::MorePlaces => format!(in alloc; "has more than {places} decimal places"),
+        FieldFault::TooLarge => format!(in alloc; "does not fit 64 bits"),
+        FieldFault::NoTime => {
+            format!(in alloc; "is no time with a zone, as 2026-03-01T12:00:00.5Z")
+        }
+        FieldFault::TooFine => format!(in alloc; "is finer than milliseconds"),
+        FieldFault::NoSuchTime => format!(in alloc; "is a time that no calendar or clock shows"),
+    }
+}
+
+fn value_sentence(
+    alloc: Global,
+    spot: Spot<'_>,
+    name: &str,
+    text: &[u8],
+    wrong: &str,
+) -> Result<String, AllocError> {
+    let (file, line) = (spot.file, spot.line);
+    let text = shown(alloc, text)?;
+    format!(in alloc; "{file}:{line}: {name}: {text} {wrong}")
+}
+
+/// The refusal of a field's text.
+fn refused_value(
+    alloc: Global,
+    spot: Spot<'_>,
+    columns: &[Column<'_>],
+    column: usize,
+    text: &[u8],
+    fault: FieldFault,
+) -> ImportFault {
+    let name = name_of(columns, column);
+    match wrong(alloc, fault, places_kept(columns, column)) {
+        Ok(wrong) => refused(
+            ImportCode::Value,
+            value_sentence(alloc, spot, name, text, wrong.as_str()),
+        ),
+        Err(_) => ImportFault::Memory,
+    }
+}
+
+/// The refusal of a row by its place.
+fn refused_place(alloc: Global, spot: Spot<'_>, name: &str, fault: PlaceFault) -> ImportFault {
+    let (file, line) = (spot.file, spot.line);
+    match fault {
+        PlaceFault::Range => refused(
+            ImportCode::TimeRange,
+            format!(in alloc; "{file}:{line}: {name}: a time is from -2^62 to 2^62 - 1"),
+        ),
+        PlaceFault::Late(mark) => refused(
+            ImportCode::LateRow,
+            format!(in alloc; "{file}:{line}: {name}: the time is not above the watermark {mark}"),
+        ),
+    }
+}
+
+/// The refusal of a header.
+fn refused_header(alloc: Global, spot: Spot<'_>, name: &str, what: &str) -> ImportFault {
+    let (file, line) = (spot.file, spot.line);
+    refused(
+        ImportCode::Header,
+        format!(in alloc; "{file}:{line}: the header {what} {name:?}"),
+    )
+}
+
+/// The refusal of a record's width.
+fn refused_width(alloc: Global, spot: Spot<'_>, width: usize, wanted: usize) -> ImportFault {
+    let (file, line) = (spot.file, spot.line);
+    refused(
+        ImportCode::Width,
+        format!(in alloc; "{file}:{line}: there are {width} fields, and the header has {wanted}"),
+    )
+}
+
+/// The refusal of the record that `rows` has, in the file of a name.
+pub(crate) fn refused_row<R: Read>(
+    alloc: Global,
+    file: &str,
+    columns: &[Column<'_>],
+    time: usize,
+    rows: &CsvRows<R>,
+    fault: RowFault,
+) -> ImportFault {
+    let line = rows.line();
+    let spot = Spot { file, line };
+    match fault {
+        RowFault::Read => ImportFault::Read,
+        RowFault::Write => ImportFault::Write,
+        RowFault::Memory => ImportFault::Memory,
+        RowFault::NoField(column) => {
+            refused_header(alloc, spot, name_of(columns, column), "has no field")
+        }
+        RowFault::FieldTwice(column) => {
+            refused_header(alloc, spot, name_of(columns, column), "has twice the field")
+        }
+        RowFault::Width(width, wanted) => refused_width(alloc, spot, width, wanted),
+        RowFault::Value(column, place, fault) => {
+            let text = rows.record().get(place).unwrap_or(b"");
+            refused_value(alloc, spot, columns, column, text, fault)
+        }
+        RowFault::NoText(column) => refused(
+            ImportCode::Value,
+            value_sentence(
+                alloc,
+                spot,
+                name_of(columns, column),
+                b"\xff",
+                "is no UTF-8",
+            ),
+        ),
+        RowFault::Place(fault) => refused_place(alloc, spot, name_of(columns, time), fault),
+    }
+}
