@@ -82,11 +82,15 @@ fn refused_by(
     Ok(given_by(rt, text, choices, lists)?.map(|_| ()))
 }
 
-/// It has the number of its leg.
+/// It has the number of its leg, and the same bytes by every list of choices.
 #[test]
 fn the_last_leg_leaves_its_savepoint(rt: HostRuntime) -> Result<(), Fail> {
-    let saved = saved_by(&rt, TO_A_CUT, "[[],[3,1,4]]", 2)?.ok_or("no savepoint")?;
+    let saved = saved_by(&rt, TO_A_CUT, "[[],[]]", 2)?.ok_or("no savepoint")?;
     assert!(rt; saved.starts_with(b"WSP1\0\0\0\0\0\0\0\x02"));
+    for choices in ["[[3,1,4],[]]", "[[],[2,7,1,8]]", "[[0,5],[9,9,9]]"] {
+        let chosen = saved_by(&rt, TO_A_CUT, choices, 2)?.ok_or("no savepoint")?;
+        assert_eq!(rt; chosen.as_slice(), saved.as_slice(), "{choices}");
+    }
     Ok(())
 }
 
