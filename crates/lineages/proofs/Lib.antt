@@ -2,3 +2,4 @@ mod Exact
 mod Moments
 mod SavepointExact
 mod Calls
+mod Dealing

@@ -1,2 +1,3 @@
 pub mod Lineage
 pub mod Calls
+pub mod Dealing

@@ -1,10 +1,12 @@
 //! Laws of the legs of a job, each the contract of a function that does nothing.
 
 ghost use Rattle.lineages.specs.Calls.{CallsAreAnswered, CallsAreExact, SaidComesFrom};
+ghost use Rattle.lineages.specs.Dealing.{DealtAreGathered, SavepointsAreGatheredAgain};
 ghost use Rattle.lineages.specs.Lineage.{BytesRestart, EachMomentIsPart, EachMomentOfALeg, Headline, LineagesAreExact, OneSavepoint};
 
 use gather::laws::same_panes_same_savepoint;
 use job_legs::laws::{each_row_adds_up, nothing_due_at_first, rows_add_up};
+use redistribute::laws::each_partition_once;
 use restarts::laws::snapshots_restart;
 use savepoint_codec::laws::one_content;
 use stream_model::laws::end_is_due;
@@ -85,4 +87,24 @@ pub fn one_savepoint()
     ensures { OneSavepoint }
 {
     let _same = same_panes_same_savepoint();
+}
+
+/// Of what `redistribute::spread` gives of a start, at a layout of any scale, `gather::gather` gives the start's: how far each
+/// partition of each source was read, with its watermark there, and in each pane what stands there.
+pub fn dealt_are_gathered()
+    ensures { DealtAreGathered }
+{
+    let _once = each_partition_once();
+    let _same = same_panes_same_savepoint();
+}
+
+/// So the savepoint of a cut that is read, dealt out to the tasks of any layout and put together again under its own number has
+/// the same bytes.
+pub fn savepoints_are_gathered_again()
+    ensures { SavepointsAreGatheredAgain }
+{
+    let _once = each_partition_once();
+    let _same = same_panes_same_savepoint();
+    let _restart = snapshots_restart();
+    let _content = one_content();
 }

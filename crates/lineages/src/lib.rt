@@ -3,7 +3,8 @@
 //!
 //! `specs/Lineage` says what legs one after another are, in the words of the public calls: each is a `World` to which steps led
 //! that it accepted, and each but the first starts from the bytes of the savepoint that the one before left. `specs/Calls` says it
-//! of calls of `job::job_leg`, from bytes to bytes.
+//! of calls of `job::job_leg`, from bytes to bytes. `specs/Dealing` says that nothing is lost where a start is dealt out to the
+//! tasks of a layout and put together again.
 #![tactic(auto)]
 
 pub mod laws;
