@@ -24,7 +24,6 @@ use Rattle.plan_model.proofs.Facts.{pane_cmp_total, pane_cmp-IsAntisymmetric}
 use Rattle.stream_model.specs.declared.entry.Entry.{Entry}
 use Rattle.stream_model.specs.InputData.{InputData, BelongsTo}
 use Rattle.stream_model.specs.Watermarks.{IsCut}
-use Rattle.stream_model.specs.PlanRows.{snapshot}
 use Rattle.dataflow_model.specs.declared.message.Message.TheVariants.{End}
 use Rattle.dataflow_model.specs.declared.role.Role.{Role}
 use Rattle.dataflow_model.specs.declared.role.Role.TheVariants as role
@@ -43,8 +42,7 @@ use Rattle.aggregates.specs.declared.kind.Kind.{Kind}
 use Rattle.window_state.specs.declared.parts.Part.{Part}
 use Rattle.window_state.specs.Parts.{entries_of}
 use Rattle.savepoint_codec.specs.EntriesData.{EntryData}
-use Rattle.savepoint_codec.specs.Layout.{IsSavepoint, savepoint_bytes}
-use Rattle.savepoint_codec.specs.declared.savepoint.Contents.{Contents}
+use Rattle.savepoint_codec.specs.Layout.{savepoint_bytes}
 use Rattle.savepoint_codec.specs.declared.savepoint.SavedGroup.{SavedGroup}
 use Rattle.savepoint_codec.specs.declared.savepoint.SavedPartition.{SavedPartition}
 use Rattle.redistribute.specs.declared.task_start.PartitionStart.{PartitionStart}
@@ -59,9 +57,10 @@ use Rattle.redistribute.proofs.Facts.{known, owns}
 use Rattle.gather.specs.Laws.{SamePanesSameSavepoint}
 use Rattle.gather.specs.Parts.{panes_in, part_at, is_reader, starts_at, starts_of, saved_start, partition_in, source_in, sources_in, windows_in}
 use Rattle.gather.specs.Saved.{savepoint_of}
-use Rattle.restarts.specs.Laws.{IsStartAt, SnapshotsRestart}
+use Rattle.restarts.specs.Laws.{AcceptedHaveGroups}
+use Rattle.logical_plan.specs.Laws.{AscendingIsInOrder}
 use Rattle.lineages.specs.Dealing.{SayStart, DealtAreGathered, SavepointsAreGatheredAgain}
-use Rattle.lineages.proofs.Exact.{bytes_restart}
+use Rattle.lineages.proofs.Accepted.{is_of_start}
 
 -- ---- what is found in lists, one after the other
 
@@ -372,13 +371,7 @@ dealt_are_gathered once same p l i s left ip lo belongs is are = subst (SayStart
               ∙ same p s.sources (windows_in all) (windows_of s) number windows;
         }
 
-pub gathered_again : EachPartitionOnce → SamePanesSameSavepoint → SnapshotsRestart → ((a b : Contents) → IsSavepoint a → IsSavepoint b → savepoint_bytes a ≡ savepoint_bytes b → a ≡ b) → SavepointsAreGatheredAgain
-gathered_again once same restart one p l i cut number old saved s left ip lo input belongs is at savepoint from are gathered =
-    let start : IsStartAt p i cut number s = bytes_restart restart one p i cut number old s ip input belongs is at savepoint from in
-    let say = dealt_are_gathered once same p l i s left ip lo belongs start.in_input are in
-    ap savepoint_bytes (
-    say.savepoint number saved gathered
-    ∙ ap (λ ss. savepoint_of p ss (windows_of s) number) (start.in_input.partitions ∙ ap (saved_sources i.sources) start.offsets)
-    ∙ same p (saved_sources i.sources cut) (windows_of s) at.windows number (λ q. start.snapshot q ∙ ap (λ c. snapshot p i.sources c q) start.offsets ∙ sym (at.snapshot q))
-    ∙ sym at.is
-    )
+pub gathered_again : EachPartitionOnce → SamePanesSameSavepoint → AscendingIsInOrder → AcceptedHaveGroups → SavepointsAreGatheredAgain
+gathered_again once same rising have p l i bytes s left saved ip lo belongs is from are gathered =
+    let say = dealt_are_gathered once same p l i s left ip lo belongs is are in
+    ap savepoint_bytes (say.savepoint s.number saved gathered ∙ is_of_start rising have p i from.savepoint s from.is_savepoint from.checked) ∙ from.spelled

@@ -3,12 +3,11 @@ use Rattle.std.specs.Prelude.{◌≡◌, ℕ, List}
 use Rattle.std.specs.FinMap.{get}
 use Rattle.plan_model.specs.PlanData.{PlanData, IsPlan}
 use Rattle.plan_model.specs.declared.spec.Pane.{Pane}
-use Rattle.stream_model.specs.InputData.{InputData, IsInput, BelongsTo}
-use Rattle.stream_model.specs.Watermarks.{IsCut}
+use Rattle.stream_model.specs.InputData.{InputData, BelongsTo}
 use Rattle.layout_rules.specs.Layouts.{partition_counts}
 use Rattle.plan_compiler.specs.LayoutData.{LayoutData, IsLayoutOf}
 use Rattle.plan_compiler.specs.Tables.{each_task}
-use Rattle.savepoint_codec.specs.Layout.{IsSavepoint, savepoint_bytes}
+use Rattle.savepoint_codec.specs.Layout.{savepoint_bytes}
 use Rattle.savepoint_codec.specs.declared.savepoint.Contents.{Contents}
 use Rattle.redistribute.specs.StartData.{StartData}
 use Rattle.redistribute.specs.Begins.{IsStartIn}
@@ -16,7 +15,6 @@ use Rattle.redistribute.specs.Parts.{whole_task_start, windows_of}
 use Rattle.redistribute.specs.declared.task_start.TaskStart.{TaskStart}
 use Rattle.gather.specs.Parts.{sources_in, windows_in}
 use Rattle.gather.specs.Saved.{savepoint_of}
-use Rattle.leg_tasks.specs.Saved.{IsSavedAt}
 use Rattle.lineages.specs.Lineage.{ComesFrom}
 
 -- parts are what `spread` deals a start out into, for the tasks of a layout
@@ -37,7 +35,7 @@ pub record SayStart (p : PlanData) (l : LayoutData) (s : StartData) (parts : Lis
 abbrev pub DealtAreGathered : Type 0
 DealtAreGathered = (p : PlanData) (l : LayoutData) (i : InputData) (s : StartData) (parts : List TaskStart) → IsPlan p → IsLayoutOf p l → BelongsTo p i → IsStartIn p i s → AreDealt p l s parts → SayStart p l s parts
 
--- so the savepoint of a cut that is read, dealt out and put together again under its own number has the same bytes
+-- so a savepoint that is accepted, whoever made it, dealt out and put together again under its own number, has the same bytes
 abbrev pub SavepointsAreGatheredAgain : Type 0
-SavepointsAreGatheredAgain = (p : PlanData) (l : LayoutData) (i : InputData) (cut : List (List ℕ)) (number : ℕ) (old saved : Contents) (s : StartData) (parts : List TaskStart) → IsPlan p → IsLayoutOf p l → IsInput i → BelongsTo p i → IsCut i.sources cut
-    → IsSavedAt p i cut number old → IsSavepoint old → ComesFrom p i (savepoint_bytes old) s → AreDealt p l s parts → AreGathered p l parts number saved → savepoint_bytes saved ≡ savepoint_bytes old
+SavepointsAreGatheredAgain = (p : PlanData) (l : LayoutData) (i : InputData) (bytes : List ℕ) (s : StartData) (parts : List TaskStart) (saved : Contents) → IsPlan p → IsLayoutOf p l → BelongsTo p i → IsStartIn p i s
+    → ComesFrom p i bytes s → AreDealt p l s parts → AreGathered p l parts s.number saved → savepoint_bytes saved ≡ bytes

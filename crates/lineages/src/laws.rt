@@ -6,8 +6,9 @@ ghost use Rattle.lineages.specs.Lineage.{BytesRestart, EachMomentIsPart, EachMom
 
 use gather::laws::same_panes_same_savepoint;
 use job_legs::laws::{each_row_adds_up, nothing_due_at_first, rows_add_up};
+use logical_plan::laws::ascending_is_in_order;
 use redistribute::laws::each_partition_once;
-use restarts::laws::snapshots_restart;
+use restarts::laws::{accepted_have_groups, snapshots_restart};
 use savepoint_codec::laws::one_content;
 use stream_model::laws::end_is_due;
 
@@ -98,13 +99,13 @@ pub fn dealt_are_gathered()
     let _same = same_panes_same_savepoint();
 }
 
-/// So the savepoint of a cut that is read, dealt out to the tasks of any layout and put together again under its own number has
-/// the same bytes.
+/// So a savepoint that is accepted, whoever made it, dealt out to the tasks of any layout and put together again under its own
+/// number, has the same bytes.
 pub fn savepoints_are_gathered_again()
     ensures { SavepointsAreGatheredAgain }
 {
     let _once = each_partition_once();
     let _same = same_panes_same_savepoint();
-    let _restart = snapshots_restart();
-    let _content = one_content();
+    let _uids = ascending_is_in_order();
+    let _groups = accepted_have_groups();
 }
