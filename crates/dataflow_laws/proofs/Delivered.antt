@@ -24,7 +24,7 @@ use Rattle.input_flow.specs.InputEntries.{input_of, counts_at}
 use Rattle.input_flow.proofs.Facts.{input_is_orderly, watermark_at_cut, snapshot_at_cut, due_at_cut, full_is_cut}
 
 -- what tasks have at a cut, as legs have it
-had : (p : PlanData) (i : InputData) (l : AbstractLayout) (states : ℕ → State) (cut : List (List ℕ)) → BelongsTo p i → IsCut i.sources cut → AtOwners l (λ u. (states u).windows) (snapshot p i.sources cut)
+pub had : (p : PlanData) (i : InputData) (l : AbstractLayout) (states : ℕ → State) (cut : List (List ℕ)) → BelongsTo p i → IsCut i.sources cut → AtOwners l (λ u. (states u).windows) (snapshot p i.sources cut)
     → HaveSnapshot p (input_of p i) l states (counts_at p cut) (merged_watermark i.sources cut)
 had p i l states cut belongs is_cut windows u lo hi q = windows u lo hi q ∙ ap (λ x. cond (eqb (l.owner q.key) u) x None) (sym (snapshot_at_cut p i cut q belongs is_cut))
 

@@ -1,5 +1,5 @@
 -- Rings keep watermarks and records in their order.
-use Rattle.std.proofs.Common.{◌≡◌, ℕ, zero, suc, ◌<◌, ◌≤◌, List, [], ◌∷◌, length, get_or, slice_index_or, true, cond, refl, sym, ap, subst, ◌∙◌, inl, inr, arith, ℤ, pos, ◌≤ℤ◌, ◌<ℤ◌, int_lt}
+use Rattle.std.proofs.Common.{◌≡◌, ℕ, zero, suc, ◌<◌, List, [], ◌∷◌, slice_index_or, true, refl, sym, ap, ◌∙◌, inl, inr, arith, ℤ, pos, ◌<ℤ◌, int_lt}
 use Rattle.std.proofs.lemmas.Bool.{cases_Bool, cases_lt}
 use Rattle.std.proofs.lemmas.Int.{ints}
 use Rattle.std.proofs.lemmas.List.{get_or_default}
@@ -7,14 +7,10 @@ use Rattle.std.specs.List.{All}
 use Rattle.plain_data.specs.Record.{Record, at}
 use Rattle.plan_model.specs.PlanData.{PlanData}
 use Rattle.dataflow_model.specs.declared.message.Message.{Message}
-use Rattle.dataflow_model.specs.declared.role.Role.TheVariants.{Source, Chain}
 use Rattle.dataflow_model.specs.Message.{records_of}
 use Rattle.dataflow_model.specs.AbstractLayout.{AbstractLayout, IsLayout}
 use Rattle.dataflow_model.specs.State.{State}
-use Rattle.dataflow_model.specs.OneLeg.{IsOneLeg}
 use Rattle.dataflow_model.specs.Runs.{taken, given}
-use Rattle.dataflow_model.specs.Cuts.{AreOrderlySources, cut_of}
-use Rattle.dataflow_model.specs.Start.{AreOpenings}
 use Rattle.dataflow_model.specs.Flow.{Flow}
 use Rattle.dataflow_model.specs.History.{History}
 use Rattle.dataflow_laws.specs.Edges.{mark_of, IsInOrder, told_watermark, KeepsWatermark, EdgesKeepWatermarks, WindowsHaveTheWatermark}

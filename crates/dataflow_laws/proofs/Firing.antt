@@ -1,5 +1,5 @@
 -- Windows fire once, when they are due, and with all their records.
-use Rattle.std.proofs.Common.{◌≡◌, ℕ, ◌<◌, ◌≤◌, List, [], true, cond, eqb, refl, ap, subst, ◌∙◌, inl, inr, option_to_list, ℤ}
+use Rattle.std.proofs.Common.{◌≡◌, ℕ, ◌<◌, ◌≤◌, [], true, cond, eqb, refl, ap, subst, ◌∙◌, inl, inr, option_to_list, ℤ}
 use Rattle.std.proofs.lemmas.Bool.{cases_eq, cases_Bool, eq-eqb, ne_eqb}
 use Rattle.std.specs.List.{filter}
 use Rattle.plan_model.specs.declared.spec.Pane.{Pane}

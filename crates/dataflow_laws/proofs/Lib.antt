@@ -42,5 +42,6 @@ mod Examples
 mod Admitted
 mod Delivered
 mod Compiled
+mod Moments
 mod Owned
 pub mod Facts

@@ -8,7 +8,6 @@ use Rattle.plan_model.specs.declared.spec.Row.{Row}
 use Rattle.plan_model.specs.PlanData.{PlanData}
 use Rattle.plan_model.specs.Rows.{row_is_at}
 use Rattle.dataflow_model.specs.declared.message.Message.{Message}
-use Rattle.dataflow_model.specs.declared.message.Message.TheVariants.{Rows, Fired, Watermark, Barrier, End}
 use Rattle.dataflow_model.specs.declared.role.Role.TheVariants.{Sink}
 use Rattle.dataflow_model.specs.AbstractTask.{AbstractTask}
 use Rattle.dataflow_model.specs.State.{State}

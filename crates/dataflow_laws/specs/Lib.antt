@@ -15,4 +15,5 @@ pub mod Legs
 pub mod Savepoints
 pub mod Inputs
 pub mod Compiled
+pub mod Moments
 pub mod Owned

@@ -15,6 +15,7 @@ ghost use Rattle.dataflow_laws.specs.Legs.{LegBetweenIsExact, LegsAreExact};
 ghost use Rattle.dataflow_laws.specs.Savepoints.{SavepointIsExact};
 ghost use Rattle.dataflow_laws.specs.Inputs.{InputIsAdmitted, LegDelivers, SoFarDelivers, LegsDeliverDue, LegsDeliverAll};
 ghost use Rattle.dataflow_laws.specs.Compiled.{CompiledLegDelivers, CompiledLegDeliversAll, CompiledLegSoFar};
+ghost use Rattle.dataflow_laws.specs.Moments.{CompiledLegIsAtACut, CompiledEdgesKeepWatermarks, CompiledWindowsHaveTheWatermark, CompiledWindowsFireOnce};
 ghost use Rattle.dataflow_laws.specs.Owned.{CompiledLegKeepsPanes};
 
 /// A task makes a step only where the step's conditions hold.
@@ -191,6 +192,30 @@ pub fn compiled_leg_delivers_all()
 /// row that becomes due on the leg's way.
 pub fn compiled_leg_so_far()
     ensures { CompiledLegSoFar }
+{}
+
+/// At every moment of a leg on the compiled layout of a plan, whatever it began with, the tasks that read have come to a cut
+/// of the input.
+pub fn compiled_leg_is_at_a_cut()
+    ensures { CompiledLegIsAtACut }
+{}
+
+/// There each source has the watermarks that its partitions have at that cut, and each ring that leads to a task before the
+/// sink keeps watermarks and records in their order.
+pub fn compiled_edges_keep_watermarks()
+    ensures { CompiledEdgesKeepWatermarks }
+{}
+
+/// Where the leg opened with the snapshot of a cut, the watermark of each window task is at most that of the cut that was
+/// read, and once all tasks are done it is that.
+pub fn compiled_windows_have_the_watermark()
+    ensures { CompiledWindowsHaveTheWatermark }
+{}
+
+/// And each window task has given, of each pane whose key it owns and that was not due where the leg began, nothing before
+/// its watermark has come to the window's end, and from then on the plan's row of the pane on the whole input, once.
+pub fn compiled_windows_fire_once()
+    ensures { CompiledWindowsFireOnce }
 {}
 
 /// Whatever a leg on the compiled layout of a plan begins with: where each of the window's tasks has its own panes alone, of
