@@ -1,11 +1,5 @@
-//! Tests of inputs, of lists of legs and of choices.
+//! Tests of inputs: which texts are read token by token, and the codes of faults.
 #![tactic(auto)]
 
 #[cfg(test)]
-mod choices;
-#[cfg(test)]
-mod cuts;
-#[cfg(test)]
 mod inputs;
-#[cfg(test)]
-mod lists;

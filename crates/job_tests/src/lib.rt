@@ -1,7 +1,5 @@
-//! Tests of lists of legs and of whole jobs, of what no command of the program shows.
+//! Tests of writers of whole jobs, of what no command of the program shows.
 #![tactic(auto)]
 
-#[cfg(test)]
-mod lists;
 #[cfg(test)]
 mod writers;

@@ -1,10 +1,15 @@
 //! Writers of which a clause says nothing, since what they hold is known after a flush alone, and one that is full.
 
-use crate::lists::{INPUT, PLAN};
 use job::{HashKeys, JobFault, job_group, job_layout, job_run};
 use std::io::{Error, ErrorKind, Result as IoResult, Write};
 use std::random::RandomSource;
 use std::test::Fail;
+
+const PLAN: &str =
+    r#"{"columns":3,"maxParallelism":128,"time":0,"key":1,"sources":[{"uid":"s","partitions":2}],"window":{"uid":"w","size":10,"aggregates":[{"fn":"count"},{"fn":"sum","column":2},{"fn":"least","column":2},{"fn":"greatest","column":2}]}}"#;
+
+const INPUT: &str =
+    r#"{"s":[[{"rows":[[1,1,5],[12,1,7]]},{"watermark":9},{"rows":[[15,0,-3]]}],[{"rows":[[3,0,4]]},{"watermark":11},{"rows":[[13,1,2]]}]]}"#;
 
 const SCALE: &str = r#"{"ring":4,"operators":{"s":{"parallelism":1},"w":{"parallelism":1}}}"#;
 

@@ -1,4 +1,3 @@
 pub mod Beginning
 pub mod Leaving
 pub mod Saved
-pub mod Reading

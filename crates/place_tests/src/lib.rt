@@ -1,11 +1,5 @@
-//! Tests of where a text is refused, and of what is said there.
+//! Tests of what `check` does where nothing can be written.
 #![tactic(auto)]
 
 #[cfg(test)]
-mod broken;
-#[cfg(test)]
 mod checks;
-#[cfg(test)]
-mod plans;
-#[cfg(test)]
-mod texts;

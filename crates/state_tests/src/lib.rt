@@ -1,9 +1,7 @@
-//! Tests of windows, of the hashes of their panes, and of savepoints.
+//! Tests of the hashes of panes, and of the codes of the state's faults.
 #![tactic(auto)]
 
 #[cfg(test)]
 mod hashes;
-#[cfg(test)]
-mod savepoints;
 #[cfg(test)]
 mod windows;

@@ -1,11 +1,7 @@
-//! Tests of tasks and of the worlds that they make up.
+//! Tests of the worlds that tasks make up.
 #![tactic(auto)]
 
 #[cfg(test)]
 mod making;
-#[cfg(test)]
-mod openings;
-#[cfg(test)]
-mod setups;
 #[cfg(test)]
 mod worlds;

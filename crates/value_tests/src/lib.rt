@@ -1,4 +1,4 @@
-//! Tests of values: batches, accumulators, fields of bytes, parts and tokens of JSON, key groups, kernels, watermarks and steps.
+//! Tests of values: batches, accumulators, tokens of JSON, key groups and kernels.
 #![tactic(auto)]
 
 #[cfg(test)]
@@ -6,20 +6,8 @@ mod accumulators;
 #[cfg(test)]
 mod batches;
 #[cfg(test)]
-mod entries;
-#[cfg(test)]
-mod fields;
-#[cfg(test)]
-mod filters;
-#[cfg(test)]
 mod groups;
 #[cfg(test)]
 mod kernels;
-#[cfg(test)]
-mod marks;
-#[cfg(test)]
-mod parts;
-#[cfg(test)]
-mod steps;
 #[cfg(test)]
 mod tokens;
