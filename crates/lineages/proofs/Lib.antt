@@ -4,3 +4,4 @@ mod SavepointExact
 mod Calls
 mod Accepted
 mod Dealing
+mod Steps

@@ -1,3 +1,4 @@
 pub mod Lineage
 pub mod Calls
 pub mod Dealing
+pub mod Steps

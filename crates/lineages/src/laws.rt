@@ -3,6 +3,7 @@
 ghost use Rattle.lineages.specs.Calls.{CallsAreAnswered, CallsAreExact, SaidComesFrom};
 ghost use Rattle.lineages.specs.Dealing.{DealtAreGathered, SavepointsAreGatheredAgain};
 ghost use Rattle.lineages.specs.Lineage.{BytesRestart, EachMomentIsPart, EachMomentOfALeg, Headline, LineagesAreExact, OneSavepoint};
+ghost use Rattle.lineages.specs.Steps.{EachStepFalls};
 
 use gather::laws::same_panes_same_savepoint;
 use job_legs::laws::{each_row_adds_up, nothing_due_at_first, rows_add_up};
@@ -50,6 +51,11 @@ pub fn each_moment_is_part()
 /// becomes due between the start and where the leg is to stop.
 pub fn each_moment_of_a_leg()
     ensures { EachMomentOfALeg }
+{}
+
+/// Each step that a world makes lowers a whole number that its tasks and rings fix: so steps come to an end, in any order.
+pub fn each_step_falls()
+    ensures { EachStepFalls }
 {}
 
 /// A start that comes from the bytes of a cut's savepoint is at that cut, with its snapshot, after as many savepoints.
