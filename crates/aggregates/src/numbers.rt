@@ -1,6 +1,7 @@
 //! Numbers of records, kind by kind.
 
 ghost use Rattle.std.specs.Prelude.{◌≡◌, true, ◌≤◌, ◌<◌, ◌+◌, ◌^◌, [], ◌∷◌, ◌++◌, map, take, drop, length, slice_index_or, unsigned_abs};
+ghost use Rattle.std.specs.Int.{int_min, int_max};
 ghost use Rattle.std.specs.List.{All};
 ghost use Rattle.plan_model.specs.PlanData.{has_column};
 ghost use Rattle.plan_model.specs.Aggregates.{number_of};
@@ -37,6 +38,42 @@ pub(crate) fn merged(kind: Kind, a: i128, b: i128) -> i128
         Kind::Sum => a + b,
         Kind::Least => a.min(b),
         Kind::Greatest => a.max(b),
+    }
+}
+
+/// The lesser of the two becomes the number.
+fn lower(number: &mut i128, other: i64)
+    ensures { number.new ≡ int_min number.old other }
+{
+    let other = other as i128;
+    if other < *number {
+        *number = other;
+    }
+}
+
+/// The greater of the two becomes the number.
+fn raise(number: &mut i128, other: i64)
+    ensures { number.new ≡ int_max number.old other }
+{
+    let other = other as i128;
+    if other > *number {
+        *number = other;
+    }
+}
+
+/// Brings the aggregate's number of one record in.
+fn add_number(number: &mut i128, aggregate: Aggregate, batch: &Batch, row: usize)
+    requires row_in { row < length batch.now.rows }
+    requires column_in { has_column batch.now.width aggregate }
+    requires small { unsigned_abs number.old ≤ 2 ^ 125 }
+    ensures fit { fields.is_i64 (number_of aggregate (slice_index_or batch.now.rows row []) []) ≡ true }
+    ensures added { number.new ≡ merge_by (kind_of aggregate) number.old (number_of aggregate (slice_index_or batch.now.rows row []) []) }
+{
+    match aggregate {
+        Aggregate::Count => *number += 1,
+        Aggregate::Sum(c) => *number += batch.value(row, c as usize) as i128,
+        Aggregate::Least(c) => lower(number, batch.value(row, c as usize)),
+        Aggregate::Greatest(c) => raise(number, batch.value(row, c as usize)),
     }
 }
 
@@ -81,8 +118,7 @@ pub(crate) fn add_into(numbers: &mut [i128], aggregates: &[Aggregate], batch: &B
         ++ drop (length aggregates.now) numbers.old }
 {
     for (i, aggregate) in aggregates.iter().enumerate() {
-        let number = number_of_one(*aggregate, batch, row) as i128;
-        numbers[i] = merged(Kind::of(*aggregate), numbers[i], number);
+        add_number(&mut numbers[i], *aggregate, batch, row);
     }
 }
 
