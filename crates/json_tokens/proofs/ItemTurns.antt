@@ -1,9 +1,9 @@
 -- The grammar's loop over the items of a list, a turn at a time, under what the items say.
-use Rattle.std.proofs.Common.{arith, ◌≡◌, ℕ, ◌-◌, ◌<◌, ◌≤◌, List, [], ◌∷◌, ◌++◌, length, Option, Some, None, option_map, option_and_then, refl, ap, ◌∙◌, append_assoc, append-nil}
+use Rattle.std.proofs.Common.{arith, ◌≡◌, ℕ, ◌-◌, ◌<◌, ◌≤◌, List, [], ◌∷◌, ◌++◌, length, Option, Some, None, option_map, option_and_then, refl, sym, ap, ◌∙◌, append_assoc, append-nil}
 use Rattle.json.specs.Token.{Token}
 use Rattle.json.specs.Json as json
 use Rattle.json.specs.Json.{parse_map, after_end_array, items, value}
-use Rattle.json.proofs.Grammar.{items_end, items_more, value-begin_array}
+use Rattle.json.proofs.Grammar.{items_end, items_more, value-begin_array, value_is}
 use Rattle.serde_json.specs.Data.{Data, array, Items, item}
 use Rattle.serde_json.specs.Read.{of_json, of_items, converted}
 use Rattle.json_parts.specs.Parts.{list_of, each, list_text}
@@ -59,6 +59,19 @@ module _ {X : Type 0} (f : Data → Option X) where
       let j = converted_some of_json (value depth ts) d.0 r d.1 in
       ap (λ o. converted all (converted of_items o)) (items_more (value depth) n ts r j.0 some going j.1) ∙ ap (converted all) (with_item j.0 d.0 j.2 _) ∙ with_said d.0 x d.2 _
 
+  no_end : (depth : ℕ) (ts r : List Token) (x : X) → part f depth ts ≡ Some (x, r) → after_end_array ts ≡ None
+  no_end depth [] r x e = refl
+  no_end depth (Token.begin_object ∷ ts) r x e = refl
+  no_end depth (Token.end_object ∷ ts) r x e = refl
+  no_end depth (Token.begin_array ∷ ts) r x e = refl
+  no_end depth (Token.end_array ∷ ts) r x e = absurd (let no = sym (ap (λ o. converted f (converted of_json o)) (value_is depth (Token.end_array ∷ ts))) ∙ e in cc)
+  no_end depth (Token.key s ∷ ts) r x e = refl
+  no_end depth (Token.string s ∷ ts) r x e = refl
+  no_end depth (Token.number s ∷ ts) r x e = refl
+  no_end depth (Token.boolean b ∷ ts) r x e = refl
+  no_end depth (Token.null ∷ ts) r x e = refl
+  no_end depth (Token.bad ∷ ts) r x e = refl
+
   no_more : (depth n : ℕ) (ts r : List Token) → length ts ≤ n → after_end_array ts ≡ Some r → parts_in f depth n ts ≡ Some ([], r)
   no_more depth n ts r enough e = ap (λ o. converted all (converted of_items o)) (items_end (value depth) n ts r enough e)
 
@@ -80,6 +93,10 @@ module _ {X : Type 0} (f : Data → Option X) where
     shorter = omega arith;
     so_far = i.so_far ∙ ap (behind xs) (one_more depth i.turns ts r x (omega arith) going e) ∙ behind_one xs x _;
   }
+
+  -- the same where the value that was read tells that the list went on
+  pub items_next : (depth : ℕ) (start ts r : List Token) (xs : List X) (x : X) → ItemsRead depth start xs ts → part f depth ts ≡ Some (x, r) → length r < length ts → ItemsRead depth start (xs ++ x ∷ []) r
+  items_next depth start ts r xs x i e less = items_go_on depth start ts r xs x i (no_end depth ts r x e) e less
 
   pub items_over : (depth : ℕ) (start ts r : List Token) (xs : List X) → ItemsRead depth start xs ts → after_end_array ts ≡ Some r → parts f depth start ≡ Some (xs, r)
   items_over depth start ts r xs i e = i.so_far ∙ ap (behind xs) (no_more depth i.turns ts r i.enough e) ∙ ap (λ ys. Some (ys, r)) (append-nil xs)

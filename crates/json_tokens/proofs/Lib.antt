@@ -1,6 +1,9 @@
 pub mod Facts
 mod Converted
+mod Lexemes
+mod Names
 mod ItemTurns
 mod MemberTurns
 mod NumberTexts
 mod RowLists
+mod Starts

@@ -8,12 +8,17 @@
 //! or a [`Miss`] where memory may run out too, and a reading by `serde_json::Value` can tell.
 #![tactic(auto)]
 
+mod bytes;
 mod miss;
 mod numbers;
 mod rows;
+mod scanned_rows;
+mod scanner;
 mod tokens;
 
 pub use miss::Miss;
 pub use numbers::next_whole;
 pub use rows::next_rows;
+pub use scanned_rows::scan_rows;
+pub use scanner::Scanner;
 pub use tokens::{close_object, end, next_key, next_name, open_list, open_object};

@@ -14,10 +14,7 @@ ghost use Rattle.stream_input.specs.Fit.{fit_entry, IsSlots, IsRead};
 
 use crate::cells::batch_at;
 use crate::requirements::is_time;
-use json::{Reader, Scratch};
-use json_tokens::{
-    Miss, close_object, end, next_key, next_name, next_rows, next_whole, open_list, open_object,
-};
+use json_tokens::{Miss, Scanner, scan_rows};
 use logical_plan::Plan;
 use plain_data::Items;
 use plan_model::SourceSpec;
@@ -30,7 +27,7 @@ const MOST_DEPTH: usize = 127;
 fn next_entry(
     alloc: Global,
     plan: &Plan,
-    reader: &mut Reader<'_>,
+    reader: &mut Scanner<'_>,
     cells: &mut Vec<i64>,
     depth: usize,
 ) -> Result<Entry, Miss>
@@ -40,19 +37,19 @@ fn next_entry(
     if depth == 0 {
         return Err(Miss::Other);
     }
-    open_object(reader)?;
-    let name = next_name(reader)?;
-    if name == "rows" {
+    reader.open_object()?;
+    let name = reader.next_name()?;
+    if name == b"rows" {
         let width = plan.columns() as usize;
         cells.clear();
-        next_rows(reader, cells, width, depth - 1)?;
-        close_object(reader)?;
+        scan_rows(reader, cells, width, depth - 1)?;
+        reader.close_object()?;
         let batch = batch_at(alloc, cells, width, plan.window().time as usize)?;
         return Ok(Entry::Rows(batch));
     }
-    if name == "watermark" {
-        let time = next_whole(reader)?;
-        close_object(reader)?;
+    if name == b"watermark" {
+        let time = reader.next_whole()?;
+        reader.close_object()?;
         if !is_time(time) {
             return Err(Miss::Other);
         }
@@ -64,7 +61,7 @@ fn next_entry(
 fn next_partition(
     alloc: Global,
     plan: &Plan,
-    reader: &mut Reader<'_>,
+    reader: &mut Scanner<'_>,
     cells: &mut Vec<i64>,
     depth: usize,
 ) -> Result<Partition, Miss>
@@ -74,7 +71,7 @@ fn next_partition(
     if depth == 0 {
         return Err(Miss::Other);
     }
-    open_list(reader)?;
+    reader.open_list()?;
     let mut entries = Vec::new(alloc);
     'entries: while !reader.take_end_array() {
         let entry = next_entry(alloc, plan, reader, cells, depth - 1)?;
@@ -86,7 +83,7 @@ fn next_partition(
 fn next_source(
     alloc: Global,
     plan: &Plan,
-    reader: &mut Reader<'_>,
+    reader: &mut Scanner<'_>,
     cells: &mut Vec<i64>,
     depth: usize,
 ) -> Result<Source, Miss>
@@ -96,7 +93,7 @@ fn next_source(
     if depth == 0 {
         return Err(Miss::Other);
     }
-    open_list(reader)?;
+    reader.open_list()?;
     let mut partitions = Vec::new(alloc);
     'partitions: while !reader.take_end_array() {
         let partition = next_partition(alloc, plan, reader, cells, depth - 1)?;
@@ -106,10 +103,10 @@ fn next_source(
 }
 
 /// The place of the source with a name.
-fn place_of(specs: &[SourceSpec], name: &str) -> Option<usize>
+fn place_of(specs: &[SourceSpec], name: &[u8]) -> Option<usize>
     ensures { result ≡ position (λ s. bytes_eq s.uid name.now) specs.now }
 {
-    specs.iter().position(|spec| spec.uid.as_str() == name)
+    specs.iter().position(|spec| spec.uid.as_str().as_bytes() == name)
 }
 
 fn empty_slots(alloc: Global, specs: &[SourceSpec]) -> Result<Vec<Option<Source>>, Miss>
@@ -133,7 +130,7 @@ fn put(slots: &mut Vec<Option<Source>>, place: usize, source: Source)
 fn next_slots(
     alloc: Global,
     plan: &Plan,
-    reader: &mut Reader<'_>,
+    reader: &mut Scanner<'_>,
     cells: &mut Vec<i64>,
     depth: usize,
 ) -> Result<Vec<Option<Source>>, Miss>
@@ -144,8 +141,8 @@ fn next_slots(
     }
     let specs = plan.sources();
     let mut slots = empty_slots(alloc, specs)?;
-    open_object(reader)?;
-    'members: while let Some(name) = next_key(reader)? {
+    reader.open_object()?;
+    'members: while let Some(name) = reader.next_key()? {
         let Some(place) = place_of(specs, name) else {
             return Err(Miss::Other);
         };
@@ -179,11 +176,10 @@ fn have_counts(sources: &[Source], specs: &[SourceSpec]) -> bool
 pub fn sources_in(alloc: Global, plan: &Plan, text: &str) -> Result<Items<Source>, Miss>
     ensures { IfOk result (λ sources. IsRead plan.now (option_and_then input_text (read text.now)) sources) }
 {
-    let mut scratch = Scratch::new(alloc);
-    let mut reader = Reader::new(text, &mut scratch)?;
+    let mut reader = Scanner::new(text.as_bytes());
     let mut cells = Vec::new(alloc);
     let slots = next_slots(alloc, plan, &mut reader, &mut cells, MOST_DEPTH)?;
-    end(&mut reader)?;
+    reader.end()?;
     let sources = filled(alloc, slots)?;
     if !have_counts(&sources, plan.sources()) {
         return Err(Miss::Other);

@@ -16,7 +16,7 @@ returns-then-eq-clause-said c =
     let columns = c.args.plan.now.columns in
     let time = c.args.plan.now.window.time in
     let k = c.in_ok-name.name.now in
-    let told = c.in_ok-next_rows.ensures.said in
+    let told = c.in_ok-scan_rows.ensures.said in
     let rs = told.0 in
     let width : c.columns-width.result ≡ columns = c.columns-width.ensures.says in
     let same : bytes_eq k (codes "rows") ≡ true = search rules in
@@ -25,7 +25,7 @@ returns-then-eq-clause-said c =
     λ found wide every are. rw (width, c.window.ensures.says) at (c.in_ok-batch.ensures found (rw width wide) every (sym (cells ∙ ap joined are))) in
     ap (part (fit_entry columns time) c.args.depth) c.in_ok-open_object.ensures.passed
     ∙ one_member (list_text (row_text columns)) (fit_entry columns time) c.args.depth k _ _ _ _ rs (Rows c.in_ok-batch.batch) (omega arith) c.in_ok-name.ensures.said (rw width at told.1)
-    c.in_ok-close_object.ensures.said c.in_ok-name.ensures.shorter c.in_ok-next_rows.ensures.shorter (rows_fit columns time k rs (Rows c.in_ok-batch.batch) same fits)
+    c.in_ok-close_object.ensures.said c.in_ok-name.ensures.shorter c.in_ok-scan_rows.ensures.shorter (rows_fit columns time k rs (Rows c.in_ok-batch.batch) same fits)
 
 pub returns-then-eq-2-clause-said : goal.returns-then-eq-2-clause-said
 returns-then-eq-2-clause-said c =

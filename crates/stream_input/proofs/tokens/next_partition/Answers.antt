@@ -1,15 +1,14 @@
-use Rattle.std.proofs.Common.{◌≡◌, ◌-◌, ◌<◌, length, Some, None, sym, ap, ◌∙◌, subst, arith}
-use Rattle.json.specs.Json.{after_end_array}
+use Rattle.std.proofs.Common.{◌≡◌, ◌-◌, ◌<◌, length, Some, sym, ap, ◌∙◌, subst, arith}
 use Rattle.json_parts.specs.Parts.{list_text}
 use Rattle.json_tokens.specs.Ahead.{part}
-use Rattle.json_tokens.proofs.Facts.{ItemsRead, list_opens, items_begin, items_go_on, items_over}
+use Rattle.json_tokens.proofs.Facts.{ItemsRead, list_opens, items_begin, items_next, items_over}
 use Rattle.stream_input.specs.Fit.{fit_entry}
 use Rattle.stream_input.proofs.tokens.next_partition.Goals as goal
 
 pub entries-init : goal.entries-init
 entries-init c =
     let f = fit_entry c.args.plan.now.columns c.args.plan.now.window.time in
-    let start = c.open_list.new.reader in
+    let start = c.open_list.new.self in
     subst (λ xs. ItemsRead f (c.args.depth - 1) start xs start) (sym c.new-entries.ensures.items) (items_begin f (c.args.depth - 1) start)
 
 pub entries-preserved : goal.entries-preserved
@@ -18,17 +17,17 @@ entries-preserved c =
     let l = c.entries in
     let x = c.in_ok-entry.entry in
     let r = c.next_entry.new.reader in
-    let going : (after_end_array l.reader ≡ None) × (c.take_end_array.new.self ≡ l.reader) = grind arith in
-    let said : part f (c.args.depth - 1) l.reader ≡ Some (x, r) = rw (← going.1) c.in_ok-entry.ensures.said in
-    let less : length r < length l.reader = rw (← going.1) c.in_ok-entry.ensures.shorter in
-    let start = c.open_list.new.reader in
-    subst (λ xs. ItemsRead f (c.args.depth - 1) start xs r) (sym c.in_ok-push.ensures.items) (items_go_on f (c.args.depth - 1) start l.reader r l.entries.items x l.invariant going.0 said less)
+    let kept : c.take_end_array.new.self ≡ l.reader = grind arith in
+    let said : part f (c.args.depth - 1) l.reader ≡ Some (x, r) = rw (← kept) c.in_ok-entry.ensures.said in
+    let less : length r < length l.reader = rw (← kept) c.in_ok-entry.ensures.shorter in
+    let start = c.open_list.new.self in
+    subst (λ xs. ItemsRead f (c.args.depth - 1) start xs r) (sym c.in_ok-push.ensures.items) (items_next f (c.args.depth - 1) start l.reader r l.entries.items x l.invariant said less)
 
 pub returns-clause-said : goal.returns-clause-said
 returns-clause-said c =
     let f = fit_entry c.args.plan.now.columns c.args.plan.now.window.time in
     let l = c.entries in
-    let start = c.open_list.new.reader in
+    let start = c.open_list.new.self in
     rw c.from_vec.ensures
     (ap (part (list_text f) c.args.depth) c.in_ok-open_list.ensures.passed ∙ list_opens f c.args.depth start (omega arith)
     ∙ items_over f (c.args.depth - 1) start l.reader c.take_end_array.new.self l.entries.items l.invariant (grind arith))

@@ -1,0 +1,101 @@
+//! Bytes at the front of a text.
+ghost use Rattle.std.specs.Prelude.{◌≡◌, ◌≤◌, ◌∷◌, length, IfSome};
+ghost use Rattle.std.specs.List.{prefix_len};
+ghost use Rattle.json.specs.Word.{head, is_space};
+ghost use Rattle.json.specs.Lex.{between, lex};
+ghost use Rattle.json.specs.Run.{is_plain};
+ghost use Rattle.json_tokens.specs.Lexemes.{ends_number, BeginsDigits, BeginsName};
+
+use core::dec2flt::read_digits;
+
+/// The most digits whose number surely fits 64 bits.
+const MOST_DIGITS: usize = 19;
+
+#[inline(always)]
+fn is_space(byte: u8) -> bool
+    ensures { result ≡ is_space byte }
+{
+    (byte == b' ') | (byte == b'\t') | (byte == b'\n') | (byte == b'\r')
+}
+
+/// The first byte, or a space at the end of the text.
+#[inline(always)]
+fn first(text: &[u8]) -> u8
+    ensures { result ≡ head text.now }
+{
+    if text.is_empty() { b' ' } else { text[0] }
+}
+
+/// What follows the byte, where it comes first.
+#[inline(always)]
+pub fn behind(text: &[u8], byte: u8) -> Option<&[u8]>
+    ensures { IfSome result (λ rest. text.now ≡ byte ∷ rest.now) }
+{
+    if !text.is_empty() && text[0] == byte {
+        Some(&text[1..])
+    } else {
+        None
+    }
+}
+
+/// The text without the white space that it begins with.
+#[inline(always)]
+pub fn behind_spaces(text: &[u8]) -> &[u8]
+    ensures { lex between result.now ≡ lex between text.now }
+{
+    let mut at = 0;
+    'spaces: while at < text.len() && is_space(text[at]) {
+        at += 1;
+    }
+    &text[at..]
+}
+
+#[inline(always)]
+fn ends_number(byte: u8) -> bool
+    ensures { result ≡ ends_number byte }
+{
+    byte == b',' || byte == b']' || byte == b'}' || is_space(byte)
+}
+
+/// The digits that come first, as a number, and what follows them.
+#[inline(always)]
+pub fn digits(text: &[u8]) -> Option<(u64, &[u8])>
+    ensures { IfSome result (λ found. BeginsDigits text.now found.0 found.1.now) }
+{
+    let (count, value) = read_digits(text, 0, 0);
+    if count == 0 || MOST_DIGITS < count || (count != 1 && first(text) == b'0') {
+        return None;
+    }
+    let rest = &text[count..];
+    if !ends_number(first(rest)) {
+        return None;
+    }
+    Some((value, rest))
+}
+
+/// How many bytes come before the first that ends the text of a string, or begins an escape in it.
+#[inline(always)]
+fn plain_end(text: &[u8]) -> usize
+    ensures value { result ≡ prefix_len is_plain text.now }
+    ensures within { result ≤ length text.now }
+{
+    let mut end = 0;
+    'plain: while end < text.len() && text[end] != b'"' && text[end] != b'\\' && text[end] >= 0x20 {
+        end += 1;
+    }
+    end
+}
+
+/// The name that comes first, written without escapes, and what follows its colon.
+#[inline(always)]
+pub fn name_at(text: &[u8]) -> Option<(&[u8], &[u8])>
+    ensures { IfSome result (λ found. BeginsName text.now found.0.now found.1.now) }
+{
+    let quoted = behind(text, b'"')?;
+    let end = plain_end(quoted);
+    let name = &quoted[..end];
+    let closed = behind(&quoted[end..], b'"')?;
+    let spaced = behind_spaces(closed);
+    let rest = behind(spaced, b':')?;
+    Some((name, rest))
+}
