@@ -1,10 +1,10 @@
 -- Numbers, names and marks at the front of a text, as lexemes.
-use Rattle.std.proofs.Common.{arith, ◌≡◌, ℕ, suc, ◌+◌, ◌-◌, ◌*◌, ◌%◌, ◌^◌, ◌<◌, ◌≤◌, ℤ, pos, neg_ℤ, Bool, true, false, cond, ◌&&◌, ◌||◌, ◌==◌, nat_lt, List, [], ◌∷◌, ◌++◌, length, take, drop, get_or, Option, Some, None, option_and_then, inl, inr, refl, sym, ap, ◌∙◌, subst, append-nil, one-add, add-one, drop-cons, ne_eqb, lit<, length-drop, length-take}
+use Rattle.std.proofs.Common.{arith, ◌≡◌, ℕ, suc, ◌+◌, ◌-◌, ◌*◌, ◌%◌, ◌^◌, ◌<◌, ◌≤◌, ℤ, pos, neg_ℤ, Bool, true, false, cond, ◌||◌, ◌==◌, nat_lt, List, [], ◌∷◌, length, take, drop, get_or, Some, None, option_and_then, inl, inr, refl, sym, ap, ◌∙◌, subst, append-nil, one-add, add-one, drop-cons, ne_eqb, lit<, length-drop, length-take}
 use Rattle.std.proofs.lemmas.Bool.{eqb-true, ltb-true, or_cases}
 use Rattle.std.proofs.lemmas.Bool.Decides.{nat_tests}
 use Rattle.std.proofs.lemmas.Float.Parse.{scan_numeral-text_of}
 use Rattle.std.proofs.lemmas.Int.Digits.{digits_value-lt}
-use Rattle.std.proofs.lemmas.List.{take_all, length-take-le}
+use Rattle.std.proofs.lemmas.List.{length-take-le}
 use Rattle.std.proofs.lemmas.List.Sums.{prefix_len-le-length}
 use Rattle.std.proofs.Math.Nat.{lt_of_lt_of_le, pow-le-pow_right}
 use Rattle.std.specs.List.{prefix_len}
@@ -14,8 +14,8 @@ use Rattle.std.specs.Float.Numeral.{scan_numeral}
 use Rattle.fast_float.specs.Text.{Parts}
 use Rattle.json.specs.Token.{Token, number, bad}
 use Rattle.json.specs.Word.{is_operator, is_space, head, after_digits, after_sign, after_minus, after_whole, after_fraction, after_exponent, after_number, number_before, word}
-use Rattle.json.specs.Lex.{Lexeme, token, other, class, Mode, between, in_word, lex_byte, lex}
-use Rattle.serde_json.specs.Data.{Num, unsigned, negative}
+use Rattle.json.specs.Lex.{token, other, class, between, in_word, lex_byte, lex}
+use Rattle.serde_json.specs.Data.{unsigned, negative}
 use Rattle.serde_json.specs.Read.{number_of, number_from}
 use Rattle.serde_json.specs.Find.{as_i64}
 use Rattle.json_tokens.specs.Lexemes.{ends_number, BeginsDigits, BeginsWhole}

@@ -1,10 +1,10 @@
 -- A name at the front of a text.
 use Rattle.std.proofs.Common.{◌≡◌, ℕ, ◌+◌, Bool, true, false, not, cond, ◌||◌, ◌==◌, nat_lt, List, [], ◌∷◌, take, drop, Some, None, refl, sym, ap, ◌∙◌, one-add}
 use Rattle.std.specs.List.{prefix_len}
-use Rattle.json.specs.Token.{Token, string}
+use Rattle.json.specs.Token.{string}
 use Rattle.json.specs.Text.{content, plain, after_backslash, prepend}
 use Rattle.json.specs.Word.{is_operator, is_space}
-use Rattle.json.specs.Lex.{Lexeme, token, colon, string_token, Class, quote, backslash, operator, space, other, class, Mode, between, in_string, lex_byte, lex}
+use Rattle.json.specs.Lex.{Lexeme, token, colon, string_token, quote, backslash, operator, space, other, Mode, between, in_string, lex_byte, lex}
 use Rattle.json.specs.Run.{is_plain}
 use Rattle.json_tokens.specs.Lexemes.{BeginsName}
 

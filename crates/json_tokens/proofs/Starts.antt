@@ -1,5 +1,5 @@
 -- The next token of a text, by the byte that it begins with.
-use Rattle.std.proofs.Common.{◌≡◌, ◌<◌, ℕ, ℤ, Bool, true, false, ◌==◌, List, [], ◌∷◌, length, Option, Some, None, option_and_then, refl, sym, ap, ◌∙◌, subst, arith}
+use Rattle.std.proofs.Common.{◌≡◌, ◌<◌, ℕ, ℤ, Bool, true, false, ◌==◌, List, [], ◌∷◌, length, Some, None, refl, sym, ap, ◌∙◌, arith}
 use Rattle.std.proofs.lemmas.Bool.{eqb-true}
 use Rattle.json.specs.Token.{Token, begin_object, end_object, begin_array, end_array, key, string, number}
 use Rattle.json.specs.Lex.{Lexeme, token, colon, between, lex, Place, fresh, after_value, after_comma, after_key, may_begin, punctuate}

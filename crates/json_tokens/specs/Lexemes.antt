@@ -1,5 +1,5 @@
 -- What the bytes of a text say of the tokens that are still to come.
-use Rattle.std.specs.Prelude.{◌≡◌, ℕ, ◌<◌, ℤ, Bool, true, false, ◌||◌, ◌==◌, List, ◌∷◌, take, drop, Option, Some, option_and_then}
+use Rattle.std.specs.Prelude.{◌≡◌, ℕ, ◌<◌, ℤ, Bool, true, false, ◌||◌, ◌==◌, List, ◌∷◌, take, drop, Some, option_and_then}
 use Rattle.std.specs.List.{prefix_len}
 use Rattle.std.specs.Char.{is_ascii_digit}
 use Rattle.std.specs.Str.Parse.{digits_value}

@@ -136,11 +136,10 @@ impl<'a> Scanner<'a> {
     pub fn close_object(&mut self) -> Result<(), OtherForm>
         ensures said { OnOk result (read_key self.old ≡ Some (None, self.new)) }
     {
-        if self.take_end_object() {
-            Ok(())
-        } else {
-            Err(OtherForm)
+        if !self.take_end_object() {
+            return Err(OtherForm);
         }
+        Ok(())
     }
 
     /// The name of the next member of an object, which has one.
@@ -212,9 +211,8 @@ impl<'a> Scanner<'a> {
         ensures { OnOk result (self.now ≡ []) }
     {
         if behind_spaces(self.rest).is_empty() {
-            Ok(())
-        } else {
-            Err(OtherForm)
+            return Ok(());
         }
+        Err(OtherForm)
     }
 }

@@ -39,7 +39,7 @@ fn next_entry(
     }
     reader.open_object()?;
     let name = reader.next_name()?;
-    if name == b"rows" {
+    if name == "rows".as_bytes() {
         let width = plan.columns() as usize;
         cells.clear();
         scan_rows(reader, cells, width, depth - 1)?;
@@ -47,7 +47,7 @@ fn next_entry(
         let batch = batch_at(alloc, cells, width, plan.window().time as usize)?;
         return Ok(Entry::Rows(batch));
     }
-    if name == b"watermark" {
+    if name == "watermark".as_bytes() {
         let time = reader.next_whole()?;
         reader.close_object()?;
         if !is_time(time) {

@@ -1,7 +1,6 @@
 use Rattle.std.proofs.Common.{arith, ◌≡◌, ◌-◌, length, take, ap, sym, ◌∙◌, drop, length-drop}
 use Rattle.std.proofs.lemmas.Bool.Decides.{nat_tests}
 use Rattle.std.proofs.lemmas.List.{take_all}
-use Rattle.json.specs.Word.{head}
 use Rattle.json_tokens.specs.Lexemes.{ends_number}
 use Rattle.json_tokens.proofs.Lexemes.{digits_counted}
 use Rattle.json_tokens.proofs.bytes.digits.Goals as goal

@@ -1,4 +1,4 @@
-use Rattle.std.proofs.Common.{◌≡◌, ℤ, w64, to_z-of_z, ◌<◌, ◌++◌, ◌∷◌, [], length, Some, None, sym, ap, ◌∙◌, arith, append-nil}
+use Rattle.std.proofs.Common.{◌≡◌, ℤ, w64, to_z-of_z, ◌<◌, ◌++◌, ◌∷◌, [], length, Some, sym, ap, ◌∙◌, arith, append-nil}
 use Rattle.std.proofs.lemmas.List.{append_assoc}
 use Rattle.json_parts.specs.Parts.{whole}
 use Rattle.json_tokens.specs.Ahead.{part}
