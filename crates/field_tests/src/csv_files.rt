@@ -51,11 +51,18 @@ fn records_become_entries(rt: HostRuntime) -> Result<(), Fail> {
 }
 
 /// CSV texts of a time, a place and a name, with the fault and the line at which each is refused.
-const REFUSED: [(&[u8], RowFault, u64); 9] = [
+const REFUSED: [(&[u8], RowFault, u64); 12] = [
     (b"", RowFault::NoField(0), 1),
     (b"at,kw\n", RowFault::NoField(2), 1),
     (b"at,kw,name,at\n", RowFault::FieldTwice(0), 1),
     (b"at,kw,name\n1,2.5,a\n2,3\n", RowFault::Width(2, 3), 3),
+    (b"\nat,kw,name\n\n1,2,a\n\n2,3\n", RowFault::Width(2, 3), 6),
+    (
+        b"at,kw,name\r\n\r\n1,2.5,a\r\n2,3",
+        RowFault::Width(2, 3),
+        4,
+    ),
+    (b"at,kw,name\n1,2,a\n2,3", RowFault::Width(2, 3), 3),
     (
         b"name,at,kw\n\"a\nb\",1,2.55\n",
         RowFault::Value(1, 2, FieldFault::MorePlaces),

@@ -4,12 +4,13 @@ use crate::late::LateRows;
 use crate::partition::copy_rows;
 use crate::records::CsvRows;
 use crate::refusal::ImportFault;
-use crate::telling::refused_row;
-use crate::words::{check_sources, files_of};
+use crate::telling::{refused_file, refused_row};
+use crate::words::files_of;
 use import_columns::Column;
 use import_entries::EntryRule;
 use name_table::NameTable;
 use plan_model::SourceSpec;
+use std::alloc::Global;
 use std::fs::File;
 use std::io;
 use std::io::{ErrorKind, Write};
@@ -30,10 +31,10 @@ pub struct ImportRule<'i> {
     pub entries: EntryRule,
 }
 
-fn open_fault(error: &io::Error) -> ImportFault {
+fn open_fault(alloc: Global, path: &str, error: &io::Error) -> ImportFault {
     match error.kind() {
         ErrorKind::OutOfMemory => ImportFault::Memory,
-        _ => ImportFault::Read,
+        _ => refused_file(alloc, path),
     }
 }
 
@@ -83,7 +84,7 @@ fn import_file<R: Files + AllocGlobal, W: Write, L: Write + Drop>(
             let mut rows = CsvRows::new(rt.alloc(), file);
             import_rows(rt, rule, path, &mut rows, names, late, out)
         }
-        Err(error) => Err(open_fault(&error)),
+        Err(error) => Err(open_fault(rt.alloc(), path, &error)),
     }
 }
 
@@ -106,11 +107,11 @@ fn import_source<R: Files + AllocGlobal, W: Write, L: Write + Drop>(
     put(out, "]")
 }
 
-/// Writes an input of files: for each source of a plan its partitions, one of each file.
+/// Writes an input of files: for each source of a plan its partitions, one of each file, as words that [`check_sources`](crate::check_sources) takes name them.
 ///
 /// # Errors
 ///
-/// What is refused first; `Read` where a file cannot be read; `Write`; `Memory`. Some of the text may have been written then.
+/// What is refused first; `Write`; `Memory`. Some of the text may have been written then.
 pub fn import_files<R: Files + AllocGlobal, W: Write, L: Write + Drop>(
     rt: &R,
     rule: ImportRule<'_>,
@@ -118,7 +119,6 @@ pub fn import_files<R: Files + AllocGlobal, W: Write, L: Write + Drop>(
     late: &mut Option<LateRows<L>>,
     out: &mut W,
 ) -> Result<(), ImportFault> {
-    check_sources(rt.alloc(), rule.words, rule.sources)?;
     let mut is_first = true;
     for source in rule.sources {
         put(out, if is_first { "{\"" } else { ",\"" })?;

@@ -19,5 +19,6 @@ pub use late::LateRows;
 pub use names::{read_names, text_of_names};
 pub use partition::copy_rows;
 pub use records::CsvRows;
-pub use refusal::{ImportCode, ImportFault, status_of};
-pub use words::{check_columns, read_columns};
+pub use refusal::{ImportCode, ImportFault, refused, status_of};
+pub use telling::refused_names;
+pub use words::{check_columns, check_sources, read_columns};

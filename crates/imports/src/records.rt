@@ -11,6 +11,17 @@ pub struct CsvRows<R> {
     reader: Reader<R>,
     record: ByteRecord,
     width: Option<usize>,
+    /// Whether the reader has gone over the line feed behind a record, as it has not where a carriage return stands before it.
+    is_past_lines: bool,
+}
+
+/// How many line feeds stand in the fields of a record.
+fn line_feeds(record: &ByteRecord) -> u64 {
+    let mut count = 0u64;
+    for field in record.into_iter() {
+        count = count.saturating_add(field.iter().filter(|b| **b == b'\n').count() as u64);
+    }
+    count
 }
 
 impl<R: Read> CsvRows<R> {
@@ -22,6 +33,7 @@ impl<R: Read> CsvRows<R> {
             reader: builder.from_reader(alloc, input),
             record: ByteRecord::new(alloc),
             width: None,
+            is_past_lines: false,
         }
     }
 
@@ -42,11 +54,27 @@ impl<R: Read> CsvRows<R> {
         let width = self.record.len();
         match self.width {
             Some(wanted) if wanted != width => Err(RowFault::Width(width, wanted)),
-            _ => {
+            Some(_) => Ok(true),
+            None => {
                 self.width = Some(width);
+                self.is_past_lines = self.last_line() > self.first_line();
                 Ok(true)
             }
         }
+    }
+
+    /// The line at which the reader looked for the record, which is that of the record or one before it.
+    fn first_line(&self) -> u64 {
+        match self.record.position() {
+            Some(position) => position.line(),
+            None => 1,
+        }
+    }
+
+    /// The line at which the reader stands, less the line feeds in the record.
+    fn last_line(&self) -> u64 {
+        let line = self.reader.position().line();
+        line.saturating_sub(line_feeds(&self.record))
     }
 
     /// The record.
@@ -56,9 +84,10 @@ impl<R: Read> CsvRows<R> {
 
     /// The line at which the record begins, counted from 1.
     pub fn line(&self) -> u64 {
-        match self.record.position() {
-            Some(position) => position.line(),
-            None => 1,
+        let last = self.last_line();
+        if !self.is_past_lines {
+            return last;
         }
+        self.first_line().max(last.saturating_sub(1))
     }
 }

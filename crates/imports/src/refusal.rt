@@ -1,7 +1,7 @@
 //! What an import is refused with.
 
-ghost use Rattle.std.specs.Prelude.{◌≡◌};
-ghost use Rattle.imports.specs.Status.{status};
+ghost use Rattle.std.specs.Prelude.{◌≡◌, MatchResult};
+ghost use Rattle.imports.specs.Status.{code_status, status};
 
 use std::alloc::AllocError;
 use std::fmt;
@@ -25,6 +25,12 @@ pub enum ImportCode {
     LateRow,
     /// A table of names.
     Names,
+    /// A word that is to be a number in its range.
+    Number,
+    /// A file that cannot be read.
+    Read,
+    /// A file that cannot be written.
+    Write,
 }
 
 impl fmt::Display for ImportCode {
@@ -38,6 +44,9 @@ impl fmt::Display for ImportCode {
             ImportCode::TimeRange => "D6 TimeRange",
             ImportCode::LateRow => "D7 LateRow",
             ImportCode::Names => "D8 Names",
+            ImportCode::Number => "C2 Number",
+            ImportCode::Read => "F1 Read",
+            ImportCode::Write => "F2 Write",
         })
     }
 }
@@ -47,12 +56,20 @@ impl fmt::Display for ImportCode {
 pub enum ImportFault {
     /// What is refused, with where it stands and what it has to be.
     Refused(ImportCode, String),
-    /// A file cannot be read.
-    Read,
     /// What was to be written could not be.
     Write,
     /// No memory was to be had.
     Memory,
+}
+
+impl fmt::Display for ImportFault {
+    fn fmt<W: fmt::Write>(&self, f: &mut fmt::Formatter<W>) -> fmt::Result {
+        match self {
+            ImportFault::Refused(code, sentence) => write!(f, "{code} {sentence}"),
+            ImportFault::Write => f.write_str("F2 Write"),
+            ImportFault::Memory => f.write_str("memory"),
+        }
+    }
 }
 
 impl From<AllocError> for ImportFault {
@@ -67,19 +84,32 @@ impl From<AllocError> for ImportFault {
 }
 
 /// A refusal with a sentence, or that there was no memory for it.
-pub(crate) fn refused(code: ImportCode, sentence: Result<String, AllocError>) -> ImportFault {
+pub fn refused(code: ImportCode, sentence: Result<String, AllocError>) -> ImportFault
+    ensures { MatchResult sentence (λ text. result ≡ ImportFault.Refused code text) (λ _. result ≡ ImportFault.Memory) }
+{
     match sentence {
         Ok(sentence) => ImportFault::Refused(code, sentence),
         Err(_) => ImportFault::Memory,
     }
 }
 
-/// The status to end with, which is 2 where the words are refused.
-pub fn status_of(code: ImportCode) -> u8
-    ensures { result ≡ status code }
+/// The status of a refusal, which is 2 where the words are refused.
+fn status_of_code(code: ImportCode) -> u8
+    ensures { result ≡ code_status code }
 {
     match code {
-        ImportCode::Columns | ImportCode::Sources => 2,
+        ImportCode::Columns | ImportCode::Sources | ImportCode::Number => 2,
         _ => 3,
+    }
+}
+
+/// The status to end with: 2 where the words are refused, 4 for want of memory, and 3 for any other fault.
+pub fn status_of(fault: &ImportFault) -> u8
+    ensures { result ≡ status fault.now }
+{
+    match fault {
+        ImportFault::Refused(code, _) => status_of_code(*code),
+        ImportFault::Write => 3,
+        ImportFault::Memory => 4,
     }
 }

@@ -139,7 +139,7 @@ pub(crate) fn refused_row<R: Read>(
     let line = rows.line();
     let spot = Spot { file, line };
     match fault {
-        RowFault::Read => ImportFault::Read,
+        RowFault::Read => refused_file(alloc, file),
         RowFault::Write => ImportFault::Write,
         RowFault::Memory => ImportFault::Memory,
         RowFault::NoField(column) => {
@@ -164,5 +164,30 @@ pub(crate) fn refused_row<R: Read>(
             ),
         ),
         RowFault::Place(fault) => refused_place(alloc, spot, name_of(columns, time), fault),
+    }
+}
+
+/// The refusal of a file that cannot be read.
+pub(crate) fn refused_file(alloc: Global, file: &str) -> ImportFault {
+    refused(ImportCode::Read, format!(in alloc; "{file}"))
+}
+
+/// The refusal of the record that `rows` has, in a table of names.
+pub fn refused_names<R: Read>(
+    alloc: Global,
+    file: &str,
+    rows: &CsvRows<R>,
+    fault: RowFault,
+) -> ImportFault {
+    let line = rows.line();
+    match fault {
+        RowFault::Read => refused_file(alloc, file),
+        RowFault::Memory => ImportFault::Memory,
+        _ => refused(
+            ImportCode::Names,
+            format!(in alloc;
+                "{file}:{line}: a record is NUMBER,NAME, with the numbers from 1 on and each name once, in UTF-8"
+            ),
+        ),
     }
 }

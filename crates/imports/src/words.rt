@@ -82,7 +82,7 @@ fn refused_source(alloc: Global, word: &str, what: &str) -> ImportFault {
 ///
 /// # Errors
 ///
-/// `Sources` where not one word names the source, or with another number of files than the plan gives it partitions; `Memory`.
+/// `Sources` where not one word names the source; `Memory`.
 pub(crate) fn files_of<'w>(
     alloc: Global,
     words: &[&'w str],
@@ -110,30 +110,52 @@ pub(crate) fn files_of<'w>(
     }
 }
 
+/// The name of the source of a word.
+fn source_of<'w>(alloc: Global, word: &'w str) -> Result<&'w str, ImportFault> {
+    match word.split_once('=') {
+        Some((name, _)) => Ok(name),
+        None => Err(refused_source(
+            alloc,
+            word,
+            "a source and its files are SOURCE=FILE[,FILE..]",
+        )),
+    }
+}
+
+/// Refuses a source with another number of files than it has partitions.
+fn check_files(alloc: Global, words: &[&str], source: &SourceSpec) -> Result<(), ImportFault> {
+    let uid = source.uid.as_str();
+    let wanted = source.partitions;
+    let count = files_of(alloc, words, source)?.split(',').count();
+    if count as u64 == u64::from(wanted) {
+        return Ok(());
+    }
+    Err(refused(
+        ImportCode::Sources,
+        format!(in alloc;
+            "{uid:?}: files are named for {count} partitions, and the plan has {wanted}"
+        ),
+    ))
+}
+
 /// Refuses words that name no source of the plan, and sources with another number of files than they have partitions.
 ///
 /// # Errors
 ///
 /// `Sources`; `Memory`.
-pub(crate) fn check_sources(
+pub fn check_sources(
     alloc: Global,
     words: &[&str],
     sources: &[SourceSpec],
 ) -> Result<(), ImportFault> {
     for word in words {
-        let name = match word.split_once('=') {
-            Some((name, _)) => name,
-            None => {
-                return Err(refused_source(
-                    alloc,
-                    word,
-                    "a source and its files are SOURCE=FILE[,FILE..]",
-                ));
-            }
-        };
+        let name = source_of(alloc, word)?;
         if !sources.iter().any(|source| source.uid.as_str() == name) {
             return Err(refused_source(alloc, name, "the plan has no such source"));
         }
+    }
+    for source in sources {
+        check_files(alloc, words, source)?;
     }
     Ok(())
 }

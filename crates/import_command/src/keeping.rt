@@ -1,0 +1,77 @@
+//! The files that an import writes.
+
+use import_columns::Column;
+use imports::{ImportCode, ImportFault, LateRows, RowFault, refused};
+use new_files::NewFile;
+use std::io;
+use std::io::ErrorKind;
+use std::random::RandomSource;
+use std::rt::Files;
+
+/// What is told where a file at a path was not written.
+pub(crate) fn write_fault<R: AllocGlobal>(rt: &R, path: &str, error: &io::Error) -> ImportFault {
+    match error.kind() {
+        ErrorKind::OutOfMemory => ImportFault::Memory,
+        _ => refused(ImportCode::Write, format!(in rt.alloc(); "{path}")),
+    }
+}
+
+/// What comes of writing the file at a path.
+pub(crate) fn written<R: AllocGlobal, T>(
+    rt: &R,
+    path: &str,
+    answer: io::Result<T>,
+) -> Result<T, ImportFault> {
+    match answer {
+        Ok(value) => Ok(value),
+        Err(error) => Err(write_fault(rt, path, &error)),
+    }
+}
+
+/// The place for late rows in a file, if there is a path for them.
+pub(crate) fn late_file<R: Files + RandomSource + AllocGlobal>(
+    rt: &R,
+    path: Option<&str>,
+) -> Result<Option<NewFile>, ImportFault> {
+    match path {
+        Some(path) => Ok(Some(written(rt, path, NewFile::at(rt, path))?)),
+        None => Ok(None),
+    }
+}
+
+/// What late rows are written to, if there is a place for them.
+pub(crate) fn late_rows<R: Files + AllocGlobal>(
+    rt: &R,
+    path: &str,
+    new: Option<&NewFile>,
+    columns: &[Column<'_>],
+) -> Result<Option<LateRows<R::File>>, ImportFault> {
+    let Some(new) = new else {
+        return Ok(None);
+    };
+    let file = written(rt, path, new.open(rt))?;
+    match LateRows::new(file, columns) {
+        Ok(rows) => Ok(Some(rows)),
+        Err(RowFault::Memory) => Err(ImportFault::Memory),
+        Err(_) => Err(refused(ImportCode::Write, format!(in rt.alloc(); "{path}"))),
+    }
+}
+
+/// Has late rows in their file.
+pub(crate) fn keep_late<R: Files + AllocGlobal>(
+    rt: &R,
+    path: &str,
+    new: Option<&NewFile>,
+    rows: Option<LateRows<R::File>>,
+) -> Result<(), ImportFault> {
+    let Some(new) = new else {
+        return Ok(());
+    };
+    let Some(rows) = rows else {
+        return Ok(());
+    };
+    match rows.finish() {
+        Ok(file) => written(rt, path, new.keep(rt, &file)),
+        Err(_) => Err(refused(ImportCode::Write, format!(in rt.alloc(); "{path}"))),
+    }
+}

@@ -1,0 +1,10 @@
+//! The command `import`: its words, the files that they name, and the input that is made of them.
+#![tactic(auto)]
+
+mod importing;
+mod keeping;
+mod names;
+mod words;
+
+pub use importing::import;
+pub use words::ImportWords;
