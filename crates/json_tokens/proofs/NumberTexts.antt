@@ -1,8 +1,8 @@
 -- What the text of a number says.
-use Rattle.std.proofs.Common.{◌≡◌, ℕ, ℤ, IfSome, List, ◌∷◌, Option, Some, None, option_map, option_and_then, sym, ap, ◌∙◌}
+use Rattle.std.proofs.Common.{◌≡◌, ℕ, ℤ, List, ◌∷◌, Option, Some, None, option_map, option_and_then, ap, ◌∙◌}
 use Rattle.json.specs.Token.{Token}
 use Rattle.json.proofs.Grammar.{value_is}
-use Rattle.serde_json.specs.Data.{Num, unsigned, negative, number}
+use Rattle.serde_json.specs.Data.{Num, number}
 use Rattle.serde_json.specs.Read.{of_json, converted, number_of}
 use Rattle.serde_json.specs.Find.{as_i64}
 use Rattle.json_parts.specs.Parts.{whole}
@@ -14,11 +14,3 @@ by_number (Some n) ts z e = ap (option_map (λ b. (b, ts))) e
 
 pub number_said : (depth : ℕ) (s : List ℕ) (ts : List Token) (z : ℤ) → option_and_then as_i64 (number_of s) ≡ Some z → part whole depth (Token.number s ∷ ts) ≡ Some (z, ts)
 number_said depth s ts z e = ap (λ o. converted whole (converted of_json o)) (value_is depth (Token.number s ∷ ts)) ∙ by_number (number_of s) ts z e
-
-pub negative_said : (o p : Option Num) → o ≡ p → (found : Option ℤ) → IfSome found (λ n. o ≡ Some (negative n)) → IfSome found (λ n. option_and_then as_i64 p ≡ Some n)
-negative_said o p same None h = tt
-negative_said o p same (Some z) h = ap (option_and_then as_i64) (sym same ∙ h)
-
-pub small_said : (o p : Option Num) (n : ℕ) → o ≡ p → o ≡ Some (unsigned n) → (found : Option ℤ) → found ≡ as_i64 (unsigned n) → IfSome found (λ z. option_and_then as_i64 p ≡ Some z)
-small_said o p n same h None e = tt
-small_said o p n same h (Some z) e = ap (option_and_then as_i64) (sym same ∙ h) ∙ sym e

@@ -1,7 +1,7 @@
 //! JSON read token by token, straight into vectors.
 //!
 //! For a large text of a known form, a tree of values in between costs more than the reading itself.
-//! These functions take the tokens of a [`json::Reader`] in the form that is asked for. Their contracts
+//! A [`Scanner`] takes the tokens of a text from its bytes, in the form that is asked for. Its contracts
 //! speak of the next value of the text, as `serde_json` reads it, in the words of `specs/Ahead`.
 //!
 //! Nothing here tells what is wrong with a text of another form: it is [`OtherForm`](json_parts::OtherForm),
@@ -12,13 +12,8 @@ mod bytes;
 mod miss;
 mod numbers;
 mod rows;
-mod scanned_rows;
 mod scanner;
-mod tokens;
 
 pub use miss::Miss;
-pub use numbers::next_whole;
-pub use rows::next_rows;
-pub use scanned_rows::scan_rows;
+pub use rows::scan_rows;
 pub use scanner::Scanner;
-pub use tokens::{close_object, end, next_key, next_name, open_list, open_object};

@@ -1,23 +1,21 @@
-//! Rows of whole numbers, one after another in one vector.
+//! Rows of whole numbers, one after another in one vector, from the bytes of a text.
 ghost use Rattle.std.specs.Prelude.{◌≡◌, ◌<◌, ◌++◌, ℤ, List, Some, OnOk, length};
 ghost use Rattle.json_parts.specs.Parts.{whole, list_text};
 ghost use Rattle.json_tokens.specs.Ahead.{part, parts};
 ghost use Rattle.json_tokens.specs.Rows.{row_text, joined};
 
 use crate::miss::Miss;
-use crate::numbers::next_whole;
-use crate::tokens::open_list;
-use json::Reader;
+use crate::scanner::Scanner;
 
 /// The numbers up to the closing bracket, put behind what `cells` holds.
 #[inline(always)]
-fn cells_onto(reader: &mut Reader<'_>, cells: &mut Vec<i64>, depth: usize) -> Result<(), Miss>
+fn cells_onto(reader: &mut Scanner<'_>, cells: &mut Vec<i64>, depth: usize) -> Result<(), Miss>
     ensures said { OnOk result ((row : List ℤ) × (parts whole depth reader.old ≡ Some (row, reader.new))
         × (cells.new.items ≡ cells.old.items ++ row)) }
     ensures shorter { OnOk result (length reader.new < length reader.old) }
 {
     'cells: while !reader.take_end_array() {
-        let cell = next_whole(reader)?;
+        let cell = reader.next_whole()?;
         cells.push(cell)?;
     }
     Ok(())
@@ -25,7 +23,7 @@ fn cells_onto(reader: &mut Reader<'_>, cells: &mut Vec<i64>, depth: usize) -> Re
 
 #[inline(always)]
 fn row_onto(
-    reader: &mut Reader<'_>,
+    reader: &mut Scanner<'_>,
     cells: &mut Vec<i64>,
     width: usize,
     depth: usize,
@@ -37,7 +35,7 @@ fn row_onto(
     if depth == 0 {
         return Err(Miss::Other);
     }
-    open_list(reader)?;
+    reader.open_list()?;
     let before = cells.len();
     cells_onto(reader, cells, depth - 1)?;
     let after = cells.len();
@@ -47,8 +45,9 @@ fn row_onto(
     Ok(())
 }
 
+#[inline(always)]
 fn rows_onto(
-    reader: &mut Reader<'_>,
+    reader: &mut Scanner<'_>,
     cells: &mut Vec<i64>,
     width: usize,
     depth: usize,
@@ -69,8 +68,8 @@ fn rows_onto(
 /// # Errors
 ///
 /// `Other` where the next value is written otherwise, or is none; `Memory`.
-pub fn next_rows(
-    reader: &mut Reader<'_>,
+pub fn scan_rows(
+    reader: &mut Scanner<'_>,
     cells: &mut Vec<i64>,
     width: usize,
     depth: usize,
@@ -82,7 +81,7 @@ pub fn next_rows(
     if depth == 0 {
         return Err(Miss::Other);
     }
-    open_list(reader)?;
+    reader.open_list()?;
     rows_onto(reader, cells, width, depth - 1)?;
     Ok(())
 }

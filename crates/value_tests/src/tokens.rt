@@ -1,52 +1,49 @@
-use json::{Reader, Scratch};
 use json_parts::OtherForm;
-use json_tokens::{
-    Miss, close_object, end, next_key, next_name, next_rows, next_whole, open_list, open_object,
-};
+use json_tokens::{Miss, Scanner, scan_rows};
 use std::test::Fail;
 
-fn whole_of(rt: &impl AllocGlobal, text: &str) -> Result<i64, Miss> {
-    let mut scratch = Scratch::new(rt.alloc());
-    let mut reader = Reader::new(text, &mut scratch)?;
-    let number = next_whole(&mut reader)?;
-    end(&mut reader)?;
+fn whole_of(text: &str) -> Result<i64, OtherForm> {
+    let mut reader = Scanner::new(text.as_bytes());
+    let number = reader.next_whole()?;
+    reader.end()?;
     Ok(number)
 }
 
 #[test]
-fn whole_numbers(rt: HostRuntime) -> Result<(), Fail> {
+fn whole_numbers(rt: HostRuntime) {
     for (text, want) in [
         ("0", Ok(0)),
         (" -7 ", Ok(-7)),
         ("9223372036854775807", Ok(i64::MAX)),
         ("-9223372036854775808", Ok(i64::MIN)),
-        ("9223372036854775808", Err(Miss::Other)),
-        ("-9223372036854775809", Err(Miss::Other)),
-        ("-0", Err(Miss::Other)),
-        ("3.0", Err(Miss::Other)),
-        ("3e0", Err(Miss::Other)),
-        ("01", Err(Miss::Other)),
-        ("null", Err(Miss::Other)),
-        ("", Err(Miss::Other)),
-        ("1 2", Err(Miss::Other)),
+        ("9223372036854775808", Err(OtherForm)),
+        ("-9223372036854775809", Err(OtherForm)),
+        ("99999999999999999999", Err(OtherForm)),
+        ("-0", Err(OtherForm)),
+        ("3.0", Err(OtherForm)),
+        ("3e0", Err(OtherForm)),
+        ("01", Err(OtherForm)),
+        ("-", Err(OtherForm)),
+        ("1x", Err(OtherForm)),
+        ("null", Err(OtherForm)),
+        ("", Err(OtherForm)),
+        ("1 2", Err(OtherForm)),
     ] {
-        assert_eq!(rt; whole_of(&rt, text), want);
+        assert_eq!(rt; whole_of(text), want, "at {text}");
     }
-    Ok(())
 }
 
 fn rows_of(rt: &impl AllocGlobal, text: &str, depth: usize) -> Result<Vec<i64>, Miss> {
-    let mut scratch = Scratch::new(rt.alloc());
-    let mut reader = Reader::new(text, &mut scratch)?;
+    let mut reader = Scanner::new(text.as_bytes());
     let mut cells = Vec::new(rt.alloc());
-    next_rows(&mut reader, &mut cells, 2, depth)?;
-    end(&mut reader)?;
+    scan_rows(&mut reader, &mut cells, 2, depth)?;
+    reader.end()?;
     Ok(cells)
 }
 
 #[test]
 fn rows(rt: HostRuntime) -> Result<(), Fail> {
-    let cells = rows_of(&rt, "[[1,2],[-3,4]]", 2)?;
+    let cells = rows_of(&rt, "[[1,2] ,\n[ -3, 4 ]]", 2)?;
     assert_eq!(rt; cells.as_slice(), [1, 2, -3, 4].as_slice());
     assert_eq!(rt; rows_of(&rt, "[]", 1)?.len(), 0);
     for (text, depth) in [
@@ -54,53 +51,57 @@ fn rows(rt: HostRuntime) -> Result<(), Fail> {
         ("[]", 0),
         ("[[1,2],[3]]", 2),
         ("[[1,2],[3,4,5]]", 2),
+        ("[[1,2][3,4]]", 2),
+        ("[[1,2],]", 2),
         ("[[1,2.5]]", 2),
         ("[1,2]", 2),
         ("[[1,2],", 2),
         ("{}", 2),
     ] {
-        assert_eq!(rt; rows_of(&rt, text, depth).err(), Some(Miss::Other));
+        assert_eq!(rt;
+            rows_of(&rt, text, depth).err(),
+            Some(Miss::Other),
+            "at {text}"
+        );
     }
     Ok(())
 }
 
-fn walk(rt: &impl AllocGlobal, text: &str) -> Result<usize, Miss> {
-    let mut scratch = Scratch::new(rt.alloc());
-    let mut reader = Reader::new(text, &mut scratch)?;
-    open_object(&mut reader)?;
-    let length = next_name(&mut reader)?.len();
-    open_list(&mut reader)?;
+fn walk(text: &str) -> Result<usize, OtherForm> {
+    let mut reader = Scanner::new(text.as_bytes());
+    reader.open_object()?;
+    let length = reader.next_name()?.len();
+    reader.open_list()?;
     if !reader.take_end_array() {
-        return Err(Miss::Other);
+        return Err(OtherForm);
     }
-    close_object(&mut reader)?;
-    end(&mut reader)?;
+    reader.close_object()?;
+    reader.end()?;
     Ok(length)
 }
 
 #[test]
-fn tokens_around_values(rt: HostRuntime) -> Result<(), Fail> {
-    assert_eq!(rt; walk(&rt, r#"{"name":[]}"#), Ok(4));
+fn tokens_around_values(rt: HostRuntime) {
+    assert_eq!(rt; walk(r#"{"name":[]}"#), Ok(4));
     for text in [
         r#"["name",[]]"#,
         "{}",
         r#"{"name":{}}"#,
         r#"{"name":[],"other":[]}"#,
         r#"{"name":[]}1"#,
+        r#"{"n\u0061me":[]}"#,
     ] {
-        assert_eq!(rt; walk(&rt, text), Err(Miss::Other));
+        assert_eq!(rt; walk(text), Err(OtherForm), "at {text}");
     }
-    Ok(())
 }
 
 #[test]
 fn keys(rt: HostRuntime) -> Result<(), Fail> {
-    let mut scratch = Scratch::new(rt.alloc());
-    let mut reader = Reader::new(r#"{"a":1}x"#, &mut scratch)?;
-    open_object(&mut reader)?;
-    assert_eq!(rt; next_key(&mut reader)?, Some("a"));
-    assert_eq!(rt; next_whole(&mut reader)?, 1);
-    assert_eq!(rt; next_key(&mut reader)?, None);
-    assert_eq!(rt; next_key(&mut reader).err(), Some(OtherForm));
+    let mut reader = Scanner::new(b"{\"a\":1}x".as_slice());
+    reader.open_object()?;
+    assert_eq!(rt; reader.next_key()?, Some(b"a".as_slice()));
+    assert_eq!(rt; reader.next_whole()?, 1);
+    assert_eq!(rt; reader.next_key()?, None);
+    assert_eq!(rt; reader.next_key().err(), Some(OtherForm));
     Ok(())
 }

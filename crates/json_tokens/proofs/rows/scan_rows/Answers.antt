@@ -3,7 +3,7 @@ use Rattle.json_parts.specs.Parts.{list_text}
 use Rattle.json_tokens.specs.Rows.{row_text}
 use Rattle.json_tokens.specs.Ahead.{part}
 use Rattle.json_tokens.proofs.ItemTurns.{list_opens}
-use Rattle.json_tokens.proofs.scanned_rows.scan_rows.Goals as goal
+use Rattle.json_tokens.proofs.rows.scan_rows.Goals as goal
 
 pub returns-clause-said : goal.returns-clause-said
 returns-clause-said c =
