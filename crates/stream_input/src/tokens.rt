@@ -106,7 +106,9 @@ fn next_source(
 fn place_of(specs: &[SourceSpec], name: &[u8]) -> Option<usize>
     ensures { result ≡ position (λ s. bytes_eq s.uid name.now) specs.now }
 {
-    specs.iter().position(|spec| spec.uid.as_str().as_bytes() == name)
+    specs
+        .iter()
+        .position(|spec| spec.uid.as_str().as_bytes() == name)
 }
 
 fn empty_slots(alloc: Global, specs: &[SourceSpec]) -> Result<Vec<Option<Source>>, Miss>
