@@ -3,3 +3,4 @@ mod Unique
 mod Numerals
 mod Lines
 mod Parts
+pub mod Ascii

@@ -6,3 +6,4 @@ pub mod Cut
 pub mod LayoutText
 pub mod Tells
 pub mod ShowText
+pub mod Narrow

@@ -7,6 +7,7 @@ mod group;
 pub mod laws;
 mod layout_text;
 mod line;
+mod narrow;
 mod number;
 mod show_text;
 mod sorting;
