@@ -1,9 +1,11 @@
 -- The command that words say.
-use Rattle.std.specs.Prelude.{◌≡◌, ℕ, List, [], Bool, true, false, ◌||◌, Option, Some, None, option_map, unwrap_or, bytes_eq, codes}
+use Rattle.std.specs.Prelude.{◌≡◌, ℕ, List, [], map, Bool, true, false, ◌||◌, Option, Some, None, option_map, unwrap_or, bytes_eq, codes}
 use Rattle.clap.specs.Words.{first_value}
+use Rattle.clap.specs.Matches.{matched_of, raw_values}
 use Rattle.clap.specs.declared.parser.matches.Found.{Found}
+use Rattle.import_command.specs.declared.words.ImportWords.{ImportWords}
 use Rattle.commands.specs.declared.command.Command.{Command}
-use Rattle.commands.specs.declared.command.Command.TheVariants.{Run, Simulate, Leg, Layout, Check, Show, Group, Explain, Version}
+use Rattle.commands.specs.declared.command.Command.TheVariants.{Run, Simulate, Leg, Layout, Check, Import, Show, Group, Explain, Version}
 
 -- the word under a name
 abbrev pub word : Found → List ℕ → List ℕ
@@ -16,10 +18,22 @@ name_of (Simulate _ _ _ _) = codes "simulate"
 name_of (Leg _ _ _ _ _ _) = codes "leg"
 name_of (Layout _ _) = codes "layout"
 name_of (Check _ _ _) = codes "check"
+name_of (Import _ _) = codes "import"
 name_of (Show _) = codes "show"
 name_of (Group _ _ _) = codes "group"
 name_of (Explain _) = codes "explain"
 name_of Version = codes "version"
+
+-- all words under a name
+abbrev pub words_under : Found → List ℕ → List (List ℕ)
+words_under words name = unwrap_or (option_map raw_values (matched_of words name)) []
+
+-- the words of an import behind its plan's, each by its name
+abbrev pub HasImportWords : Found → ImportWords → Type 0
+HasImportWords words said =
+    (said.input.now ≡ word words (codes "INPUT")) × (said.columns.now ≡ word words (codes "COLUMNS")) × (map (λ w. w.now) said.sources.now ≡ words_under words (codes "SOURCE"))
+    × (option_map (λ w. w.now) said.names ≡ first_value words (codes "names")) × (option_map (λ w. w.now) said.bound ≡ first_value words (codes "bound"))
+    × (option_map (λ w. w.now) said.late ≡ first_value words (codes "late")) × (option_map (λ w. w.now) said.rows ≡ first_value words (codes "rows"))
 
 -- the words of a command, each by its name
 abbrev pub HasWords : Found → Command → Type 0
@@ -32,6 +46,7 @@ HasWords words (Leg plan input scale from stop save) =
     × (option_map (λ w. w.now) save ≡ first_value words (codes "save"))
 HasWords words (Layout plan scale) = (plan.now ≡ word words (codes "PLAN")) × (scale.now ≡ word words (codes "SCALE"))
 HasWords words (Check plan input scale) = (plan.now ≡ word words (codes "PLAN")) × (option_map (λ w. w.now) input ≡ first_value words (codes "INPUT")) × (option_map (λ w. w.now) scale ≡ first_value words (codes "scale"))
+HasWords words (Import plan said) = (plan.now ≡ word words (codes "PLAN")) × HasImportWords words said
 HasWords words (Show savepoint) = savepoint.now ≡ word words (codes "SAVEPOINT")
 HasWords words (Group key max par) = (key.now ≡ word words (codes "KEY")) × (max.now ≡ word words (codes "MAX")) × (par.now ≡ word words (codes "PAR"))
 HasWords words (Explain code) = code.now ≡ word words (codes "CODE")
@@ -40,8 +55,8 @@ HasWords words Version = Unit {0}
 -- a name is one of a command
 abbrev pub is_command : List ℕ → Bool
 is_command name =
-    bytes_eq name (codes "run") || (bytes_eq name (codes "simulate") || (bytes_eq name (codes "leg") || (bytes_eq name (codes "layout") || (bytes_eq name (codes "check") || (bytes_eq name (codes "show")
-    || (bytes_eq name (codes "group") || (bytes_eq name (codes "explain") || bytes_eq name (codes "version"))))))))
+    bytes_eq name (codes "run") || (bytes_eq name (codes "simulate") || (bytes_eq name (codes "leg") || (bytes_eq name (codes "layout") || (bytes_eq name (codes "check") || (bytes_eq name (codes "import")
+    || (bytes_eq name (codes "show") || (bytes_eq name (codes "group") || (bytes_eq name (codes "explain") || bytes_eq name (codes "version")))))))))
 
 -- the command of a name, with the words after it; no other name has one
 abbrev pub IsRead : List ℕ → Found → Option Command → Type 0

@@ -4,6 +4,7 @@ use Rattle.clap.specs.Words.{Rule, App, Shape, app_of, new_rule, with_subcommand
 use Rattle.clap.specs.Simple.{new_shape}
 use Rattle.clap.specs.declared.builder.command.Command.TheViews.{out-Command as fields_of}
 use Rattle.clap.specs.declared.builder.command.Command.{Command}
+use Rattle.clap.specs.declared.builder.action.ArgAction.TheVariants.{Append}
 
 -- a word that has to be there
 abbrev pub required_rule : List ℕ → Rule
@@ -12,6 +13,10 @@ required_rule name = record (new_rule name) { required = true }
 -- an option of a long name, with one value
 abbrev pub option_rule : List ℕ → Rule
 option_rule name = record (new_rule name) { long = Some name; value_names = 1 }
+
+-- a word that has to be there, and may come several times
+abbrev pub several_rule : List ℕ → Rule
+several_rule name = record (new_rule name) { required = true; action = Some Append }
 
 -- a command by its name and the names of its words, in order
 abbrev pub command_shape : List ℕ → List (List ℕ) → Shape
@@ -38,6 +43,16 @@ layout_shape = command_shape (codes "layout") (codes "PLAN" ∷ codes "SCALE" �
 abbrev pub check_shape : Shape
 check_shape = record (new_shape (codes "check")) { rules = required_rule (codes "PLAN") ∷ new_rule (codes "INPUT") ∷ option_rule (codes "scale") ∷ [] }
 
+-- the plan, the input, the columns and the sources of an import, and its four options
+abbrev pub import_files_shape : Shape
+import_files_shape = record (new_shape (codes "import")) { rules = required_rule (codes "PLAN") ∷ required_rule (codes "INPUT") ∷ required_rule (codes "COLUMNS") ∷ several_rule (codes "SOURCE") ∷ [] }
+
+abbrev pub import_names_shape : Shape
+import_names_shape = record import_files_shape { rules = import_files_shape.rules ++ option_rule (codes "names") ∷ option_rule (codes "bound") ∷ [] }
+
+abbrev pub import_shape : Shape
+import_shape = record import_names_shape { rules = import_names_shape.rules ++ option_rule (codes "late") ∷ option_rule (codes "rows") ∷ [] }
+
 abbrev pub show_shape : Shape
 show_shape = command_shape (codes "show") (codes "SAVEPOINT" ∷ [])
 
@@ -54,18 +69,21 @@ version_shape = command_shape (codes "version") []
 abbrev pub top : App
 top = record { top = record (new_shape (codes "streamjob")) { subcommand_required = true }; subs = [] }
 
--- the commands that run a job, and with them those that look at what a job is made of
+-- the commands that run a job, with them those on plans and inputs, and those that show what a job is made of
 abbrev pub jobs : App
 jobs = with_subcommand (with_subcommand (with_subcommand top run_shape) simulate_shape) leg_shape
 
-abbrev pub views : App
-views = with_subcommand (with_subcommand (with_subcommand (with_subcommand jobs layout_shape) check_shape) show_shape) group_shape
+abbrev pub texts : App
+texts = with_subcommand (with_subcommand (with_subcommand jobs import_shape) layout_shape) check_shape
 
--- and that is one of nine
+abbrev pub views : App
+views = with_subcommand (with_subcommand texts show_shape) group_shape
+
+-- and that is one of ten
 abbrev pub program : App
 program = record {
   top = record top.top { is_leaf = false };
-  subs = run_shape ∷ simulate_shape ∷ leg_shape ∷ layout_shape ∷ check_shape ∷ show_shape ∷ group_shape ∷ explain_shape ∷ version_shape ∷ [];
+  subs = run_shape ∷ simulate_shape ∷ leg_shape ∷ import_shape ∷ layout_shape ∷ check_shape ∷ show_shape ∷ group_shape ∷ explain_shape ∷ version_shape ∷ [];
 }
 
 -- a command of such a shape, without commands below it

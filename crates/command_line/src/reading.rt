@@ -2,10 +2,11 @@
 
 ghost use Rattle.std.specs.Prelude.{◌≡◌};
 ghost use Rattle.clap.specs.Words.{found_of, subcommand_name_of};
-ghost use Rattle.command_line.specs.Reading.{word, IsFound, IsRead};
+ghost use Rattle.command_line.specs.Reading.{word, HasImportWords, IsFound, IsRead};
 
 use clap::ArgMatches;
 use commands::Command;
+use import_command::ImportWords;
 
 fn named<'a>(words: &ArgMatches<'a>, name: &str) -> &'a str
     ensures { result.now ≡ word (found_of words.now) name.now }
@@ -13,10 +14,31 @@ fn named<'a>(words: &ArgMatches<'a>, name: &str) -> &'a str
     words.get_str(name).unwrap_or("")
 }
 
+/// The words of an import behind its plan's.
+fn import_words<'m>(words: &'m ArgMatches<'_>) -> ImportWords<'m>
+    ensures { HasImportWords (found_of words.now) result }
+{
+    ImportWords {
+        input: named(words, "INPUT"),
+        columns: named(words, "COLUMNS"),
+        sources: words.get_strs("SOURCE").unwrap_or(&[]),
+        names: words.get_str("names"),
+        bound: words.get_str("bound"),
+        late: words.get_str("late"),
+        rows: words.get_str("rows"),
+    }
+}
+
 /// The command that a name and the words after it say, if the name is one of a command.
-fn command_in<'a>(name: &str, words: &ArgMatches<'a>) -> Option<Command<'a>>
+fn command_in<'m>(name: &str, words: &'m ArgMatches<'_>) -> Option<Command<'m>>
     ensures { IsRead name.now (found_of words.now) result }
 {
+    if name == "import" {
+        return Some(Command::Import {
+            plan: named(words, "PLAN"),
+            words: import_words(words),
+        });
+    }
     match name {
         "run" => Some(Command::Run {
             plan: named(words, "PLAN"),
@@ -63,11 +85,9 @@ fn command_in<'a>(name: &str, words: &ArgMatches<'a>) -> Option<Command<'a>>
 }
 
 /// The command that clap has found, if it has found one.
-pub fn found_command<'a>(matches: &ArgMatches<'a>) -> Option<Command<'a>>
+pub fn found_command<'m>(matches: &'m ArgMatches<'_>) -> Option<Command<'m>>
     ensures { IsFound (subcommand_name_of matches.now) result }
 {
-    match matches.subcommand() {
-        Some((name, words)) => command_in(name, words),
-        None => None,
-    }
+    let (name, words) = matches.subcommand()?;
+    command_in(name, words)
 }

@@ -3,9 +3,9 @@
 ghost use Rattle.std.specs.Prelude.{◌≡◌, IfOk};
 ghost use Rattle.clap.specs.Words.{app_of, new_rule};
 ghost use Rattle.clap.specs.Simple.{new_shape};
-ghost use Rattle.command_line.specs.Words.{AddsRule, IsCommand, required_rule, option_rule, run_shape, simulate_shape, leg_files_shape, leg_shape, layout_shape, check_shape, show_shape, group_shape, explain_shape, version_shape, top, jobs, views, program};
+ghost use Rattle.command_line.specs.Words.{AddsRule, IsCommand, required_rule, option_rule, several_rule, run_shape, simulate_shape, leg_files_shape, leg_shape, layout_shape, check_shape, import_files_shape, import_names_shape, import_shape, show_shape, group_shape, explain_shape, version_shape, top, jobs, texts, views, program};
 
-use clap::{Arg, Command};
+use clap::{Arg, ArgAction, Command};
 use std::alloc::{AllocError, Global};
 
 /// A command without words.
@@ -37,6 +37,19 @@ fn optional<'a>(
     ensures { IfOk result (λ c. AddsRule (new_rule name.now) command.entry c) }
 {
     command.arg(Arg::new(alloc, name).help(help))
+}
+
+/// With one word more, that has to be there and may come several times.
+fn several<'a>(
+    alloc: Global,
+    command: Command<'a>,
+    name: &'a str,
+    help: &'a str,
+) -> Result<Command<'a>, AllocError>
+    ensures { IfOk result (λ c. AddsRule (several_rule name.now) command.entry c) }
+{
+    let arg = Arg::new(alloc, name).required(true).help(help);
+    command.arg(arg.action(ArgAction::Append))
 }
 
 /// With one option more, which has a value.
@@ -209,6 +222,79 @@ fn check_words<'a>(alloc: Global) -> Result<Command<'a>, AllocError>
     option(alloc, command, "scale", "SCALE", SCALE)
 }
 
+const IMPORT: &str = "\
+Each FILE is CSV with a header, and becomes a partition of its source; INPUT is written once all of them
+are read. COLUMNS has a field of the header for each number of a record, in the plan's order, with
+commas between: `bytes` is a whole number; `power:3` a decimal times 1000; `at:ms` a time in ISO 8601
+with its zone, in milliseconds since 1970; `customer:name` the number of a name in the file of --names;
+`status:ge:500` is 1 where the number is at least 500, else 0.
+
+Example: streamjob import plan.json input.json time:ms,customer:name,bytes --names names.csv api=0.csv,1.csv
+Page: docs/FORMATS.md, under Import";
+
+/// The words of an import that have to be there.
+fn import_files<'a>(alloc: Global) -> Result<Command<'a>, AllocError>
+    ensures { IfOk result (λ c. IsCommand import_files_shape c) }
+{
+    let about = "Write an input of a plan from CSV files";
+    let command = named(alloc, "import", about, IMPORT);
+    let command = required(alloc, command, "PLAN", PLAN)?;
+    let command = required(alloc, command, "INPUT", "File to write the input to")?;
+    let command = required(
+        alloc,
+        command,
+        "COLUMNS",
+        "Fields of the CSV files that make a record, with commas between",
+    )?;
+    several(
+        alloc,
+        command,
+        "SOURCE",
+        "SOURCE=FILE[,FILE..]: a source of the plan, and its CSV files, one for each partition",
+    )
+}
+
+/// The same with two of its options.
+fn import_names<'a>(alloc: Global) -> Result<Command<'a>, AllocError>
+    ensures { IfOk result (λ c. IsCommand import_names_shape c) }
+{
+    let command = import_files(alloc)?;
+    let command = option(
+        alloc,
+        command,
+        "names",
+        "FILE",
+        "File of the table of names, read where it is there, and written",
+    )?;
+    option(
+        alloc,
+        command,
+        "bound",
+        "N",
+        "How far behind the greatest time a record may come; without it there are no watermarks",
+    )
+}
+
+fn import_words<'a>(alloc: Global) -> Result<Command<'a>, AllocError>
+    ensures { IfOk result (λ c. IsCommand import_shape c) }
+{
+    let command = import_names(alloc)?;
+    let command = option(
+        alloc,
+        command,
+        "late",
+        "FILE",
+        "File to write late records to; without it the first is refused",
+    )?;
+    option(
+        alloc,
+        command,
+        "rows",
+        "N",
+        "Most rows of an entry, 1 to 4096; a watermark comes after each entry",
+    )
+}
+
 const SHOW: &str = "\
 Lines come in this order: `number N`; `max M`, the number of key groups; `source UID P OFFSET
 WATERMARK` for each partition P; `window UID`; `entry GROUP START KEY COUNT NUMBER ..` for each
@@ -297,13 +383,21 @@ fn with_jobs<'a>(alloc: Global) -> Result<Command<'a>, AllocError>
         .subcommand(leg_words(alloc)?)
 }
 
-/// The same with the commands that look at what a job is made of.
+/// The same with the commands on plans and inputs.
+fn with_texts<'a>(alloc: Global) -> Result<Command<'a>, AllocError>
+    ensures { IfOk result (λ c. app_of c ≡ texts) }
+{
+    with_jobs(alloc)?
+        .subcommand(import_words(alloc)?)?
+        .subcommand(layout_words(alloc)?)?
+        .subcommand(check_words(alloc)?)
+}
+
+/// The same with those that show a savepoint and a key's group.
 fn with_views<'a>(alloc: Global) -> Result<Command<'a>, AllocError>
     ensures { IfOk result (λ c. app_of c ≡ views) }
 {
-    with_jobs(alloc)?
-        .subcommand(layout_words(alloc)?)?
-        .subcommand(check_words(alloc)?)?
+    with_texts(alloc)?
         .subcommand(show_words(alloc)?)?
         .subcommand(group_words(alloc)?)
 }

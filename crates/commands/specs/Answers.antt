@@ -18,6 +18,11 @@ abbrev pub read_fault : ErrorKind → JobFault
 read_fault OutOfMemory = Memory
 read_fault _ = Read
 
+-- the fault of a file that was not written
+abbrev pub write_fault : ErrorKind → JobFault
+write_fault OutOfMemory = Memory
+write_fault _ = Write
+
 -- a file was not read
 abbrev pub CannotRead : Result (Unit {0}) JobFault → Type 0
 CannotRead result = (result ≡ Err Read) ⊎ (result ≡ Err Memory)

@@ -6,8 +6,9 @@ use Rattle.user_texts.specs.declared.writing.TextFault.{TextFault}
 use Rattle.user_texts.specs.declared.writing.TextFault.TheVariants as text
 use Rattle.commands.specs.Answers.{AnswersRun, AnswersSimulate, AnswersLeg, AnswersLayout, AnswersShow, AnswersGroup, AnswersExplain}
 use Rattle.commands.specs.Checking.{AnswersCheck}
+use Rattle.commands.specs.Importing.{AnswersImport}
 use Rattle.commands.specs.declared.command.Command.{Command}
-use Rattle.commands.specs.declared.command.Command.TheVariants.{Run, Simulate, Leg, Layout, Check, Show, Group, Explain, Version}
+use Rattle.commands.specs.declared.command.Command.TheVariants.{Run, Simulate, Leg, Layout, Check, Import, Show, Group, Explain, Version}
 use Rattle.commands.specs.declared.fault.CommandFault.{CommandFault}
 use Rattle.commands.specs.declared.fault.CommandFault.TheVariants.{Job, NoPage}
 
@@ -36,6 +37,7 @@ Performs (Simulate plan input legs choices) result = Comes after_command Answers
 Performs (Leg plan input scale from stop save) result = Comes after_command (AnswersLeg (is_some from) (option_map (λ word. word.now) stop)) result
 Performs (Layout plan scale) result = Comes after_command AnswersLayout result
 Performs (Check plan input scale) result = Comes after_command (AnswersCheck (is_some input) (is_some scale)) result
+Performs (Import plan words) result = AnswersImport result
 Performs (Show savepoint) result = Comes after_command AnswersShow result
 Performs (Group key max par) result = Comes after_command (AnswersGroup key.now max.now par.now) result
 Performs (Explain code) result = Comes after_text (AnswersExplain code.now) result

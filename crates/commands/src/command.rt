@@ -1,5 +1,7 @@
 //! The commands, with their words.
 
+use import_command::ImportWords;
+
 /// What the program is to do.
 #[derive(Drop)]
 pub enum Command<'a> {
@@ -35,6 +37,11 @@ pub enum Command<'a> {
         plan: &'a str,
         input: Option<&'a str>,
         scale: Option<&'a str>,
+    },
+    /// Write an input of a plan from CSV files.
+    Import {
+        plan: &'a str,
+        words: ImportWords<'a>,
     },
     /// Print what a savepoint holds.
     Show {

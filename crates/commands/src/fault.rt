@@ -1,10 +1,12 @@
 //! Why a command is not done.
 
 ghost use Rattle.std.specs.Prelude.{◌≡◌};
+ghost use Rattle.imports.specs.Status.{status as import_status};
 ghost use Rattle.job_texts.specs.FaultText as fault_text;
 ghost use Rattle.commands.specs.Outcome.{after_command, after_text};
 ghost use Rattle.commands.specs.Status as statuses;
 
+use imports::ImportFault;
 use job::{FaultLine, JobFault, status_of};
 use user_texts::TextFault;
 
@@ -13,6 +15,8 @@ use user_texts::TextFault;
 pub enum CommandFault {
     /// The job has no answer.
     Job(JobFault),
+    /// An input is not written.
+    Import(ImportFault),
     /// No refusal has the code that was to be explained.
     NoPage,
 }
@@ -46,6 +50,14 @@ fn failed<R: Eprint>(rt: &R, fault: &JobFault) -> u8
     status_of(fault)
 }
 
+/// Says why an input is not written, which needs no memory.
+fn not_imported<R: Eprint>(rt: &R, fault: &ImportFault) -> u8
+    ensures { result ≡ import_status fault.now }
+{
+    let _ = rt.eprintln(fault);
+    imports::status_of(fault)
+}
+
 /// Says that a code is none.
 fn no_page<R: Eprint>(rt: &R) -> u8
     ensures { result ≡ 2 }
@@ -60,6 +72,7 @@ pub fn told<R: Eprint>(rt: &R, fault: &CommandFault) -> u8
 {
     match fault {
         CommandFault::Job(fault) => failed(rt, fault),
+        CommandFault::Import(fault) => not_imported(rt, fault),
         CommandFault::NoPage => no_page(rt),
     }
 }

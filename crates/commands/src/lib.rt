@@ -6,6 +6,7 @@ mod checking;
 mod command;
 mod fault;
 mod files;
+mod importing;
 mod performing;
 mod saving;
 

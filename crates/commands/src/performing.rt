@@ -6,6 +6,7 @@ use crate::actions::{explain, group, layout, leg, run, show, simulate, version};
 use crate::checking::check;
 use crate::command::Command;
 use crate::fault::{CommandFault, after_job, after_page};
+use crate::importing::import;
 use std::random::RandomSource;
 use std::rt::Files;
 
@@ -38,6 +39,7 @@ pub fn performed<R: Files + Print + RandomSource + AllocGlobal>(
         } => after_job(leg(rt, plan, input, scale, *from, *stop, *save)),
         Command::Layout { plan, scale } => after_job(layout(rt, plan, scale)),
         Command::Check { plan, input, scale } => after_job(check(rt, plan, *input, *scale)),
+        Command::Import { plan, words } => import(rt, plan, words),
         Command::Show { savepoint } => after_job(show(rt, savepoint)),
         Command::Group { key, max, par } => after_job(group(rt, key, max, par)),
         Command::Explain { code } => after_page(explain(rt, code)),

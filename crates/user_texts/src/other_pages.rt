@@ -1,8 +1,8 @@
-//! The pages of all faults but those of a plan and of an input. `scripts/fault_pages` makes this file of docs/FAULTS.md.
+//! The pages of all faults but those of a plan, of an input and of an import. `scripts/fault_pages` makes this file of docs/FAULTS.md.
 
 use crate::page::FaultPage;
 
-/// The pages of all faults but those of a plan and of an input, in the order of docs/FAULTS.md.
+/// The pages of all faults but those of a plan, of an input and of an import, in the order of docs/FAULTS.md.
 pub const OTHER_PAGES: [FaultPage<'static>; 33] = [
     (
         "C1",
@@ -24,11 +24,14 @@ Write it as `2,2/5`, for two partitions of the first source and one of the secon
         r#"C2 Number (status 2)
 
 A word of `group` is no number in its range: KEY is a hyphen or none and 1 to 19 digits, of 64 bits; MAX has 1 to 5 digits, from 1 to 32768;
-PAR has 1 to 5 digits, from 1 to 64 and at most MAX. A `+`, a space, a point or an empty word is none.
+PAR has 1 to 5 digits, from 1 to 64 and at most MAX. A `+`, a space, a point or an empty word is none. `import` says it of `--bound`, digits alone,
+below 2^64, and of `--rows`, from 1 to 4096, with the word.
 
 ```console
 $ streamjob group 7 128 65
 C2 Number
+$ streamjob import plan.json new.json at,key calls=calls.csv --rows 5000
+C2 Number --rows: "5000" is no whole number from 1 to 4096
 ```
 
 Take a number in the range.
@@ -39,11 +42,14 @@ Take a number in the range.
         r#"F1 Read (status 3)
 
 A file is missing, is a folder, or may not be read; `-` is a file of that name and not standard input. All files are read first, so this
-comes before any fault of a plan. `run`, `leg` and `simulate` also say it where the system gives no random bytes.
+comes before any fault of a plan. `run`, `leg` and `simulate` also say it where the system gives no random bytes. `import` reads one file after
+the other, and names the one that is missing.
 
 ```console
 $ streamjob run plan.json no-such-file.json
 F1 Read
+$ streamjob import plan.json new.json at,key calls=no-such-file.csv
+F1 Read no-such-file.csv
 ```
 
 `ls -l` each file that the command names. For standard input write `/dev/stdin`.
@@ -55,9 +61,11 @@ F1 Read
 
 Standard output took no more: the disk is full, or the other end of a pipe is closed. How much of the answer was taken is not known.
 `leg --save` also says it where the file cannot be written: a folder stands there, its folder is missing or takes no files of yours, or the disk
-is full. Then no row was printed, and the file is as it was.
+is full. Then no row was printed, and the file is as it was. So does `import`, of INPUT and of the files of `--names` and `--late`.
 
 ```console
+$ streamjob import plan.json no-such-folder/new.json at,key calls=calls.csv
+F2 Write no-such-folder/new.json
 $ streamjob group 7 128 4 > /dev/full
 F2 Write
 $ streamjob leg plan.json input.json scale.json --stop 1 --save no-such-folder/savepoint

@@ -38,7 +38,7 @@ fn text_with<'a>(pages: &'a [FaultPage<'a>], code: &str) -> Option<&'a str>
     }
 }
 
-/// The text of the page of a plan's or an input's fault.
+/// The text of the page of a fault of a plan, an input or an import.
 fn text_page_of(code: &str) -> Option<&'static str>
     ensures { option_map (λ text. text.now) result ≡ page_said (map (λ page. (page.0.now, page.1.now)) TEXT_PAGES) code.now }
 {
@@ -52,7 +52,7 @@ fn other_page_of(code: &str) -> Option<&'static str>
     text_with(&OTHER_PAGES, code)
 }
 
-/// The text of the page with a code: that of a plan's or an input's fault, or another.
+/// The text of the page with a code: that of a fault of a plan, an input or an import, or another.
 fn page_of(code: &str) -> Option<&'static str>
     ensures { option_map (λ text. text.now) result ≡ explained code.now }
 {

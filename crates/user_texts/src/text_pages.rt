@@ -1,9 +1,45 @@
-//! The pages of the faults of a plan and of an input. `scripts/fault_pages` makes this file of docs/FAULTS.md.
+//! The pages of the faults of a plan, of an input and of an import. `scripts/fault_pages` makes this file of docs/FAULTS.md.
 
 use crate::page::FaultPage;
 
-/// The pages of the faults of a plan and of an input, in the order of docs/FAULTS.md.
-pub const TEXT_PAGES: [FaultPage<'static>; 25] = [
+/// The pages of the faults of a plan, of an input and of an import, in the order of docs/FAULTS.md.
+pub const TEXT_PAGES: [FaultPage<'static>; 33] = [
+    (
+        "D1",
+        r#"D1 Columns (status 2)
+
+The word COLUMNS of `import` says no columns, has another number of them than the plan, or has a column of names without `--names`.
+
+```console
+$ streamjob import plan.json new.json at:sec,key calls=calls.csv
+D1 Columns "at:sec": a field's name stands alone, or with a number of decimal places, ms, name, or a comparison as ge:500 behind a colon
+$ streamjob import plan.json new.json at,key,bytes calls=calls.csv
+D1 Columns there are 3, and the plan has 2
+$ streamjob import plan.json new.json at,user:name calls=calls.csv
+D1 Columns "user": a column of names needs a table of them, by --names
+```
+
+Give a column for each number of a record, in the order of the plan's, as [Import](FORMATS.md#import) has them.
+"#,
+    ),
+    (
+        "D2",
+        r#"D2 Sources (status 2)
+
+The words SOURCE=FILE of `import` are not one for each source of the plan, with a file for each of its partitions.
+
+```console
+$ streamjob import plan.json new.json at,key clicks=calls.csv
+D2 Sources "clicks": the plan has no such source
+$ streamjob import plan.json new.json at,key calls=a.csv,b.csv
+D2 Sources "calls": files are named for 2 partitions, and the plan has 1
+$ streamjob import plan.json new.json at,key calls.csv
+D2 Sources "calls.csv": a source and its files are SOURCE=FILE[,FILE..]
+```
+
+Name each source once, and its files with commas between; or change `partitions` in the plan. A file's name can have no comma.
+"#,
+    ),
     (
         "P1",
         r#"P1 NotJson (status 3)
@@ -367,6 +403,127 @@ or take the record out.
 The input has over 2^40 records, all sources together. Such a text has more than 4 terabytes, so most machines say `memory` first.
 
 Split the input by keys, as under `memory`.
+"#,
+    ),
+    (
+        "D3",
+        r#"D3 Header (status 3)
+
+The header, the first line of a CSV file, lacks the field of a column, or has it twice.
+
+```csv calls.csv
+at,user
+5,1
+```
+
+```console
+$ streamjob import plan.json new.json at,key calls=calls.csv
+D3 Header calls.csv:1: the header has no field "key"
+```
+
+Spell the column as the header does, in the same case and with the same spaces. Fields are divided by commas; a file with semicolons or tabs has one field.
+"#,
+    ),
+    (
+        "D4",
+        r#"D4 Width (status 3)
+
+A line has another number of fields than the header: a comma in a text without quotes, or a line that was cut off.
+
+```csv calls.csv
+at,key
+5,1
+6
+```
+
+```console
+$ streamjob import plan.json new.json at,key calls=calls.csv
+D4 Width calls.csv:3: there are 1 fields, and the header has 2
+```
+
+Put a text with a comma between double quotes, and double a quote within.
+"#,
+    ),
+    (
+        "D5",
+        r#"D5 Value (status 3)
+
+The text of a field is not what its column says: it is no number, has more decimal places than the column keeps, does not fit 64 bits, is no time
+in ISO 8601 with its zone, is finer than milliseconds or in no calendar, or is a name that is no UTF-8. Nothing is rounded, and an empty field is no number.
+
+```csv calls.csv
+at,key
+5,1
+6,2.389
+```
+
+```console
+$ streamjob import plan.json new.json at,key calls=calls.csv
+D5 Value calls.csv:3: key: "2.389" has more than 0 decimal places
+$ streamjob import plan.json new.json at:ms,key calls=calls.csv
+D5 Value calls.csv:2: at: "5" is no time with a zone, as 2026-03-01T12:00:00.5Z
+```
+
+Ask for more places (`key:3`), or mend the field. [Import](FORMATS.md#import) has the form of each kind.
+"#,
+    ),
+    (
+        "D6",
+        r#"D6 TimeRange (status 3)
+
+A record's time is not from -2^62 to 2^62 - 1.
+
+```csv calls.csv
+at,key
+4611686018427387904,1
+```
+
+```console
+$ streamjob import plan.json new.json at,key calls=calls.csv
+D6 TimeRange calls.csv:2: at: a time is from -2^62 to 2^62 - 1
+```
+
+Count times in a greater unit, or from another moment on.
+"#,
+    ),
+    (
+        "D7",
+        r#"D7 LateRow (status 3)
+
+With `--bound` a record is late: its time is not above the watermark before its entry.
+
+```csv calls.csv
+at,key
+10,1
+9,1
+6,1
+```
+
+```console
+$ streamjob import plan.json new.json at,key calls=calls.csv --bound 2 --rows 1
+D7 LateRow calls.csv:4: at: the time is not above the watermark 7
+```
+
+Take a greater bound, leave it out, or have late records written to a file of their own by `--late FILE`.
+"#,
+    ),
+    (
+        "D8",
+        r#"D8 Names (status 3)
+
+The file of `--names` is no table of names: CSV without a header, each line a number and a name, with the numbers from 1 on and each name once.
+
+```csv names.csv
+1,anna
+3,ben
+```
+
+```console
+$ streamjob import plan.json new.json at,user:name calls=calls.csv --names names.csv
+D8 Names names.csv:2: a record is NUMBER,NAME, with the numbers from 1 on and each name once, in UTF-8
+```
+
+Name a file that `import` wrote, or one that is not there yet. A table whose lines changed gives other numbers than before.
 "#,
     ),
 ];

@@ -3,6 +3,7 @@ complete -c streamjob -f
 complete -c streamjob -n __fish_use_subcommand -a run -d 'Run a plan on an input and print its rows'
 complete -c streamjob -n __fish_use_subcommand -a simulate -d 'Run a job in legs by an order of steps that you choose, and print its rows'
 complete -c streamjob -n __fish_use_subcommand -a leg -d 'Run one leg of a job at a scale and print its rows'
+complete -c streamjob -n __fish_use_subcommand -a import -d 'Write an input of a plan from CSV files'
 complete -c streamjob -n __fish_use_subcommand -a layout -d 'Print the stages, edges, partitions and key groups of a plan at a scale'
 complete -c streamjob -n __fish_use_subcommand -a check -d 'Print the places at which a plan, an input or a scale is refused'
 complete -c streamjob -n __fish_use_subcommand -a show -d 'Print what a savepoint holds'
@@ -10,7 +11,7 @@ complete -c streamjob -n __fish_use_subcommand -a group -d 'Print the key group 
 complete -c streamjob -n __fish_use_subcommand -a explain -d 'Print what a refusal means, a text that gives it, and what to do'
 complete -c streamjob -n __fish_use_subcommand -a version -d 'Print the version of the program and of its toolchain'
 complete -c streamjob -n __fish_use_subcommand -a help -d 'Print the help of a command'
-complete -c streamjob -n '__fish_seen_subcommand_from help' -a 'run simulate leg layout check show group explain version'
+complete -c streamjob -n '__fish_seen_subcommand_from help' -a 'run simulate leg import layout check show group explain version'
 complete -c streamjob -s h -l help -d 'Print help'
 complete -c streamjob -n '__fish_seen_subcommand_from run' -F
 complete -c streamjob -n '__fish_seen_subcommand_from simulate' -F
@@ -18,9 +19,14 @@ complete -c streamjob -n '__fish_seen_subcommand_from leg' -F
 complete -c streamjob -n '__fish_seen_subcommand_from leg' -l from -r -d 'File of the savepoint to go on from' -F
 complete -c streamjob -n '__fish_seen_subcommand_from leg' -l stop -r -d 'Cut to stop at; without it the leg goes to the end of the input' -f
 complete -c streamjob -n '__fish_seen_subcommand_from leg' -l save -r -d 'File to write the savepoint to, if the leg stops' -F
+complete -c streamjob -n '__fish_seen_subcommand_from import' -F
+complete -c streamjob -n '__fish_seen_subcommand_from import' -l names -r -d 'File of the table of names, read where it is there, and written' -F
+complete -c streamjob -n '__fish_seen_subcommand_from import' -l bound -r -d 'How far behind the greatest time a record may come; without it there are no watermarks' -f
+complete -c streamjob -n '__fish_seen_subcommand_from import' -l late -r -d 'File to write late records to; without it the first is refused' -F
+complete -c streamjob -n '__fish_seen_subcommand_from import' -l rows -r -d 'Most rows of an entry, 1 to 4096; a watermark comes after each entry' -f
 complete -c streamjob -n '__fish_seen_subcommand_from layout' -F
 complete -c streamjob -n '__fish_seen_subcommand_from check' -F
 complete -c streamjob -n '__fish_seen_subcommand_from check' -l scale -r -d 'JSON file of the scale: a ring'\''s capacity and each operator'\''s parallelism' -F
 complete -c streamjob -n '__fish_seen_subcommand_from show' -F
 complete -c streamjob -n '__fish_seen_subcommand_from group' -f
-complete -c streamjob -n '__fish_seen_subcommand_from explain' -f -a 'C1 C2 F1 F2 P1 P2 P3 P4 P5 P6 P7 P8 P9 P10 P11 P12 P13 P14 P15 I1 I2 I3 I4 I5 I6 I7 I8 I9 I10 S1 S2 S3 S4 S5 S6 S7 V1 V2 V3 V4 V5 Q1 Q2 Q3 Q4 Q5 Q6 Q7 Q8 Q9 Q11 Q12 L1 L3 L4 L5 L6 memory'
+complete -c streamjob -n '__fish_seen_subcommand_from explain' -f -a 'C1 C2 D1 D2 F1 F2 P1 P2 P3 P4 P5 P6 P7 P8 P9 P10 P11 P12 P13 P14 P15 I1 I2 I3 I4 I5 I6 I7 I8 I9 I10 D3 D4 D5 D6 D7 D8 S1 S2 S3 S4 S5 S6 S7 V1 V2 V3 V4 V5 Q1 Q2 Q3 Q4 Q5 Q6 Q7 Q8 Q9 Q11 Q12 L1 L3 L4 L5 L6 memory'

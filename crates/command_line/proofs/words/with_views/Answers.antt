@@ -1,10 +1,8 @@
-use Rattle.command_line.specs.Words.{layout_shape, check_shape, show_shape, group_shape}
+use Rattle.command_line.specs.Words.{show_shape, group_shape}
 use Rattle.command_line.proofs.Subcommands.{added, added_last}
 use Rattle.command_line.proofs.words.with_views.Goals as goal
 
 pub returns : goal.returns
 returns c =
-    let first = added _ _ _ _ layout_shape c.in_ok-subcommand.ensures c.in_ok-with_jobs.ensures c.in_ok-layout_words.ensures in
-    let second = added _ _ _ _ check_shape c.in_ok-subcommand-2.ensures first c.in_ok-check_words.ensures in
-    let third = added _ _ _ _ show_shape c.in_ok-subcommand-3.ensures second c.in_ok-show_words.ensures in
-    added_last _ _ _ _ group_shape c.subcommand-4.ensures third c.in_ok-group_words.ensures
+    let first = added _ _ _ _ show_shape c.in_ok-subcommand.ensures c.in_ok-with_texts.ensures c.in_ok-show_words.ensures in
+    added_last _ _ _ _ group_shape c.subcommand-2.ensures first c.in_ok-group_words.ensures
