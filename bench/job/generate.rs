@@ -11,6 +11,8 @@ struct Shape {
     /// How many rows an entry has; a watermark follows each.
     rows: u64,
     keys: u64,
+    /// 3 or more: a time, a key, the number that is aggregated, and others that are only read.
+    columns: u64,
     /// How far, in milliseconds, a record's time may be behind the latest time before it.
     disorder: u64,
     size: u64,
@@ -25,6 +27,7 @@ impl Shape {
             partitions: 4,
             rows: 1000,
             keys: 1000,
+            columns: 3,
             disorder: 500,
             size: 10_000,
             slide: 10_000,
@@ -37,6 +40,7 @@ impl Shape {
                 "partitions" => &mut shape.partitions,
                 "rows" => &mut shape.rows,
                 "keys" => &mut shape.keys,
+                "columns" => &mut shape.columns,
                 "disorder" => &mut shape.disorder,
                 "size" => &mut shape.size,
                 "slide" => &mut shape.slide,
@@ -51,12 +55,12 @@ impl Shape {
     fn write_plan(&self, out: &mut impl Write) -> io::Result<()> {
         writeln!(
             out,
-            r#"{{"columns":3,"maxParallelism":128,"time":0,"key":1,
+            r#"{{"columns":{},"maxParallelism":128,"time":0,"key":1,
  "sources":[{{"uid":"records","partitions":{}}}],
  "window":{{"uid":"totals","size":{},"slide":{},
   "aggregates":[{{"fn":"count"}},{{"fn":"sum","column":2}},
    {{"fn":"least","column":2}},{{"fn":"greatest","column":2}}]}}}}"#,
-            self.partitions, self.size, self.slide
+            self.columns, self.partitions, self.size, self.slide
         )
     }
 
@@ -82,9 +86,12 @@ impl Shape {
             for row in first..end {
                 let time = row + self.disorder - random.below(self.disorder + 1);
                 let key = random.below(self.keys);
-                let value = random.below(20_000) as i64 - 5000;
                 let comma = if row == first { "" } else { "," };
-                write!(out, "{comma}[{time},{key},{value}]")?;
+                write!(out, "{comma}[{time},{key}")?;
+                for _ in 2..self.columns {
+                    write!(out, ",{}", random.below(20_000) as i64 - 5000)?;
+                }
+                write!(out, "]")?;
             }
             write!(out, "]}},\n{{\"watermark\":{}}}", end as i64 - 1)?;
         }

@@ -123,6 +123,9 @@ impl<'a> Scanner<'a> {
         let key = self.number()?;
         self.expect(b',')?;
         let value = self.number()?;
+        while self.accept(b',') {
+            self.number()?;
+        }
         self.expect(b']')?;
         if time <= watermark {
             return Err(format!("byte {}: a late row", self.place));

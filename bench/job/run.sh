@@ -1,7 +1,8 @@
 #!/bin/sh
-# Runs the same job with streamjob, with a plain Rust program and with what of SQLite, pandas and Miller
-# the machine has, compares their answers byte for byte, and prints what each took. Above 1,000,000 records
-# only the first two run.
+# Runs the same job with streamjob, with a plain Rust program, with one that is tuned by hand, with one that
+# reads by simdjson where the machine has it (libsimdjson-dev), and with what of SQLite, pandas and Miller
+# it has. Compares their answers byte for byte, and prints what each took. Above 1,000,000 records, and with
+# TOOLS=no, the last three do not run.
 #
 # Words are numbers of records (1000000 where there are none), and name=number for the generator, as
 # keys=10. RUNS is how often each program runs (3), and STREAMJOB another program to run.
@@ -15,9 +16,15 @@ fi
 
 folder=$(mktemp -d)
 trap 'rm -r "$folder"' EXIT
-for name in generate plain; do
+for name in generate plain tuned; do
   rustc --edition 2024 -O "$here/$name.rs" -o "$folder/$name"
 done
+simd=
+if g++ -std=c++17 -O3 "$here/simd.cpp" -lsimdjson -o "$folder/simd" 2>"$folder/log"; then
+  simd=$folder/simd
+else
+  echo "absent: simdjson"
+fi
 
 sizes=
 shape=
@@ -56,7 +63,7 @@ fi
 for records in ${sizes:-1000000}; do
   "$folder/generate" "$folder/plan.json" "$folder/input.json" "records=$records" $shape
   set --
-  if [ "$records" -le 1000000 ]; then
+  if [ "$records" -le 1000000 ] && [ "$TOOLS" != no ]; then
     set -- ${sqlite:+sqlite "$sqlite"} ${pandas:+pandas "$pandas"} ${miller:+miller "$miller"}
   fi
   echo
@@ -64,5 +71,7 @@ for records in ${sizes:-1000000}; do
   python3 "$here/compare.py" "${RUNS:-3}" \
     plain "$folder/plain $words" \
     streamjob "$program run $folder/plan.json $folder/input.json" \
+    ${simd:+simdjson "$simd $words"} \
+    tuned "$folder/tuned $words" \
     "$@"
 done

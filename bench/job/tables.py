@@ -23,7 +23,7 @@ def main():
     with open(path) as file:
         partitions = json.load(file)["records"]
     rows = [numpy.array(entry["rows"]) for entries in partitions for entry in entries if "rows" in entry]
-    records = pandas.DataFrame(numpy.concatenate(rows), columns=["time", "key", "number"])
+    records = pandas.DataFrame(numpy.concatenate(rows)[:, :3], columns=["time", "key", "number"])
     groups = placed(records, size, slide).groupby(["start", "key"])["number"]
     totals = groups.agg(["count", "sum", "min", "max"]).reset_index()
     totals.insert(1, "end", totals["start"] + size)
