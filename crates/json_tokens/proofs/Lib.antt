@@ -2,6 +2,7 @@ pub mod Facts
 mod Converted
 mod Lexemes
 mod Names
+mod Passes
 mod ItemTurns
 mod MemberTurns
 mod NumberTexts

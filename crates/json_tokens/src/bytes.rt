@@ -15,7 +15,7 @@ const MOST_DIGITS: usize = 19;
 fn is_space(byte: u8) -> bool
     ensures { result ≡ is_space byte }
 {
-    (byte == b' ') | (byte == b'\t') | (byte == b'\n') | (byte == b'\r')
+    byte <= b' ' && (byte == b' ' || byte == b'\t' || byte == b'\n' || byte == b'\r')
 }
 
 /// The first byte, or a space at the end of the text.

@@ -1,65 +1,98 @@
-//! Rows of whole numbers, one after another in one vector, from the bytes of a text.
-ghost use Rattle.std.specs.Prelude.{◌≡◌, ◌<◌, ◌++◌, ℤ, List, Some, OnOk, length};
+//! Rows of whole numbers, one after another in one vector, by one pass over the bytes of a text.
+ghost use Rattle.std.specs.Prelude.{◌≡◌, ◌<◌, ◌++◌, ℤ, true, false, List, Some, IfOk, OnOk, length};
+ghost use Rattle.json.specs.Token.{Token as SpecToken};
+ghost use Rattle.json.specs.Lex.{between, lex};
 ghost use Rattle.json_parts.specs.Parts.{whole, list_text};
 ghost use Rattle.json_tokens.specs.Ahead.{part, parts};
+ghost use Rattle.json_tokens.specs.Lexemes.{tokens_from, Begins};
 ghost use Rattle.json_tokens.specs.Rows.{row_text, joined};
 
+use crate::bytes::{behind, behind_spaces};
 use crate::miss::Miss;
+use crate::numbers::whole_at;
 use crate::scanner::Scanner;
 
-/// The numbers up to the closing bracket, put behind what `cells` holds.
+/// Reads one number or more up to the closing bracket, puts them behind what `cells` holds, and
+/// gives what follows the bracket.
 #[inline(always)]
-fn cells_onto(reader: &mut Scanner<'_>, cells: &mut Vec<i64>, depth: usize) -> Result<(), Miss>
-    ensures said { OnOk result ((row : List ℤ) × (parts whole depth reader.old ≡ Some (row, reader.new))
+fn cells_at<'a>(text: &'a [u8], cells: &mut Vec<i64>, depth: usize) -> Result<&'a [u8], Miss>
+    ensures said { IfOk result (λ rest. (row : List ℤ) × (parts whole depth (tokens_from false text.now) ≡ Some (row, tokens_from true rest.now))
         × (cells.new.items ≡ cells.old.items ++ row)) }
-    ensures shorter { OnOk result (length reader.new < length reader.old) }
+    ensures shorter { IfOk result (λ rest. length (tokens_from true rest.now) < length (tokens_from false text.now)) }
+    ensures fewer { IfOk result (λ rest. length (lex between rest.now) < length (lex between text.now)) }
 {
-    'cells: while !reader.take_end_array() {
-        let cell = reader.next_whole()?;
+    let mut item = behind_spaces(text);
+    'cells: loop {
+        let Some((cell, rest)) = whole_at(item) else {
+            return Err(Miss::Other);
+        };
         cells.push(cell)?;
+        let spaced = behind_spaces(rest);
+        let Some(next) = behind(spaced, b',') else {
+            let Some(over) = behind(spaced, b']') else {
+                return Err(Miss::Other);
+            };
+            return Ok(over);
+        };
+        item = behind_spaces(next);
     }
-    Ok(())
 }
 
+/// Reads a row of `width` numbers, puts them behind what `cells` holds, and gives what follows it.
 #[inline(always)]
-fn row_onto(
-    reader: &mut Scanner<'_>,
+fn row_at<'a>(
+    text: &'a [u8],
     cells: &mut Vec<i64>,
     width: usize,
     depth: usize,
-) -> Result<(), Miss>
-    ensures said { OnOk result ((row : List ℤ) × (part (row_text width) depth reader.old ≡ Some (row, reader.new))
+) -> Result<&'a [u8], Miss>
+    ensures said { IfOk result (λ rest. (row : List ℤ) × ((ts : List SpecToken) → Begins ts text.now → part (row_text width) depth ts ≡ Some (row, tokens_from true rest.now))
         × (cells.new.items ≡ cells.old.items ++ row)) }
-    ensures shorter { OnOk result (length reader.new < length reader.old) }
+    ensures shorter { IfOk result (λ rest. (ts : List SpecToken) → Begins ts text.now → length (tokens_from true rest.now) < length ts) }
+    ensures fewer { IfOk result (λ rest. length (lex between rest.now) < length (lex between text.now)) }
 {
     if depth == 0 {
         return Err(Miss::Other);
     }
-    reader.open_list()?;
+    let Some(inner) = behind(text, b'[') else {
+        return Err(Miss::Other);
+    };
     let before = cells.len();
-    cells_onto(reader, cells, depth - 1)?;
+    let rest = cells_at(inner, cells, depth - 1)?;
     let after = cells.len();
     if after < before || after - before != width {
         return Err(Miss::Other);
     }
-    Ok(())
+    Ok(rest)
 }
 
+/// Reads rows up to the closing bracket, and gives what follows it.
 #[inline(always)]
-fn rows_onto(
-    reader: &mut Scanner<'_>,
+fn rows_at<'a>(
+    text: &'a [u8],
     cells: &mut Vec<i64>,
     width: usize,
     depth: usize,
-) -> Result<(), Miss>
-    ensures said { OnOk result ((rows : List (List ℤ)) × (parts (row_text width) depth reader.old ≡ Some (rows, reader.new))
+) -> Result<&'a [u8], Miss>
+    ensures said { IfOk result (λ rest. (rows : List (List ℤ)) × (parts (row_text width) depth (tokens_from false text.now) ≡ Some (rows, tokens_from true rest.now))
         × (cells.new.items ≡ cells.old.items ++ joined rows)) }
-    ensures shorter { OnOk result (length reader.new < length reader.old) }
+    ensures shorter { IfOk result (λ rest. length (tokens_from true rest.now) < length (tokens_from false text.now)) }
 {
-    'rows: while !reader.take_end_array() {
-        row_onto(reader, cells, width, depth)?;
+    let mut item = behind_spaces(text);
+    if let Some(over) = behind(item, b']') {
+        return Ok(over);
     }
-    Ok(())
+    'rows: loop {
+        let rest = row_at(item, cells, width, depth)?;
+        let spaced = behind_spaces(rest);
+        let Some(next) = behind(spaced, b',') else {
+            let Some(over) = behind(spaced, b']') else {
+                return Err(Miss::Other);
+            };
+            return Ok(over);
+        };
+        item = behind_spaces(next);
+    }
 }
 
 /// The next value, a list of rows of `width` whole numbers each. Their numbers, row after row, are put
@@ -81,7 +114,10 @@ pub fn scan_rows(
     if depth == 0 {
         return Err(Miss::Other);
     }
-    reader.open_list()?;
-    rows_onto(reader, cells, width, depth - 1)?;
+    let Some(inner) = reader.list_start() else {
+        return Err(Miss::Other);
+    };
+    let rest = rows_at(inner, cells, width, depth - 1)?;
+    reader.stand_behind(rest);
     Ok(())
 }

@@ -1,5 +1,5 @@
 //! A text whose tokens are taken from its bytes, with no index of them before.
-ghost use Rattle.std.specs.Prelude.{◌≡◌, ◌<◌, ◌∷◌, [], ℕ, FitsSigned, Some, None, IfOk, IfSome, OnOk, length, option_map};
+ghost use Rattle.std.specs.Prelude.{◌≡◌, ◌<◌, ◌∷◌, [], ℕ, true, false, FitsSigned, Some, None, IfOk, IfSome, OnOk, length, option_map};
 ghost use Rattle.std.specs.Bool.{MatchBool};
 ghost use Rattle.std.specs.Int.{w64};
 ghost use Rattle.json.specs.Token.{begin_array, begin_object};
@@ -7,7 +7,7 @@ ghost use Rattle.json.specs.Lex.{tokens};
 ghost use Rattle.json.specs.Json.{after_end_array, read_key};
 ghost use Rattle.json_parts.specs.Parts as parts;
 ghost use Rattle.json_tokens.specs.Ahead.{part};
-ghost use Rattle.json_tokens.specs.Lexemes.{Begins};
+ghost use Rattle.json_tokens.specs.Lexemes.{Begins, tokens_from};
 
 use crate::bytes::{behind, behind_spaces, name_at};
 use crate::numbers::whole_at;
@@ -61,6 +61,29 @@ impl<'a> Scanner<'a> {
         Some(behind_spaces(item))
     }
 
+    /// What follows the bracket of the list that comes next.
+    #[inline(always)]
+    pub(crate) fn list_start(&self) -> Option<&'a [u8]>
+        ensures { IfSome result (λ rest. self.now ≡ begin_array ∷ tokens_from false rest.now) }
+    {
+        let Some(text) = self.start() else {
+            return None;
+        };
+        let Some(rest) = behind(text, b'[') else {
+            return None;
+        };
+        Some(rest)
+    }
+
+    /// Goes on with these bytes, behind a value.
+    #[inline(always)]
+    pub(crate) fn stand_behind(&mut self, rest: &'a [u8])
+        ensures { self.new ≡ tokens_from true rest.now }
+    {
+        self.rest = rest;
+        self.behind_value = true;
+    }
+
     /// Passes the bracket that opens a list.
     ///
     /// # Errors
@@ -70,10 +93,7 @@ impl<'a> Scanner<'a> {
     pub fn open_list(&mut self) -> Result<(), OtherForm>
         ensures passed { OnOk result (self.old ≡ begin_array ∷ self.new) }
     {
-        let Some(text) = self.start() else {
-            return Err(OtherForm);
-        };
-        let Some(rest) = behind(text, b'[') else {
+        let Some(rest) = self.list_start() else {
             return Err(OtherForm);
         };
         self.rest = rest;
