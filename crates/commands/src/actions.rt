@@ -33,7 +33,7 @@ pub fn run<R: Files + Print + RandomSource + AllocGlobal>(
         return Err(JobFault::Read);
     };
     let legs = list.as_deref();
-    job_run(rt.alloc(), keys, &plan, &input, legs, &mut writer(rt))
+    job_run(rt.alloc(), keys, &plan, input, legs, &mut writer(rt))
 }
 
 /// Prints the rows of a plan on an input in legs, by an order of steps that choices pick.
@@ -58,7 +58,7 @@ pub fn simulate<R: Files + Print + RandomSource + AllocGlobal>(
         return Err(JobFault::Read);
     };
     let mut out = writer(rt);
-    job_simulate(rt.alloc(), keys, &plan, &input, &legs, &choices, &mut out)
+    job_simulate(rt.alloc(), keys, &plan, input, &legs, &choices, &mut out)
 }
 
 /// Prints bytes.
@@ -117,13 +117,13 @@ fn done_leg<R: Files + Print + RandomSource + AllocGlobal>(
     rt: &R,
     keys: HashKeys,
     plan: &[u8],
-    input: &[u8],
+    input: Vec<u8>,
     scale: &[u8],
     from: Option<&[u8]>,
     stop: Option<&str>,
     path: Option<&str>,
 ) -> Result<(), JobFault>
-    ensures { ComesOfLeg (leg_said plan.now input.now scale.now (option_map (λ bytes. bytes.now) from.entry) (option_map (λ word. word.now) stop.entry)) result }
+    ensures { ComesOfLeg (leg_said plan.now input.items scale.now (option_map (λ bytes. bytes.now) from.entry) (option_map (λ word. word.now) stop.entry)) result }
 {
     let mut rows = Vec::new(rt.alloc());
     match job_leg(rt.alloc(), keys, plan, input, scale, from, stop, &mut rows) {
@@ -156,7 +156,7 @@ pub fn leg<R: Files + Print + RandomSource + AllocGlobal>(
         return Err(JobFault::Read);
     };
     let from = savepoint.as_deref();
-    done_leg(rt, keys, &plan, &input, &scale, from, stop, save)
+    done_leg(rt, keys, &plan, input, &scale, from, stop, save)
 }
 
 /// Prints the layout of a plan at a scale.

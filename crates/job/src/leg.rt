@@ -9,6 +9,7 @@ ghost use Rattle.job_texts.specs.Fault.{is_memory};
 ghost use Rattle.job_texts.specs.Tells.{KeepsWriter};
 ghost use Rattle.job.specs.Leg.{AreLegRows, EndsLeg, GivesLeg, IsLegEnd, IsLegSaved, TellsLeg, job_with, leg_by, leg_job, leg_on, leg_said, start_said, stop_said};
 
+use crate::reading::read_input;
 use job_legs::saved_bytes;
 use job_texts::{JobFault, read_cut, sort_rows, text_of_rows, write_text};
 use leg_lists::Stop;
@@ -162,14 +163,14 @@ fn leg_of_plan(
     alloc: Global,
     keys: HashKeys,
     plan: &Plan,
-    input: &[u8],
+    input: Vec<u8>,
     scale: &[u8],
     from: Option<&[u8]>,
     stop: Option<&str>,
 ) -> Result<LegEnd, JobFault>
-    ensures { EndsLeg (leg_by plan.now input.now scale.now (option_map (λ bytes. bytes.now) from.entry) (option_map (λ word. word.now) stop.entry)) result }
+    ensures { EndsLeg (leg_by plan.now input.items scale.now (option_map (λ bytes. bytes.now) from.entry) (option_map (λ word. word.now) stop.entry)) result }
 {
-    let input = Input::read(alloc, plan, input)?;
+    let input = read_input(alloc, plan, input)?;
     leg_on_input(alloc, keys, plan, &input, scale, from, stop)
 }
 
@@ -178,12 +179,12 @@ fn leg_of_texts(
     alloc: Global,
     keys: HashKeys,
     plan: &[u8],
-    input: &[u8],
+    input: Vec<u8>,
     scale: &[u8],
     from: Option<&[u8]>,
     stop: Option<&str>,
 ) -> Result<LegEnd, JobFault>
-    ensures { EndsLeg (leg_said plan.now input.now scale.now (option_map (λ bytes. bytes.now) from.entry) (option_map (λ word. word.now) stop.entry)) result }
+    ensures { EndsLeg (leg_said plan.now input.items scale.now (option_map (λ bytes. bytes.now) from.entry) (option_map (λ word. word.now) stop.entry)) result }
 {
     let plan = Plan::read(alloc, plan)?;
     leg_of_plan(alloc, keys, &plan, input, scale, from, stop)
@@ -201,13 +202,13 @@ pub fn job_leg<W: Write>(
     alloc: Global,
     keys: HashKeys,
     plan: &[u8],
-    input: &[u8],
+    input: Vec<u8>,
     scale: &[u8],
     from: Option<&[u8]>,
     stop: Option<&str>,
     out: &mut W,
 ) -> Result<Option<Vec<u8>>, JobFault>
-    ensures answers { TellsLeg (λ saved. option_map (λ bytes. bytes.items) saved) (leg_said plan.now input.now scale.now (option_map (λ bytes. bytes.now) from.entry) (option_map (λ word. word.now) stop.entry)) result (W.contents out.old) (W.contents out.new) }
+    ensures answers { TellsLeg (λ saved. option_map (λ bytes. bytes.items) saved) (leg_said plan.now input.items scale.now (option_map (λ bytes. bytes.now) from.entry) (option_map (λ word. word.now) stop.entry)) result (W.contents out.old) (W.contents out.new) }
     ensures kept { KeepsWriter result (W.contents out.old) (W.contents out.new) }
 {
     let LegEnd { text, saved } = leg_of_texts(alloc, keys, plan, input, scale, from, stop)?;

@@ -3,6 +3,7 @@
 
 mod layout;
 mod leg;
+mod reading;
 mod run;
 mod show;
 

@@ -11,6 +11,7 @@ ghost use Rattle.job_texts.specs.Text.{IsTextOf};
 ghost use Rattle.job.specs.Run.{Answers, EndsRun, choices_in, legs_in, run_by, run_job, run_said, run_with};
 ghost use Rattle.job_texts.specs.Tells.{KeepsWriter};
 
+use crate::reading::read_input;
 use job_legs::run_legs_by;
 use job_texts::{JobFault, sort_rows, text_of_rows, write_text};
 use leg_lists::{Choice, LegSpec, read_choices, read_legs};
@@ -153,13 +154,13 @@ fn run_of_plan(
     alloc: Global,
     keys: HashKeys,
     plan: &Plan,
-    input: &[u8],
+    input: Vec<u8>,
     legs: Option<&[u8]>,
     choices: Option<&[u8]>,
 ) -> Result<String, JobFault>
-    ensures { EndsRun string_bytes (run_by plan.now input.now (option_map (λ bytes. bytes.now) legs.entry) (option_map (λ bytes. bytes.now) choices.entry)) result }
+    ensures { EndsRun string_bytes (run_by plan.now input.items (option_map (λ bytes. bytes.now) legs.entry) (option_map (λ bytes. bytes.now) choices.entry)) result }
 {
-    let input = Input::read(alloc, plan, input)?;
+    let input = read_input(alloc, plan, input)?;
     run_on_input(alloc, keys, plan, &input, legs, choices)
 }
 
@@ -168,11 +169,11 @@ fn run_of_texts(
     alloc: Global,
     keys: HashKeys,
     plan: &[u8],
-    input: &[u8],
+    input: Vec<u8>,
     legs: Option<&[u8]>,
     choices: Option<&[u8]>,
 ) -> Result<String, JobFault>
-    ensures { EndsRun string_bytes (run_said plan.now input.now (option_map (λ bytes. bytes.now) legs.entry) (option_map (λ bytes. bytes.now) choices.entry)) result }
+    ensures { EndsRun string_bytes (run_said plan.now input.items (option_map (λ bytes. bytes.now) legs.entry) (option_map (λ bytes. bytes.now) choices.entry)) result }
 {
     let plan = Plan::read(alloc, plan)?;
     run_of_plan(alloc, keys, &plan, input, legs, choices)
@@ -190,11 +191,11 @@ pub fn job_run<W: Write>(
     alloc: Global,
     keys: HashKeys,
     plan: &[u8],
-    input: &[u8],
+    input: Vec<u8>,
     legs: Option<&[u8]>,
     out: &mut W,
 ) -> Result<(), JobFault>
-    ensures answers { Answers (run_said plan.now input.now (option_map (λ bytes. bytes.now) legs.entry) None) result (W.contents out.old) (W.contents out.new) }
+    ensures answers { Answers (run_said plan.now input.items (option_map (λ bytes. bytes.now) legs.entry) None) result (W.contents out.old) (W.contents out.new) }
     ensures kept { KeepsWriter result (W.contents out.old) (W.contents out.new) }
 {
     let text = run_of_texts(alloc, keys, plan, input, legs, None)?;
@@ -213,12 +214,12 @@ pub fn job_simulate<W: Write>(
     alloc: Global,
     keys: HashKeys,
     plan: &[u8],
-    input: &[u8],
+    input: Vec<u8>,
     legs: &[u8],
     choices: &[u8],
     out: &mut W,
 ) -> Result<(), JobFault>
-    ensures answers { Answers (run_said plan.now input.now (Some legs.now) (Some choices.now)) result (W.contents out.old) (W.contents out.new) }
+    ensures answers { Answers (run_said plan.now input.items (Some legs.now) (Some choices.now)) result (W.contents out.old) (W.contents out.new) }
     ensures kept { KeepsWriter result (W.contents out.old) (W.contents out.new) }
 {
     let text = run_of_texts(alloc, keys, plan, input, Some(legs), Some(choices))?;

@@ -58,7 +58,8 @@ fn faults_of(
 ) -> Result<[Option<JobFault>; 3], Fail> {
     let alloc = rt.alloc();
     let keys = HashKeys::random(rt)?;
-    let rows = job_run(alloc, keys, PLAN.as_bytes(), INPUT.as_bytes(), None, out);
+    let input = Vec::from_slice(alloc, INPUT.as_bytes())?;
+    let rows = job_run(alloc, keys, PLAN.as_bytes(), input, None, out);
     let layout = job_layout(alloc, PLAN.as_bytes(), SCALE.as_bytes(), out);
     let group = job_group(alloc, "0", "128", "2", out);
     Ok([rows.err(), layout.err(), group.err()])
@@ -88,14 +89,8 @@ fn fault_in(
 ) -> Result<Option<JobFault>, Fail> {
     let mut out = room;
     let keys = HashKeys::random(rt)?;
-    let said = job_run(
-        rt.alloc(),
-        keys,
-        PLAN.as_bytes(),
-        INPUT.as_bytes(),
-        None,
-        &mut out,
-    );
+    let input = Vec::from_slice(rt.alloc(), INPUT.as_bytes())?;
+    let said = job_run(rt.alloc(), keys, PLAN.as_bytes(), input, None, &mut out);
     Ok(said.err())
 }
 

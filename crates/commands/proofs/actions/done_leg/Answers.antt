@@ -11,12 +11,12 @@ module _ {X : Type 0} (view : X → Option (List ℕ)) (said : Result LegJob Job
 
 pub returns-in-Ok : goal.returns-in-Ok
 returns-in-Ok g c =
-    let said = leg_said c.args.plan.now c.args.input.now c.args.scale.now (option_map (λ bytes. bytes.now) c.args.from) (option_map (λ word. word.now) c.args.stop) in
+    let said = leg_said c.args.plan.now c.args.input.items c.args.scale.now (option_map (λ bytes. bytes.now) c.args.from) (option_map (λ word. word.now) c.args.stop) in
     come (λ saved. option_map (λ bytes. bytes.items) saved) said c.new-rows.result.items c.job_leg.new.out.items c.new-rows.ensures.items c.job_leg.result c.job_leg.ensures.answers _
     (subst (λ answer. after_leg answer c.give.result) (sym c.in-Ok.is) c.give.ensures)
 
 pub returns : goal.returns
 returns g c =
-    let said = leg_said c.args.plan.now c.args.input.now c.args.scale.now (option_map (λ bytes. bytes.now) c.args.from) (option_map (λ word. word.now) c.args.stop) in
+    let said = leg_said c.args.plan.now c.args.input.items c.args.scale.now (option_map (λ bytes. bytes.now) c.args.from) (option_map (λ word. word.now) c.args.stop) in
     come (λ saved. option_map (λ bytes. bytes.items) saved) said c.new-rows.result.items c.job_leg.new.out.items c.new-rows.ensures.items c.job_leg.result c.job_leg.ensures.answers (Err c.buffered.result)
     (subst (λ answer. after_leg answer (Err c.buffered.result)) (sym c.in-Err.is) (ap Err c.buffered.ensures))

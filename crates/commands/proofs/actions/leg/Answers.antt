@@ -7,4 +7,4 @@ pub returns : goal.returns
 returns g c =
     let now = λ (text : Bor (List ℕ)). text.now in
     let given = some_map now c.as_deref-from.result ∙ c.as_deref-from.ensures.variant ∙ c.in_ok-savepoint.ensures.given in
-    inr (c.deref.result.now, c.deref-2.result.now, c.deref-3.result.now, option_map now c.as_deref-from.result, given, c.done_leg.ensures)
+    inr (c.deref.result.now, c.in_ok-input.input.items, c.deref-2.result.now, option_map now c.as_deref-from.result, given, c.done_leg.ensures)

@@ -7,4 +7,4 @@ pub returns : goal.returns
 returns g c =
     let now = λ (text : Bor (List ℕ)). text.now in
     let given = some_map now c.as_deref-legs.result ∙ c.as_deref-legs.ensures.variant ∙ c.in_ok-list.ensures.given in
-    inr (c.deref.result.now, c.deref-2.result.now, option_map now c.as_deref-legs.result, given, c.job_run.ensures.answers)
+    inr (c.deref.result.now, c.in_ok-input.input.items, option_map now c.as_deref-legs.result, given, c.job_run.ensures.answers)

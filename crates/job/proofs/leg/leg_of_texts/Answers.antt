@@ -12,12 +12,12 @@ unfolding leg_said
 returns-in_err-plan c =
     let bytes = c.args.plan.now in
     let f = c.in_err-plan.field-0.0 in
-    refused CanStopSo IsLegEnd (λ p. leg_by p c.args.input.now c.args.scale.now (option_map (λ bytes. bytes.now) c.args.from) (option_map (λ word. word.now) c.args.stop)) (as_job Plan (plan_of_bytes bytes)) (plan_fault f)
+    refused CanStopSo IsLegEnd (λ p. leg_by p c.args.input.items c.args.scale.now (option_map (λ bytes. bytes.now) c.args.from) (option_map (λ word. word.now) c.args.stop)) (as_job Plan (plan_of_bytes bytes)) (plan_fault f)
     c.from_residual.result c.from_residual.ensures.0 c.from_residual.ensures.1 (told_of (plan_of_bytes bytes) Plan (plan_fault f) (plan_told (plan_of_bytes bytes) f c.in_err-plan.ensures))
 
 pub returns : goal.returns
 unfolding leg_said
 returns c =
     let bytes = c.args.plan.now in
-    read CanStopSo IsLegEnd (λ p. leg_by p c.args.input.now c.args.scale.now (option_map (λ bytes. bytes.now) c.args.from) (option_map (λ word. word.now) c.args.stop)) (as_job Plan (plan_of_bytes bytes)) c.in_ok-plan.plan
+    read CanStopSo IsLegEnd (λ p. leg_by p c.args.input.items c.args.scale.now (option_map (λ bytes. bytes.now) c.args.from) (option_map (λ word. word.now) c.args.stop)) (as_job Plan (plan_of_bytes bytes)) c.in_ok-plan.plan
     c.leg_of_plan.result (ap (as_job Plan) c.in_ok-plan.ensures) c.leg_of_plan.ensures

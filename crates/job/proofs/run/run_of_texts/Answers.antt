@@ -12,12 +12,12 @@ unfolding run_said
 returns-in_err-plan c =
     let said = plan_of_bytes c.args.plan.now in
     let f = c.in_err-plan.field-0.0 in
-    refused CanRunSo (λ job text. IsRunText job (string_bytes text)) (λ p. run_by p c.args.input.now (option_map (λ bytes. bytes.now) c.args.legs) (option_map (λ bytes. bytes.now) c.args.choices)) (as_job Plan said) (plan_fault f)
+    refused CanRunSo (λ job text. IsRunText job (string_bytes text)) (λ p. run_by p c.args.input.items (option_map (λ bytes. bytes.now) c.args.legs) (option_map (λ bytes. bytes.now) c.args.choices)) (as_job Plan said) (plan_fault f)
     c.from_residual.result c.from_residual.ensures.0 c.from_residual.ensures.1 (told_of said Plan (plan_fault f) (plan_told said f c.in_err-plan.ensures))
 
 pub returns : goal.returns
 unfolding run_said
 returns c =
     let said = plan_of_bytes c.args.plan.now in
-    read CanRunSo (λ job text. IsRunText job (string_bytes text)) (λ p. run_by p c.args.input.now (option_map (λ bytes. bytes.now) c.args.legs) (option_map (λ bytes. bytes.now) c.args.choices)) (as_job Plan said) c.in_ok-plan.plan
+    read CanRunSo (λ job text. IsRunText job (string_bytes text)) (λ p. run_by p c.args.input.items (option_map (λ bytes. bytes.now) c.args.legs) (option_map (λ bytes. bytes.now) c.args.choices)) (as_job Plan said) c.in_ok-plan.plan
     c.run_of_plan.result (ap (as_job Plan) c.in_ok-plan.ensures) c.run_of_plan.ensures
