@@ -51,7 +51,7 @@ kept_at_places mask xs d =
     let at = λ (place : ℕ). get_or xs place d in
     sym (ap (kept mask) (fill_by_all at xs (length xs) d refl (λ k h. refl)) ∙ kept-map at mask (range_with_len 0 (length xs)))
 
-range_more : (n : ℕ) → range_with_len 0 (n + 1) ≡ range_with_len 0 n ++ n ∷ []
+pub range_more : (n : ℕ) → range_with_len 0 (n + 1) ≡ range_with_len 0 n ++ n ∷ []
 range_more n = sym (map-id (range_with_len 0 (n + 1))) ∙ map-range_with_len_more (λ k. k) 0 n n (omega arith) ∙ ap (λ t. t ++ n ∷ []) (map-id (range_with_len 0 n))
 
 -- one place more of a mask

@@ -3,9 +3,9 @@
 //! Contracts see a batch as a list of rows and the number of their columns.
 #![tactic(auto)]
 
-ghost use Rattle.std.specs.Prelude.{[], IsTrue, ◌<◌, ◌↔◌, ◌≡◌, ◌≤◌, length, map, slice_index_or};
+ghost use Rattle.std.specs.Prelude.{[], IsTrue, ◌<◌, ◌↔◌, ◌≡◌, ◌≤◌, length, slice_index_or};
 ghost use Rattle.plain_data.specs.Record.{at, column_of};
-ghost use Rattle.columns.specs.Table.{AreColumns, IsWidth, rows_of};
+ghost use Rattle.columns.specs.Table.{AreColumns, IsWidth, columns_in, rows_of};
 
 mod fault;
 mod parts;
@@ -17,37 +17,39 @@ use std::marker::Model;
 /// The most rows of a batch.
 pub const MOST_ROWS: usize = 4096;
 
-/// Rows of whole numbers, kept as columns.
+/// Rows of whole numbers, kept as columns: one after the other in one list.
 #[derive(Debug, Drop)]
 pub struct Batch {
-    columns: Vec<Vec<i64>>,
-    count: usize,
+    numbers: Vec<i64>,
+    width: u32,
+    count: u32,
 }
 
 impl Model for Batch {
-    ghost use Rattle.std.specs.Prelude.{length, map};
-    ghost use Rattle.columns.specs.Table.{AreColumns, Table, rows_of};
+    ghost use Rattle.columns.specs.Table.{AreColumns, Table, columns_in, rows_of};
 
     ghost Value = { Table };
 
     ghost view = { λ b. record {
-      width = length b.columns.items;
-      rows = rows_of (map (λ c. c.items) b.columns.items) b.count;
+      width = b.width;
+      rows = rows_of (columns_in b.numbers.items b.width b.count) b.count;
     } };
 
-    ghost invariant = { λ b. AreColumns b.columns.items b.count };
+    ghost invariant = { λ b. AreColumns b.numbers.items b.width b.count };
 }
 
 impl Batch {
-    /// The batch of 1 to 16 columns that have `count` rows each, at most [`MOST_ROWS`]. No number is copied.
-    pub fn from_columns(columns: Vec<Vec<i64>>, count: usize) -> Batch
-        requires { AreColumns columns.items count }
-        ensures { result ≡ record {
-          width = length columns.items;
-          rows = rows_of (map (λ column. column.items) columns.items) count;
-        } }
+    /// The batch of `width` columns of `count` rows, whose numbers stand in the list one column after the
+    /// other: 1 to 16 columns, and at most [`MOST_ROWS`] rows. No number is copied.
+    pub fn from_numbers(numbers: Vec<i64>, width: usize, count: usize) -> Batch
+        requires { AreColumns numbers.items width count }
+        ensures { result ≡ record { width = width; rows = rows_of (columns_in numbers.items width count) count } }
     {
-        Batch { columns, count }
+        Batch {
+            numbers,
+            width: width as u32,
+            count: count as u32,
+        }
     }
 
     /// How many rows there are: at most [`MOST_ROWS`].
@@ -55,7 +57,7 @@ impl Batch {
         ensures says { result ≡ length self.now.rows }
         ensures small { length self.now.rows ≤ MOST_ROWS }
     {
-        self.count
+        self.count as usize
     }
 
     /// Whether there are no rows.
@@ -70,7 +72,7 @@ impl Batch {
         ensures says { result ≡ self.now.width }
         ensures bounded { IsWidth result }
     {
-        self.columns.len()
+        self.width as usize
     }
 
     /// A number of a row. Rows and columns are counted from 0.
@@ -88,6 +90,8 @@ impl Batch {
         requires { c < self.now.width }
         ensures { result.now ≡ column_of c self.now.rows }
     {
-        &self.columns[c]
+        let numbers = self.numbers.as_slice();
+        let start = c * self.len();
+        &numbers[start..start + self.len()]
     }
 }

@@ -1,6 +1,6 @@
 //! Batches made of the rows of one.
 
-ghost use Rattle.std.specs.Prelude.{IfErr, IfOk, [], ◌<◌, ◌==◌, ◌≡◌, ◌≤◌, ℕ, length, map, pos, slice_index_or};
+ghost use Rattle.std.specs.Prelude.{IfErr, IfOk, OnOk, [], ◌++◌, ◌<◌, ◌==◌, ◌≡◌, ◌≤◌, ℕ, length, map, pos, slice_index_or};
 ghost use Rattle.std.specs.List.{All, range_with_len};
 ghost use Rattle.columns.specs.Parts.{kept, kept_rows, piece, with_rows};
 
@@ -52,12 +52,9 @@ impl Batch {
         ensures same { IfOk result (λ batch. batch ≡ self.now) }
         ensures only_memory { IfErr result (λ fault. fault ≡ BatchFault.Memory) }
     {
-        let mut columns = Vec::with_capacity(alloc, self.columns.len())?;
-        for column in &self.columns {
-            columns.push(Vec::from_slice(alloc, column)?)?;
-        }
         Ok(Batch {
-            columns,
+            numbers: Vec::from_slice(alloc, &self.numbers)?,
+            width: self.width,
             count: self.count,
         })
     }
@@ -68,27 +65,24 @@ impl Batch {
         requires few { length places.now ≤ length self.now.rows }
         ensures { IfOk result (λ batch. batch ≡ with_rows self.now (map (λ place. slice_index_or self.now.rows place []) places.now)) }
     {
-        let mut columns = Vec::with_capacity(alloc, self.columns.len())?;
-        for column in &self.columns {
-            columns.push(numbers_at(alloc, column, places)?)?;
+        let width = self.width as usize;
+        let mut numbers = Vec::with_capacity(alloc, width * places.len())?;
+        for c in 0..width {
+            put_numbers(&mut numbers, self.column(c), places)?;
         }
-        Ok(Batch {
-            columns,
-            count: places.len(),
-        })
+        Ok(Batch::from_numbers(numbers, width, places.len()))
     }
 }
 
-/// The numbers at some places of a column.
-fn numbers_at(alloc: Global, column: &[i64], places: &[usize]) -> Result<Vec<i64>, AllocError>
+/// Puts the numbers at some places of a column behind those that are there.
+fn put_numbers(numbers: &mut Vec<i64>, column: &[i64], places: &[usize]) -> Result<(), AllocError>
     requires { All (λ place. place < length column.now) places.now }
-    ensures { IfOk result (λ numbers. numbers.items ≡ map (λ place. slice_index_or column.now place (pos 0)) places.now) }
+    ensures { OnOk result (numbers.new.items ≡ numbers.old.items ++ map (λ place. slice_index_or column.now place (pos 0)) places.now) }
 {
-    let mut numbers = Vec::with_capacity(alloc, places.len())?;
     for place in places {
         numbers.push(column[*place])?;
     }
-    Ok(numbers)
+    Ok(())
 }
 
 /// The places at which the mask is true.

@@ -1,11 +1,11 @@
 //! A batch of rows that are given one by one.
 
-ghost use Rattle.std.specs.Prelude.{IfErr, IfNone, IfOk, OnOk, None, Some, ◌<◌, ◌==◌, ◌≡◌, ◌≢◌, ◌≤◌, length, map, not};
-ghost use Rattle.std.specs.List.{All, position, range_with_len};
+ghost use Rattle.std.specs.Prelude.{IfErr, IfNone, IfOk, OnOk, None, Some, ◌++◌, ◌<◌, ◌==◌, ◌≡◌, ◌≢◌, ◌≤◌, length, not};
+ghost use Rattle.std.specs.List.{All, position};
 ghost use Rattle.plain_data.specs.declared.limits.TheConstants.{MOST_COLUMNS};
 ghost use Rattle.plain_data.specs.Record.{column_of};
 ghost use Rattle.columns.specs.Fault.{first_fault};
-ghost use Rattle.columns.specs.Table.{IsWidth, rows_in};
+ghost use Rattle.columns.specs.Table.{IsWidth, by_columns, rows_in};
 
 use crate::fault::BatchFault;
 use crate::{Batch, MOST_ROWS};
@@ -54,28 +54,29 @@ fn fault_in(rows: &[Vec<i64>], width: usize) -> Option<BatchFault>
     None
 }
 
-/// The columns of rows of one width.
-fn columns_of(alloc: Global, rows: &[Vec<i64>], width: usize) -> Result<Vec<Vec<i64>>, AllocError>
-    requires { All (λ row. length row.items ≡ width) rows.now }
-    ensures { IfOk result (λ columns. map (λ c. c.items) columns.items ≡ map (λ c. column_of c (rows_in rows.now)) (range_with_len 0 width)) }
+/// The numbers of rows of one width, column after column.
+fn numbers_of(alloc: Global, rows: &[Vec<i64>], width: usize) -> Result<Vec<i64>, AllocError>
+    requires sized { IsWidth width }
+    requires even { All (λ row. length row.items ≡ width) rows.now }
+    requires few { length rows.now ≤ MOST_ROWS }
+    ensures { IfOk result (λ numbers. numbers.items ≡ by_columns width (rows_in rows.now)) }
 {
-    let mut columns = Vec::new(alloc);
+    let mut numbers = Vec::with_capacity(alloc, width * rows.len())?;
     for c in 0..width {
-        columns.push(column_at(alloc, rows, c)?)?;
+        put_column(&mut numbers, rows, c)?;
     }
-    Ok(columns)
+    Ok(numbers)
 }
 
-/// The number at c of each row.
-fn column_at(alloc: Global, rows: &[Vec<i64>], c: usize) -> Result<Vec<i64>, AllocError>
+/// Puts the number at c of each row behind those that are there.
+fn put_column(numbers: &mut Vec<i64>, rows: &[Vec<i64>], c: usize) -> Result<(), AllocError>
     requires { All (λ row. c < length row.items) rows.now }
-    ensures { IfOk result (λ column. column.items ≡ column_of c (rows_in rows.now)) }
+    ensures { OnOk result (numbers.new.items ≡ numbers.old.items ++ column_of c (rows_in rows.now)) }
 {
-    let mut column = Vec::with_capacity(alloc, rows.len())?;
     for row in rows {
-        column.push(row[c])?;
+        numbers.push(row[c])?;
     }
-    Ok(column)
+    Ok(())
 }
 
 /// The batch of rows of one width.
@@ -85,7 +86,6 @@ fn batch_of(alloc: Global, rows: &[Vec<i64>], width: usize) -> Result<Batch, All
     requires few { length rows.now ≤ MOST_ROWS }
     ensures { IfOk result (λ batch. batch ≡ record { width = width; rows = rows_in rows.now }) }
 {
-    let columns = columns_of(alloc, rows, width)?;
-    let count = rows.len();
-    Ok(Batch { columns, count })
+    let numbers = numbers_of(alloc, rows, width)?;
+    Ok(Batch::from_numbers(numbers, width, rows.len()))
 }

@@ -1,14 +1,15 @@
 -- From numbers that stand row after row to a batch.
-use Rattle.std.proofs.Common.{◌≡◌, ℕ, ℤ, pos, zero, suc, ◌+◌, ◌*◌, ◌/◌, ◌<◌, ◌≤◌, ◌==◌, ◌&&◌, nat_le, true, map, length, get_or, List, [], ◌∷◌, ◌++◌, Option, Some, Vec, Global, refl, sym, ap, ◌∙◌, arith}
+use Rattle.std.proofs.Common.{◌≡◌, ℕ, ℤ, pos, zero, suc, ◌+◌, ◌*◌, ◌/◌, ◌<◌, ◌≤◌, ◌==◌, ◌&&◌, nat_le, true, map, length, get_or, List, [], ◌∷◌, ◌++◌, Option, Some, refl, sym, ap, ◌∙◌, arith}
 use Rattle.std.proofs.lemmas.Bool.{eqb-true, le-leb}
 use Rattle.std.proofs.lemmas.List.{length-map, length-append, get_or-map, get_or_append_left, get_or-append-add}
 use Rattle.std.proofs.lemmas.List.Elements.{All-map}
 use Rattle.std.proofs.lemmas.List.FromFn.{fill_by_all, length-map-range_with_len, get_or-map-range_with_len}
 use Rattle.std.proofs.lemmas.List.Sums.{AllPass-from_list_all}
 use Rattle.std.proofs.Math.Nat.{mul-div_cancel}
-use Rattle.std.specs.List.{All, list_all, range_with_len}
+use Rattle.std.specs.List.{All, flat_map, list_all, range_with_len}
 use Rattle.plain_data.specs.Record.{Record, at, column_of}
-use Rattle.columns.specs.Table.{Table, rows_of}
+use Rattle.columns.specs.Table.{Table, rows_of, columns_in}
+use Rattle.columns.proofs.Facts.{rows_of-column_of, length-flat_map, columns_in-flat_map}
 use Rattle.columns.specs.declared.TheConstants.{MOST_ROWS}
 use Rattle.json_tokens.specs.Rows.{joined}
 use Rattle.stream_model.specs.declared.entry.Entry.TheVariants.{Rows}
@@ -17,7 +18,6 @@ use Rattle.stream_input.specs.Said.{number_of, record_of}
 use Rattle.stream_input.specs.Requirements.{is_wide, is_whole, is_time, is_timely}
 use Rattle.stream_input.specs.Fit.{column_in_cells, is_fit, if_fit}
 use Rattle.stream_input.proofs.Rows.{list_all_map}
-use Rattle.stream_input.proofs.Tables.{count_of, column_among, table_is}
 
 abbrev IsEven : ℕ → List Record → Type 0
 IsEven width records = All (λ r. length r ≡ width) records
@@ -58,10 +58,12 @@ even_records width found wide =
     All-map (λ (r : Record). length r ≡ width) record_of found
     (λ k d h. length-map (get_or found k d) number_of ∙ eqb-true (length (get_or found k d)) width (AllPass-from_list_all (λ row. length row == width) found wide k d h))
 
-pub columns_even : (columns : List (Vec ℤ Global)) (width count : ℕ) (cells : List ℤ) → map (λ c. c.items) columns ≡ map (column_in_cells width count cells) (range_with_len 0 width)
-    → All (λ c. length c.items ≡ count) columns
-columns_even columns width count cells are =
-    λ k d h. ap (length {A = ℤ}) (column_among columns (column_in_cells width count cells) width k d are h) ∙ length-map-range_with_len (λ row. get_or cells (row * width + k) (pos 0)) 0 count
+-- columns of cells are as long as there are rows
+length_column : (width count : ℕ) (cells : List ℤ) (c : ℕ) → c < width → length (column_in_cells width count cells c) ≡ count
+length_column width count cells c c_in = length-map-range_with_len (λ row. get_or cells (row * width + c) (pos 0)) 0 count
+
+pub whole_columns : (width count : ℕ) (cells numbers : List ℤ) → numbers ≡ flat_map (column_in_cells width count cells) (range_with_len 0 width) → length numbers ≡ width * count
+whole_columns width count cells numbers are = ap (length {A = ℤ}) are ∙ length-flat_map (column_in_cells width count cells) width count (length_column width count cells)
 
 all_columns : (width : ℕ) (rs : List Record) → IsEven width rs → map (column_in_cells width (length rs) (joined rs)) (range_with_len 0 width) ≡ map (λ c. column_of c rs) (range_with_len 0 width)
 all_columns width rs even =
@@ -71,20 +73,21 @@ all_columns width rs even =
 sized_from : (n : ℕ) → 1 ≤ n → n ≤ MOST_ROWS → (nat_le 1 n && nat_le n MOST_ROWS) ≡ true
 sized_from n some few = rw (le-leb 1 n some, le-leb n MOST_ROWS few) refl
 
-pub fit_batch : (width time count : ℕ) (cells : List ℤ) (columns : List (Vec ℤ Global)) (batch : Table) (d : Vec ℤ Global) → count ≡ length cells / width → time < width → 1 ≤ count → count ≤ MOST_ROWS
-    → map (λ c. c.items) columns ≡ map (column_in_cells width count cells) (range_with_len 0 width) → list_all is_time (get_or columns time d).items ≡ true
-    → batch ≡ record { width = length columns; rows = rows_of (map (λ c. c.items) columns) count }
+pub fit_batch : (width time count : ℕ) (cells numbers : List ℤ) (batch : Table) → count ≡ length cells / width → 1 ≤ width → 1 ≤ count → count ≤ MOST_ROWS
+    → numbers ≡ flat_map (column_in_cells width count cells) (range_with_len 0 width) → batch ≡ record { width = width; rows = rows_of (columns_in numbers width count) count }
+    → list_all is_time (column_of time batch.rows) ≡ true
     → (found : List (List (Option ℤ))) → is_wide width (rows found) ≡ true → is_whole (rows found) ≡ true → joined (map record_of found) ≡ cells → if_fit width time (rows found) ≡ Some (Rows batch)
-fit_batch width time count cells columns batch d counted time_in some few are timely made found wide whole is =
+fit_batch width time count cells numbers batch counted positive some few are made timely found wide whole is =
     let rs = map record_of found in
     let even = even_records width found wide in
     let many : length cells ≡ length rs * width = ap (length {A = ℤ}) (sym is) ∙ length_joined width rs even in
     let all : length rs ≡ count = sym (counted ∙ ap (λ n. n / width) many ∙ mul-div_cancel (length rs) (omega arith)) in
-    let columned : map (λ c. c.items) columns ≡ map (λ c. column_of c rs) (range_with_len 0 width) =
-    are ∙ ap (λ n. map (column_in_cells width n cells) (range_with_len 0 width)) (sym all) ∙ ap (λ xs. map (column_in_cells width (length rs) xs) (range_with_len 0 width)) (sym is) ∙ all_columns width rs even in
-    let table = made ∙ table_is columns rs count width all columned even in
-    let time_of : time < length columns = rw (count_of columns (λ c. column_of c rs) width columned) time_in in
-    let times : list_all is_time (column_of time rs) ≡ true = ap (list_all is_time) (sym (column_among columns (λ c. column_of c rs) width time d columned time_of)) ∙ timely in
+    let columned : columns_in numbers width count ≡ map (λ c. column_of c rs) (range_with_len 0 width) =
+    ap (λ (ns : List ℤ). columns_in ns width count) are ∙ columns_in-flat_map (column_in_cells width count cells) width count (length_column width count cells)
+    ∙ ap (λ n. map (column_in_cells width n cells) (range_with_len 0 width)) (sym all) ∙ ap (λ xs. map (column_in_cells width (length rs) xs) (range_with_len 0 width)) (sym is) ∙ all_columns width rs even in
+    let same : rows_of (columns_in numbers width count) count ≡ rs = (λ o. rows_of (columned o) (sym all o)) ∙ rows_of-column_of rs width even in
+    let table : batch ≡ record { width = width; rows = rs } = made ∙ (λ o. record { width = width; rows = same o }) in
+    let times : list_all is_time (column_of time rs) ≡ true = ap (λ (t : Table). list_all is_time (column_of time t.rows)) (sym table) ∙ timely in
     let in_time : is_timely time (rows found) ≡ true = sym (list_all_map (λ r. is_time (at time r)) record_of found) ∙ sym (list_all_map is_time (at time) rs) ∙ times in
     let sized = sized_from (length found) (omega (arith, length-map found record_of)) (omega (arith, length-map found record_of)) in
     let fit : is_fit width time (rows found) ≡ true = rw (wide, whole, sized, in_time) refl in

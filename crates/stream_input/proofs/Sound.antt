@@ -1,5 +1,5 @@
 -- What is read of a text that meets every requirement is an input of the plan.
-use Rattle.std.proofs.Common.{option_map, ◌≡◌, ℕ, ◌^◌, ◌≤◌, ℤ, pos, neg_ℤ, ◌≤ℤ◌, ◌<ℤ◌, Bool, true, false, ◌==◌, map, length, get_or, List, [], ◌∷◌, Option, Some, None, Result, Ok, Err, if◌then◌else◌, subst, refl, ◌∙◌, arith}
+use Rattle.std.proofs.Common.{option_map, ◌≡◌, ℕ, ◌^◌, ◌≤◌, ℤ, pos, neg_ℤ, ◌≤ℤ◌, ◌<ℤ◌, true, ◌==◌, map, length, get_or, List, [], ◌∷◌, Option, Some, None, Result, Ok, Err, subst, refl, ◌∙◌, arith}
 use Rattle.std.proofs.lemmas.Bool.{and_parts, eqb-true, leb-true}
 use Rattle.std.proofs.lemmas.Int.{ints}
 use Rattle.std.proofs.lemmas.List.{length-map}
@@ -7,7 +7,7 @@ use Rattle.std.proofs.lemmas.List.Elements.{All-map}
 use Rattle.std.proofs.lemmas.List.Sums.{AllPass-from_list_all}
 use Rattle.std.specs.Prelude.{int_le, int_lt}
 use Rattle.std.specs.List.{All, list_all}
-use Rattle.std.specs.Option.{option_map_or, option_or}
+use Rattle.std.specs.Option.{option_or}
 use Rattle.plain_data.specs.Record.{at}
 use Rattle.plan_model.specs.declared.spec.SourceSpec.{SourceSpec}
 use Rattle.plan_model.specs.PlanData.{PlanData, IsPlan}

@@ -1,9 +1,9 @@
 //! From what a text says to the entries of an input.
 
-ghost use Rattle.std.specs.Prelude.{◌≡◌, ◌≤◌, true, length, map, IfOk};
-ghost use Rattle.std.specs.List.{All, range_with_len};
+ghost use Rattle.std.specs.Prelude.{◌≡◌, ◌≤◌, ◌++◌, true, length, map, IfOk, OnOk};
+ghost use Rattle.std.specs.List.{All};
 ghost use Rattle.plain_data.specs.Record.{column_of as column_in};
-ghost use Rattle.columns.specs.Table.{IsWidth};
+ghost use Rattle.columns.specs.Table.{IsWidth, by_columns};
 ghost use Rattle.columns.specs.declared.TheConstants.{MOST_ROWS};
 ghost use Rattle.stream_input.specs.Said as said;
 ghost use Rattle.stream_input.specs.Requirements.{is_wide, is_sized, has_width, has_rows};
@@ -16,33 +16,33 @@ use plain_data::Items;
 use std::alloc::{AllocError, Global};
 use stream_model::{Entry, Partition, Source};
 
-fn column_of(
-    alloc: Global,
+fn put_column(
+    numbers: &mut Vec<i64>,
     rows: &[Items<Option<i64>>],
     column: usize,
-) -> Result<Vec<i64>, AllocError>
-    ensures { IfOk result (λ found. found.items ≡ column_in column (map said.record_of rows.now)) }
+) -> Result<(), AllocError>
+    ensures { OnOk result (numbers.new.items ≡ numbers.old.items ++ column_in column (map said.record_of rows.now)) }
 {
-    let mut numbers = Vec::new(alloc);
     for row in rows {
         numbers.push(number_at(row.as_slice(), column))?;
     }
-    Ok(numbers)
+    Ok(())
 }
 
-fn columns_of(
+fn numbers_of(
     alloc: Global,
     rows: &[Items<Option<i64>>],
     columns: usize,
-) -> Result<Vec<Vec<i64>>, AllocError>
-    ensures { IfOk result (λ found. map (λ c. c.items) found.items
-        ≡ map (λ c. column_in c (map said.record_of rows.now)) (range_with_len 0 columns)) }
+) -> Result<Vec<i64>, AllocError>
+    requires width { IsWidth columns }
+    requires few { length rows.now ≤ MOST_ROWS }
+    ensures { IfOk result (λ numbers. numbers.items ≡ by_columns columns (map said.record_of rows.now)) }
 {
-    let mut found = Vec::new(alloc);
+    let mut numbers = Vec::with_capacity(alloc, columns * rows.len())?;
     for column in 0..columns {
-        found.push(column_of(alloc, rows, column)?)?;
+        put_column(&mut numbers, rows, column)?;
     }
-    Ok(found)
+    Ok(numbers)
 }
 
 fn batch_of(alloc: Global, columns: usize, rows: &[Items<Option<i64>>]) -> Result<Batch, AllocError>
@@ -51,8 +51,8 @@ fn batch_of(alloc: Global, columns: usize, rows: &[Items<Option<i64>>]) -> Resul
     requires few { length rows.now ≤ MOST_ROWS }
     ensures { IfOk result (λ batch. batch ≡ record { width = columns; rows = map said.record_of rows.now }) }
 {
-    let found = columns_of(alloc, rows, columns)?;
-    Ok(Batch::from_columns(found, rows.len()))
+    let numbers = numbers_of(alloc, rows, columns)?;
+    Ok(Batch::from_numbers(numbers, columns, rows.len()))
 }
 
 fn entry_of(alloc: Global, columns: usize, text: &EntryText) -> Result<Entry, AllocError>
@@ -73,7 +73,7 @@ fn partition_of(alloc: Global, columns: usize, texts: &[EntryText]) -> Result<Pa
     requires sized { All (λ e. is_sized e ≡ true) texts.now }
     ensures { IfOk result (λ found. found ≡ map (said.entry_of columns) texts.now) }
 {
-    let mut entries = Vec::new(alloc);
+    let mut entries = Vec::with_capacity(alloc, texts.len())?;
     for text in texts {
         entries.push(entry_of(alloc, columns, text)?)?;
     }
@@ -90,7 +90,7 @@ fn source_of(
     requires sized { All (λ p. All (λ e. is_sized e ≡ true) p) texts.now }
     ensures { IfOk result (λ found. found ≡ map (map (said.entry_of columns)) texts.now) }
 {
-    let mut partitions = Vec::new(alloc);
+    let mut partitions = Vec::with_capacity(alloc, texts.len())?;
     for text in texts {
         partitions.push(partition_of(alloc, columns, text.as_slice())?)?;
     }

@@ -1,7 +1,7 @@
 //! Batches of numbers that stand in one list, row after row.
 
-ghost use Rattle.std.specs.Prelude.{◌≡◌, ◌<◌, ◌≤◌, ◌*◌, ℤ, true, List, Option, Some, length, map, IfOk};
-ghost use Rattle.std.specs.List.{range_with_len};
+ghost use Rattle.std.specs.Prelude.{◌≡◌, ◌<◌, ◌≤◌, ◌*◌, ℤ, true, List, Option, Some, ◌++◌, length, map, IfOk, OnOk};
+ghost use Rattle.std.specs.List.{flat_map, range_with_len};
 ghost use Rattle.columns.specs.Table.{IsWidth};
 ghost use Rattle.json_tokens.specs.Rows.{joined};
 ghost use Rattle.stream_input.specs.Fit.{column_in_cells, if_fit};
@@ -15,38 +15,37 @@ use columns::{Batch, MOST_ROWS};
 use json_tokens::Miss;
 use std::alloc::{AllocError, Global};
 
-fn column_at(
-    alloc: Global,
+fn put_column(
+    numbers: &mut Vec<i64>,
     cells: &[i64],
     width: usize,
     count: usize,
     column: usize,
-) -> Result<Vec<i64>, AllocError>
+) -> Result<(), AllocError>
     requires column_in { column < width }
     requires whole { count * width ≤ length cells.now }
-    ensures { IfOk result (λ found. found.items ≡ column_in_cells width count cells.now column) }
+    ensures { OnOk result (numbers.new.items ≡ numbers.old.items ++ column_in_cells width count cells.now column) }
 {
-    let mut numbers = Vec::with_capacity(alloc, count)?;
     for row in 0..count {
         numbers.push(cells[row * width + column])?;
     }
-    Ok(numbers)
+    Ok(())
 }
 
-fn columns_at(
+fn numbers_at(
     alloc: Global,
     cells: &[i64],
     width: usize,
     count: usize,
-) -> Result<Vec<Vec<i64>>, AllocError>
+) -> Result<Vec<i64>, AllocError>
     requires { count * width ≤ length cells.now }
-    ensures { IfOk result (λ found. map (λ c. c.items) found.items ≡ map (column_in_cells width count cells.now) (range_with_len 0 width)) }
+    ensures { IfOk result (λ numbers. numbers.items ≡ flat_map (column_in_cells width count cells.now) (range_with_len 0 width)) }
 {
-    let mut found = Vec::with_capacity(alloc, width)?;
+    let mut numbers = Vec::with_capacity(alloc, count * width)?;
     for column in 0..width {
-        found.push(column_at(alloc, cells, width, count, column)?)?;
+        put_column(&mut numbers, cells, width, count, column)?;
     }
-    Ok(found)
+    Ok(numbers)
 }
 
 /// The batch of rows of `width` cells each, where it makes an entry that the format allows. The times are
@@ -61,9 +60,10 @@ pub fn batch_at(alloc: Global, cells: &[i64], width: usize, time: usize) -> Resu
     if count < 1 || MOST_ROWS < count {
         return Err(Miss::Other);
     }
-    let found = columns_at(alloc, cells, width, count)?;
-    if !are_times(&found[time]) {
+    let numbers = numbers_at(alloc, cells, width, count)?;
+    let batch = Batch::from_numbers(numbers, width, count);
+    if !are_times(batch.column(time)) {
         return Err(Miss::Other);
     }
-    Ok(Batch::from_columns(found, count))
+    Ok(batch)
 }

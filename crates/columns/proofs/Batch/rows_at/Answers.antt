@@ -1,71 +1,45 @@
-use Rattle.std.proofs.Common.{◌≡◌, ◌<◌, ℤ, Vec, Global, List, [], ◌∷◌, ◌++◌, map, take, get_or, length, sym, subst, ◌∙◌, ap, arith}
+use Rattle.std.proofs.Common.{◌≡◌, ℤ, pos, List, [], ◌++◌, map, get_or, length, sym, subst, ◌∙◌, ap, arith}
 use Rattle.std.specs.List.{All}
-use Rattle.std.proofs.lemmas.List.{take_all, take_more, length-map, map-append}
-use Rattle.std.proofs.lemmas.List.Elements.{All-map}
-use Rattle.columns.specs.Table.{Table, IsWidth, rows_of}
+use Rattle.std.proofs.lemmas.List.{length-map}
+use Rattle.plain_data.specs.Record.{Record, column_of}
+use Rattle.columns.specs.Table.{Table, by_columns}
 use Rattle.columns.specs.Parts.{with_rows}
-use Rattle.columns.proofs.Columns.{length-rows_of, map-map}
-use Rattle.columns.proofs.Picked.{picked, rows_of-picked, All-length_items}
+use Rattle.columns.proofs.Columns.{length-rows_of, rows_even, by_columns-more, by_columns_whole, table_is}
+use Rattle.columns.proofs.Picked.{rows_at, column_of-rows_at, rows_at_even}
 use Rattle.columns.proofs.Batch.rows_at.Goals as goal
 
-pub numbers_at-requires : goal.numbers_at-requires
-numbers_at-requires c = λ k d h.
-    let xs = c.self.inside.columns.items in
-    let i = c.loop-column.column-index in
-    let item = c.column-item.result in
-    let same : c.deref-column-items.result.now ≡ xs = c.deref-column-items.ensures.value in
-    let there : i < length xs = omega (arith, ap length same) in
-    let long : length item.items ≡ c.self.inside.count =
-    ap (λ (v : Vec ℤ Global). length v.items) (c.column-item.is ∙ ap (λ (vs : List (Vec ℤ Global)). get_or vs i item) same) ∙ c.self.invariant.even i item there in
-    let rows : length c.args.self.now.rows ≡ c.self.inside.count = sym (ap (λ (t : Table). length t.rows) c.self.view_is) ∙ length-rows_of _ _ in
-    omega (arith, c.requires.inside k d h, ap length c.deref.ensures.value, long, rows)
-
-pub loop-column-preserved : goal.loop-column-preserved
-loop-column-preserved c =
+pub loop-c-preserved : goal.loop-c-preserved
+loop-c-preserved c =
     let places = c.args.places.now in
-    let held = λ (column : Vec ℤ Global). column.items in
-    let picks = λ (column : Vec ℤ Global). picked places column.items in
-    let xs = c.deref-column-items.result.now in
-    let i = c.loop-column.column-index in
-    let item = c.column-item.result in
-    let next : c.in_ok-numbers_at.field-0.items ≡ picks (get_or xs i item) = c.in_ok-numbers_at.ensures ∙ ap (picked places) (c.deref.ensures.value ∙ ap held c.column-item.is) in
-    ap (map held) c.in_ok-push.ensures.items ∙ map-append held c.loop-column.columns.items (c.in_ok-numbers_at.field-0 ∷ [])
-    ∙ (λ o. c.loop-column.invariant o ++ (next o ∷ []))
-    ∙ sym (ap (map picks) (take_more xs i item c.loop-column-test.true) ∙ map-append picks (take i xs) (get_or xs i item ∷ []))
+    let rows = c.args.self.now.rows in
+    let k = c.loop-c.c in
+    let column : map (λ place. get_or c.column.result.now place (pos 0)) places ≡ column_of k (rows_at places rows) =
+    ap (λ (numbers : List ℤ). map (λ place. get_or numbers place (pos 0)) places) c.column.ensures ∙ column_of-rows_at places rows k c.requires.inside in
+    c.in_ok-put_numbers.ensures ∙ (λ o. c.loop-c.invariant o ++ column o) ∙ by_columns-more k (rows_at places rows)
 
-pub invariant_of-result : goal.invariant_of-result
-invariant_of-result c =
+pub from_numbers-requires : goal.from_numbers-requires
+from_numbers-requires c =
     let places = c.args.places.now in
-    let held = λ (column : Vec ℤ Global). column.items in
-    let picks = λ (column : Vec ℤ Global). picked places column.items in
-    let rest = take c.loop-column.column-index c.deref-column-items.result.now in
-    let cols = c.loop-column.columns.items in
-    let whole : rest ≡ c.self.inside.columns.items = take_all _ _ (omega arith) ∙ c.deref-column-items.ensures.value in
-    let wide : length c.self.inside.columns.items ≡ length cols = ap length (sym whole) ∙ sym (length-map rest picks) ∙ ap length (sym c.loop-column.invariant) ∙ length-map cols held in
+    let rows = c.args.self.now.rows in
+    let all : c.loop-c.c ≡ c.self.inside.width = omega arith in
+    let are : c.loop-c.numbers.items ≡ by_columns c.self.inside.width (rows_at places rows) = c.loop-c.invariant ∙ ap (λ n. by_columns n (rows_at places rows)) all in
     record {
-      width = subst IsWidth wide c.self.invariant.width;
-      even =
-          All-length_items c.loop-column.columns.items (map picks rest) (length places) c.loop-column.invariant
-          (All-map (λ (list : List ℤ). length list ≡ length places) picks rest (λ k d h. length-map places (λ place. get_or (get_or rest k d).items place _)));
+      sized = c.self.invariant.sized;
+      whole = by_columns_whole c.loop-c.numbers.items (rows_at places rows) c.self.inside.width (length places) are (length-map places (λ place. get_or rows place []));
       few =
-          let rows : length c.args.self.now.rows ≡ c.self.inside.count = sym (ap (λ (t : Table). length t.rows) c.self.view_is) ∙ length-rows_of _ _ in
+          let many : length rows ≡ c.self.inside.count = sym (ap (λ (t : Table). length t.rows) c.self.view_is) ∙ length-rows_of _ _ in
           omega (arith, c.requires.few, c.self.invariant.few);
     }
 
 pub returns : goal.returns
 returns c =
     let places = c.args.places.now in
-    let held = λ (column : Vec ℤ Global). column.items in
-    let picks = λ (column : Vec ℤ Global). picked places column.items in
-    let cols = c.loop-column.columns.items in
-    let xs = c.self.inside.columns.items in
-    let n = c.self.inside.count in
-    let whole : take c.loop-column.column-index c.deref-column-items.result.now ≡ xs = take_all _ _ (omega arith) ∙ c.deref-column-items.ensures.value in
-    let are : map held cols ≡ map picks xs = c.loop-column.invariant ∙ ap (map picks) whole in
-    let lists : map held cols ≡ map (picked places) (map held xs) = are ∙ sym (map-map (picked places) held xs) in
-    let rows : length c.args.self.now.rows ≡ n = sym (ap (λ (t : Table). length t.rows) c.self.view_is) ∙ length-rows_of _ _ in
-    let inside : All (λ place. place < n) places = subst (λ m. All (λ place. place < m) places) rows c.requires.inside in
-    let wide : length cols ≡ length xs = sym (length-map cols held) ∙ ap length are ∙ length-map xs picks in
-    let here : rows_of (map held cols) (length places) ≡ map (λ place. get_or (rows_of (map held xs) n) place []) places =
-    ap (λ (ls : List (List ℤ)). rows_of ls (length places)) lists ∙ rows_of-picked (map held xs) places n inside in
-    (λ o. record { width = wide o; rows = here o }) ∙ ap (λ (t : Table). with_rows t (map (λ place. get_or t.rows place []) places)) c.self.view_is
+    let rows = c.args.self.now.rows in
+    let width = c.self.inside.width in
+    let all : c.loop-c.c ≡ width = omega arith in
+    let are : c.loop-c.numbers.items ≡ by_columns width (rows_at places rows) = c.loop-c.invariant ∙ ap (λ n. by_columns n (rows_at places rows)) all in
+    let even : All (λ row. length row ≡ width) rows =
+    subst (All (λ (row : Record). length row ≡ width)) (ap (λ (t : Table). t.rows) c.self.view_is) (rows_even c.self.inside.numbers.items width c.self.inside.count) in
+    c.from_numbers.ensures
+    ∙ table_is c.loop-c.numbers.items (rows_at places rows) width (length places) are (length-map places (λ place. get_or rows place [])) (rows_at_even places rows width c.requires.inside even)
+    ∙ ap (λ (t : Table). with_rows t (rows_at places rows)) c.self.view_is

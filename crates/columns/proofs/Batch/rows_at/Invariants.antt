@@ -1,6 +1,8 @@
-use Rattle.std.proofs.Common.{◌≡◌, map, take}
-use Rattle.columns.proofs.Picked.{picked}
+use Rattle.std.proofs.Common.{◌≡◌}
+use Rattle.std.specs.List.{flat_map, range_with_len}
+use Rattle.plain_data.specs.Record.{column_of}
+use Rattle.columns.proofs.Picked.{rows_at}
 use Rattle.columns.proofs.Batch.rows_at.Given as goal
 
-abbrev pub invariant-loop-column : goal.invariant-loop-column
-invariant-loop-column l = map (λ column. column.items) l.columns.items ≡ map (λ column. picked l.places column.items) (take l.column-index l.column-items)
+abbrev pub invariant-loop-c : goal.invariant-loop-c
+invariant-loop-c l = l.numbers.items ≡ flat_map (λ c. column_of c (rows_at l.places l.self.rows)) (range_with_len 0 l.c)

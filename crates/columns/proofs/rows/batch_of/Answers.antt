@@ -1,12 +1,23 @@
-use Rattle.std.proofs.Common.{sym, subst}
-use Rattle.columns.specs.Table.{IsWidth}
-use Rattle.columns.proofs.Columns.{length-columns, table_is}
+use Rattle.std.proofs.Common.{◌≡◌, length, Vec, ℤ, Global, ◌∙◌}
+use Rattle.std.proofs.lemmas.List.{length-map}
+use Rattle.std.proofs.lemmas.List.Elements.{All-map}
+use Rattle.plain_data.specs.Record.{Record}
+use Rattle.columns.specs.Table.{rows_in}
+use Rattle.columns.proofs.Columns.{by_columns_whole, table_is}
 use Rattle.columns.proofs.rows.batch_of.Goals as goal
 
-pub invariant_of-result : goal.invariant_of-result
-invariant_of-result c =
-    let made = length-columns c.in_ok-columns.columns.items c.args.rows.now c.args.width c.in_ok-columns.ensures in
-    record { width = subst IsWidth (sym made.0) c.requires.sized; even = made.1; few = c.requires.few }
+pub from_numbers-requires : goal.from_numbers-requires
+from_numbers-requires c = record {
+  sized = c.requires.sized;
+  whole =
+      let rows = c.args.rows.now in
+      by_columns_whole c.in_ok-numbers.numbers.items (rows_in rows) c.args.width (length rows) c.in_ok-numbers.ensures (length-map rows (λ (row : Vec ℤ Global). row.items));
+  few = c.requires.few;
+}
 
 pub returns : goal.returns
-returns c = table_is c.in_ok-columns.columns.items c.args.rows.now c.args.width c.in_ok-columns.ensures c.requires.even
+returns c =
+    let rows = c.args.rows.now in
+    c.from_numbers.ensures
+    ∙ table_is c.in_ok-numbers.numbers.items (rows_in rows) c.args.width (length rows) c.in_ok-numbers.ensures (length-map rows (λ (row : Vec ℤ Global). row.items))
+    (All-map (λ (row : Record). length row ≡ c.args.width) (λ (row : Vec ℤ Global). row.items) rows c.requires.even)

@@ -1,14 +1,21 @@
-use Rattle.std.proofs.Common.{sym, subst, ◌∙◌}
-use Rattle.columns.specs.Table.{IsWidth}
-use Rattle.stream_input.proofs.Tables.{count_of, columns_long, batch_is}
+use Rattle.std.proofs.Common.{length, map, ◌∙◌}
+use Rattle.std.proofs.lemmas.List.{length-map}
+use Rattle.columns.proofs.Facts.{by_columns_whole, table_is}
+use Rattle.stream_input.specs.Said.{record_of}
+use Rattle.stream_input.proofs.Tables.{even_records}
 use Rattle.stream_input.proofs.building.batch_of.Goals as goal
 
-pub from_columns-requires : goal.from_columns-requires
-from_columns-requires c = record {
-  width = subst IsWidth (sym (count_of c.in_ok-found.found.items _ c.args.columns c.in_ok-found.ensures)) c.requires.width;
-  even = columns_long c.in_ok-found.found.items c.args.rows.now c.args.columns c.in_ok-found.ensures;
-  few = c.requires.few;
-}
+pub from_numbers-requires : goal.from_numbers-requires
+from_numbers-requires c =
+    let rows = c.args.rows.now in
+    record {
+      sized = c.requires.width;
+      whole = by_columns_whole c.in_ok-numbers.numbers.items (map record_of rows) c.args.columns (length rows) c.in_ok-numbers.ensures (length-map rows record_of);
+      few = c.requires.few;
+    }
 
 pub returns : goal.returns
-returns c = c.from_columns.ensures ∙ batch_is c.in_ok-found.found.items c.args.rows.now c.args.columns c.in_ok-found.ensures c.requires.wide
+returns c =
+    let rows = c.args.rows.now in
+    c.from_numbers.ensures
+    ∙ table_is c.in_ok-numbers.numbers.items (map record_of rows) c.args.columns (length rows) c.in_ok-numbers.ensures (length-map rows record_of) (even_records rows c.args.columns c.requires.wide)

@@ -1,6 +1,0 @@
-use Rattle.std.proofs.Common.{◌≡◌}
-use Rattle.stream_input.specs.Fit.{column_in_cells}
-use Rattle.stream_input.proofs.cells.column_at.Given as goal
-
-abbrev pub invariant-loop-row : goal.invariant-loop-row
-invariant-loop-row l = l.numbers.items ≡ column_in_cells l.width l.row l.cells l.column
