@@ -1,0 +1,13 @@
+//! What may stand in a text and is easily overlooked: a member that stands twice, of which the last counts, and
+//! a watermark of an input that is below one before it.
+//!
+//! It serves to warn a person of what a text does not mean. What a text says is decided by `json_parts` and
+//! `serde_json`.
+#![tactic(auto)]
+
+mod mark;
+mod open;
+mod walk;
+mod warning;
+
+pub use warning::{TextKind, warn, warnings_of};
