@@ -14,6 +14,7 @@ use job::JobFault;
 use logical_plan::Plan;
 use std::io::writer;
 use std::rt::Files;
+use text_warnings::{TextKind, warn};
 
 /// The names of the files.
 #[derive(Clone, Copy)]
@@ -83,7 +84,43 @@ fn check_texts<R: Print + AllocGlobal>(
     }
 }
 
-/// Prints the places at which a plan is refused, or else an input or a scale of it, where they are named.
+/// Prints what in the texts is easily overlooked, whether they are refused or not.
+fn warn_of_texts<R: Print + AllocGlobal>(
+    rt: &R,
+    plan: &[u8],
+    input: Option<&[u8]>,
+    scale: Option<&[u8]>,
+    names: Names<'_>,
+) {
+    warn(
+        rt.alloc(),
+        plan,
+        names.plan,
+        TextKind::Plan,
+        &mut writer(rt),
+    );
+    if let Some(bytes) = input {
+        warn(
+            rt.alloc(),
+            bytes,
+            names.input,
+            TextKind::Input,
+            &mut writer(rt),
+        );
+    }
+    if let Some(bytes) = scale {
+        warn(
+            rt.alloc(),
+            bytes,
+            names.scale,
+            TextKind::Scale,
+            &mut writer(rt),
+        );
+    }
+}
+
+/// Prints the places at which a plan is refused, or else an input or a scale of it, where they are named, and then
+/// the warnings of each.
 ///
 /// # Errors
 ///
@@ -104,11 +141,19 @@ pub fn check<R: Files + Print + AllocGlobal>(
     let plan_bytes = file(rt, plan)?;
     let input_bytes = optional_file(rt, input)?;
     let scale_bytes = optional_file(rt, scale)?;
-    check_texts(
+    let answer = check_texts(
         rt,
         &plan_bytes,
         input_bytes.as_deref(),
         scale_bytes.as_deref(),
         names,
-    )
+    );
+    warn_of_texts(
+        rt,
+        &plan_bytes,
+        input_bytes.as_deref(),
+        scale_bytes.as_deref(),
+        names,
+    );
+    answer
 }
