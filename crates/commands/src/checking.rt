@@ -120,7 +120,7 @@ fn warn_of_texts<R: Print + AllocGlobal>(
 }
 
 /// Prints the places at which a plan is refused, or else an input or a scale of it, where they are named, and then
-/// the warnings of each.
+/// the warnings of each. Where there is no memory for the answer it prints nothing.
 ///
 /// # Errors
 ///
@@ -148,12 +148,14 @@ pub fn check<R: Files + Print + AllocGlobal>(
         scale_bytes.as_deref(),
         names,
     );
-    warn_of_texts(
-        rt,
-        &plan_bytes,
-        input_bytes.as_deref(),
-        scale_bytes.as_deref(),
-        names,
-    );
+    if !matches!(answer, Err(JobFault::Memory)) {
+        warn_of_texts(
+            rt,
+            &plan_bytes,
+            input_bytes.as_deref(),
+            scale_bytes.as_deref(),
+            names,
+        );
+    }
     answer
 }
