@@ -301,7 +301,7 @@ The input has a uid that is none of the plan's sources, or lacks one of them.
 {"call": [[{"rows": [[1, 7]]}]]}
 ```
 
-Each source of the plan stands once, a source without records too. Of two members with one uid the last counts, and nothing is told.
+Each source of the plan stands once, a source without records too. Of two members with one uid the last counts, and only `check` tells of it.
 "#,
     ),
     (
