@@ -104,11 +104,29 @@ impl<'t> Walk<'t> {
         self.found.tell(fall.mark.offset, sentence)
     }
 
-    fn pass_end(&mut self) -> Result<(), AllocError>
+    /// Warns of a partition that ends, where its watermarks never rise.
+    fn end_partition(&mut self, offset: usize) -> Result<(), AllocError>
         ensures { self.new.found.end ≡ self.old.found.end }
     {
-        if self.kind == TextKind::Input && self.open.len() == IN_ENTRY {
-            self.end_entry()?;
+        let Some(level) = self.marks.level() else {
+            return Ok(());
+        };
+        let (count, first) = (level.count, level.first);
+        let sentence = format!(in self.alloc;
+            "a partition ends here whose {count} watermarks never rise: none is above the first, {first}"
+        )?;
+        self.found.tell(offset, sentence)
+    }
+
+    fn pass_end(&mut self, offset: usize) -> Result<(), AllocError>
+        ensures { self.new.found.end ≡ self.old.found.end }
+    {
+        if self.kind == TextKind::Input {
+            match self.open.len() {
+                IN_ENTRY => self.end_entry()?,
+                IN_PARTITION => self.end_partition(offset)?,
+                _ => {}
+            }
         }
         let _ = self.open.pop();
         Ok(())
@@ -121,7 +139,7 @@ impl<'t> Walk<'t> {
             Token::Key(name) => self.pass_name(offset, name),
             Token::BeginArray => self.pass_list(),
             Token::BeginObject => self.pass_object(),
-            Token::EndArray | Token::EndObject => self.pass_end(),
+            Token::EndArray | Token::EndObject => self.pass_end(offset),
             Token::Number(number) => {
                 self.pass_number(offset, number);
                 Ok(())

@@ -29,7 +29,8 @@ fn is_json(alloc: Global, text: &str) -> Result<bool, AllocError>
 
 /// What in the bytes of a text is easily overlooked, in the order in which it is found, and of many the first 20: each
 /// member whose name stands in its object before, and in an input each watermark that is below one before it in
-/// its partition. A text that is no JSON has none.
+/// its partition, and the end of each partition of which no watermark is above the first of two or more. A text
+/// that is no JSON has none.
 ///
 /// # Errors
 ///
