@@ -1,7 +1,7 @@
 -- The status of a refusal.
 use Rattle.std.specs.Prelude.{ℕ}
 use Rattle.imports.specs.declared.refusal.ImportCode.{ImportCode}
-use Rattle.imports.specs.declared.refusal.ImportCode.TheVariants.{Columns, Sources, Header, Width, Value, TimeRange, LateRow, Names, Number, Read, Write}
+use Rattle.imports.specs.declared.refusal.ImportCode.TheVariants.{Columns, Sources, Header, Width, Value, TimeRange, LateRow, Names, Object, Number, Read, Write}
 use Rattle.imports.specs.declared.refusal.ImportFault.{ImportFault}
 use Rattle.imports.specs.declared.refusal.ImportFault.TheVariants as faults
 
@@ -16,6 +16,7 @@ code_status Value = 3
 code_status TimeRange = 3
 code_status LateRow = 3
 code_status Names = 3
+code_status Object = 3
 code_status Read = 3
 code_status Write = 3
 

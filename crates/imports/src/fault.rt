@@ -3,6 +3,7 @@
 use csv::{Error, ErrorKind};
 use field_values::FieldFault;
 use import_entries::PlaceFault;
+use object_lines::{LineFault, MemberFault};
 use std::alloc::{AllocError, AllocFailed};
 use std::io;
 
@@ -17,6 +18,10 @@ pub enum RowFault {
     FieldTwice(usize),
     /// The record has so many fields, and the header so many.
     Width(usize, usize),
+    /// The line is no JSON object.
+    NoObject,
+    /// The member of this column's name has no text.
+    Member(usize, MemberFault),
     /// The text of this column's field, which stands at this place of the record, is not what the column wants.
     Value(usize, usize, FieldFault),
     /// The text of this column's field is a name that is no UTF-8.
@@ -65,5 +70,15 @@ pub(crate) fn write_fault(error: &Error) -> RowFault {
     match error.kind() {
         ErrorKind::OutOfMemory => RowFault::Memory,
         _ => RowFault::Write,
+    }
+}
+
+/// The fault of a line that gives no record.
+pub(crate) fn line_fault(fault: LineFault) -> RowFault {
+    match fault {
+        LineFault::Read => RowFault::Read,
+        LineFault::NoObject => RowFault::NoObject,
+        LineFault::Member(column, fault) => RowFault::Member(column, fault),
+        LineFault::Memory => RowFault::Memory,
     }
 }

@@ -1,8 +1,8 @@
 //! An import of files.
 
+use crate::kinds::Records;
 use crate::late::LateRows;
 use crate::partition::copy_rows;
-use crate::records::CsvRows;
 use crate::refusal::ImportFault;
 use crate::telling::{refused_file, refused_row};
 use crate::words::files_of;
@@ -50,7 +50,7 @@ fn import_rows<R: Files + AllocGlobal, W: Write, L: Write + Drop>(
     rt: &R,
     rule: ImportRule<'_>,
     path: &str,
-    rows: &mut CsvRows<R::File>,
+    rows: &mut Records<R::File>,
     names: &mut NameTable,
     late: &mut Option<LateRows<L>>,
     out: &mut W,
@@ -80,10 +80,10 @@ fn import_file<R: Files + AllocGlobal, W: Write, L: Write + Drop>(
     out: &mut W,
 ) -> Result<(), ImportFault> {
     match File::open(rt, path) {
-        Ok(file) => {
-            let mut rows = CsvRows::new(rt.alloc(), file);
-            import_rows(rt, rule, path, &mut rows, names, late, out)
-        }
+        Ok(file) => match Records::new(rt.alloc(), path, file) {
+            Ok(mut rows) => import_rows(rt, rule, path, &mut rows, names, late, out),
+            Err(_) => Err(ImportFault::Memory),
+        },
         Err(error) => Err(open_fault(rt.alloc(), path, &error)),
     }
 }

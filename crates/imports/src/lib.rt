@@ -1,8 +1,9 @@
-//! An import: from CSV files to the JSON text of an input, in one pass, with no more than one entry's rows in memory.
+//! An import: from CSV and NDJSON files to the JSON text of an input, in one pass, with no more than one entry's rows in memory.
 #![tactic(auto)]
 
 mod fault;
 mod files;
+mod kinds;
 mod late;
 mod names;
 mod partition;
@@ -15,6 +16,7 @@ mod words;
 
 pub use fault::RowFault;
 pub use files::{ImportRule, import_files};
+pub use kinds::Records;
 pub use late::LateRows;
 pub use names::{read_names, text_of_names};
 pub use partition::copy_rows;

@@ -6,9 +6,8 @@ ghost use Rattle.entry_texts.specs.Partitions.{rule_of, text_of};
 ghost use Rattle.imports.specs.Copies.{Writes, StaysWritten, WritesPartition};
 
 use crate::fault::RowFault;
+use crate::kinds::{Records, fields_of};
 use crate::late::LateRows;
-use crate::placing::places_of;
-use crate::records::CsvRows;
 use crate::row::fill_row;
 use entry_texts::{PartitionText, PutFault};
 use import_columns::Column;
@@ -61,8 +60,8 @@ fn put(partition: &mut PartitionText, row: &[i64], time: usize) -> Result<(), Ro
 }
 
 /// Puts a row into a partition, or, where it is late, among the late rows, if there is a place for them.
-fn put_or_keep<R: Read, L: Write + Drop>(
-    rows: &CsvRows<R>,
+fn put_or_keep<R: Read + Drop, L: Write + Drop>(
+    rows: &Records<R>,
     columns: &[Column<'_>],
     places: &[usize],
     row: &[i64],
@@ -82,10 +81,10 @@ fn put_or_keep<R: Read, L: Write + Drop>(
     }
 }
 
-/// Copies the records behind the header, each as a row.
-fn copy_records<R: Read, W: Write, L: Write + Drop>(
+/// Copies the records, each as a row.
+fn copy_records<R: Read + Drop, W: Write, L: Write + Drop>(
     alloc: Global,
-    rows: &mut CsvRows<R>,
+    rows: &mut Records<R>,
     columns: &[Column<'_>],
     places: &[usize],
     time: usize,
@@ -97,9 +96,10 @@ fn copy_records<R: Read, W: Write, L: Write + Drop>(
     ensures rule { rule_of partition.new ≡ rule_of partition.old }
     ensures writes { (start : Option (List ℕ)) → Writes start (W.contents out.old) partition.old → OnOk result (Writes start (W.contents out.new) partition.new) }
 {
+    let fields = fields_of(alloc, columns)?;
     let mut row = Vec::new(alloc);
     for _ in 0..u64::MAX {
-        if !rows.advance()? {
+        if !rows.advance(&fields)? {
             return Ok(());
         }
         fill_row(&mut row, names, columns, places, rows.record())?;
@@ -115,9 +115,9 @@ fn copy_records<R: Read, W: Write, L: Write + Drop>(
 /// # Errors
 ///
 /// The fault of the first record that is refused, which is then the one that `rows` has.
-pub fn copy_rows<R: Read, W: Write, L: Write + Drop>(
+pub fn copy_rows<R: Read + Drop, W: Write, L: Write + Drop>(
     alloc: Global,
-    rows: &mut CsvRows<R>,
+    rows: &mut Records<R>,
     columns: &[Column<'_>],
     time: usize,
     names: &mut NameTable,
@@ -127,8 +127,7 @@ pub fn copy_rows<R: Read, W: Write, L: Write + Drop>(
 ) -> Result<(), RowFault>
     ensures { OnOk result (WritesPartition rule (W.contents out.old) (W.contents out.new)) }
 {
-    let _is_empty = rows.advance()?;
-    let places = places_of(alloc, rows.record(), columns)?;
+    let places = rows.begin(alloc, columns)?;
     let mut partition = PartitionText::new(alloc, rule);
     copy_records(
         alloc,

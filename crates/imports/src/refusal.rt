@@ -25,6 +25,8 @@ pub enum ImportCode {
     LateRow,
     /// A table of names.
     Names,
+    /// A line of an NDJSON file that is no JSON object, or lacks a member or has it twice.
+    Object,
     /// A word that is to be a number in its range.
     Number,
     /// A file that cannot be read.
@@ -44,6 +46,7 @@ impl fmt::Display for ImportCode {
             ImportCode::TimeRange => "D6 TimeRange",
             ImportCode::LateRow => "D7 LateRow",
             ImportCode::Names => "D8 Names",
+            ImportCode::Object => "D9 Object",
             ImportCode::Number => "C2 Number",
             ImportCode::Read => "F1 Read",
             ImportCode::Write => "F2 Write",

@@ -1,11 +1,13 @@
 //! The sentences of refusals: where something stands, and what it has to be.
 
 use crate::fault::RowFault;
+use crate::kinds::Records;
 use crate::records::CsvRows;
 use crate::refusal::{ImportCode, ImportFault, refused};
 use field_values::FieldFault;
 use import_columns::{Column, ColumnKind, ValueKind};
 use import_entries::PlaceFault;
+use object_lines::MemberFault;
 use std::alloc::{AllocError, Global};
 use std::io::Read;
 use std::str;
@@ -127,13 +129,43 @@ fn refused_width(alloc: Global, spot: Spot<'_>, width: usize, wanted: usize) -> 
     )
 }
 
+/// The refusal of a line that is no object.
+fn refused_object(alloc: Global, spot: Spot<'_>) -> ImportFault {
+    let (file, line) = (spot.file, spot.line);
+    refused(
+        ImportCode::Object,
+        format!(in alloc; "{file}:{line}: the line is no JSON object"),
+    )
+}
+
+/// The refusal of a member without a text.
+fn refused_member(alloc: Global, spot: Spot<'_>, name: &str, fault: MemberFault) -> ImportFault {
+    let (file, line) = (spot.file, spot.line);
+    match fault {
+        MemberFault::Missing => refused(
+            ImportCode::Object,
+            format!(in alloc; "{file}:{line}: the object has no member {name:?}"),
+        ),
+        MemberFault::Twice => refused(
+            ImportCode::Object,
+            format!(in alloc; "{file}:{line}: the object has twice the member {name:?}"),
+        ),
+        MemberFault::NoText => refused(
+            ImportCode::Value,
+            format!(in alloc;
+                "{file}:{line}: {name}: null, a list or an object is no string, number, true or false"
+            ),
+        ),
+    }
+}
+
 /// The refusal of the record that `rows` has, in the file of a name.
-pub(crate) fn refused_row<R: Read>(
+pub(crate) fn refused_row<R: Read + Drop>(
     alloc: Global,
     file: &str,
     columns: &[Column<'_>],
     time: usize,
-    rows: &CsvRows<R>,
+    rows: &Records<R>,
     fault: RowFault,
 ) -> ImportFault {
     let line = rows.line();
@@ -149,6 +181,10 @@ pub(crate) fn refused_row<R: Read>(
             refused_header(alloc, spot, name_of(columns, column), "has twice the field")
         }
         RowFault::Width(width, wanted) => refused_width(alloc, spot, width, wanted),
+        RowFault::NoObject => refused_object(alloc, spot),
+        RowFault::Member(column, fault) => {
+            refused_member(alloc, spot, name_of(columns, column), fault)
+        }
         RowFault::Value(column, place, fault) => {
             let text = rows.record().get(place).unwrap_or(b"");
             refused_value(alloc, spot, columns, column, text, fault)

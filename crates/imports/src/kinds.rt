@@ -1,0 +1,112 @@
+//! The records of a file, whatever kind of file it is.
+
+use crate::fault::{RowFault, line_fault};
+use crate::placing::places_of;
+use crate::records::CsvRows;
+use csv::ByteRecord;
+use import_columns::Column;
+use object_lines::ObjectLines;
+use std::alloc::Global;
+use std::io::Read;
+
+/// The records of a file, one after the other.
+#[derive(Drop)]
+pub enum Records<R> {
+    /// Those of a CSV text behind its header: all fields of a row.
+    Rows(CsvRows<R>),
+    /// Those of an NDJSON text: of the object of a line the members that columns ask for, in their order.
+    Objects(ObjectLines<R>),
+}
+
+/// Whether the name of a file says that it is NDJSON.
+fn is_ndjson(path: &str) -> bool {
+    path.ends_with(".ndjson") || path.ends_with(".jsonl")
+}
+
+/// The names of the fields that columns ask for.
+pub(crate) fn fields_of<'w>(
+    alloc: Global,
+    columns: &[Column<'w>],
+) -> Result<Vec<&'w str>, RowFault> {
+    let mut fields = Vec::new(alloc);
+    for column in columns {
+        fields.push(column.field)?;
+    }
+    Ok(fields)
+}
+
+/// The first places of a record.
+fn first_places(alloc: Global, count: usize) -> Result<Vec<usize>, RowFault> {
+    let mut places = Vec::new(alloc);
+    for place in 0..count {
+        places.push(place)?;
+    }
+    Ok(places)
+}
+
+impl<R: Read + Drop> Records<R> {
+    /// The records of what a reader of the file at a path gives: of NDJSON where the path ends so, and else of CSV.
+    ///
+    /// # Errors
+    ///
+    /// `Memory`.
+    pub fn new(alloc: Global, path: &str, input: R) -> Result<Records<R>, RowFault> {
+        if !is_ndjson(path) {
+            return Ok(Records::Rows(CsvRows::new(alloc, input)));
+        }
+        match ObjectLines::new(alloc, input) {
+            Ok(lines) => Ok(Records::Objects(lines)),
+            Err(fault) => Err(line_fault(fault)),
+        }
+    }
+
+    /// Goes to where the first record is next, and tells the place of each column's text in all of them, counted from 0.
+    ///
+    /// # Errors
+    ///
+    /// `Read`; those of the header that a CSV text has; `Memory`.
+    pub(crate) fn begin(
+        &mut self,
+        alloc: Global,
+        columns: &[Column<'_>],
+    ) -> Result<Vec<usize>, RowFault> {
+        match self {
+            Records::Rows(rows) => {
+                let _is_empty = rows.advance()?;
+                places_of(alloc, rows.record(), columns)
+            }
+            Records::Objects(_) => first_places(alloc, columns.len()),
+        }
+    }
+
+    /// Goes on to the next record, and tells whether there is one. Blank lines are passed over.
+    ///
+    /// # Errors
+    ///
+    /// `Read`; `Width`; `NoObject` or `Member` where the line is no object with a text for each of the fields; `Memory`.
+    pub(crate) fn advance(&mut self, fields: &[&str]) -> Result<bool, RowFault> {
+        match self {
+            Records::Rows(rows) => rows.advance(),
+            Records::Objects(lines) => match lines.advance(fields) {
+                Ok(is_there) => Ok(is_there),
+                Err(fault) => Err(line_fault(fault)),
+            },
+        }
+    }
+
+    /// The record.
+    pub(crate) fn record(&self) -> &ByteRecord {
+        match self {
+            Records::Rows(rows) => rows.record(),
+            Records::Objects(lines) => lines.record(),
+        }
+    }
+
+    /// The line at which the record begins, counted from 1.
+    pub(crate) fn line(&self) -> u64 {
+        match self {
+            Records::Rows(rows) => rows.line(),
+            Records::Objects(lines) => lines.line(),
+        }
+    }
+}

@@ -1,0 +1,112 @@
+//! The lines of a text.
+
+use crate::fault::LineFault;
+use crate::text::fill_from_text;
+use csv::ByteRecord;
+use json::Scratch;
+use std::alloc::Global;
+use std::io;
+use std::io::{BufRead, BufReader, ErrorKind, Read};
+
+/// The records of a text, one after the other: of each line, which is a JSON object, the texts of the members of some names.
+#[derive(Drop)]
+pub struct ObjectLines<R> {
+    alloc: Global,
+    reader: BufReader<R>,
+    line: Vec<u8>,
+    scratch: Scratch,
+    record: ByteRecord,
+    number: u64,
+}
+
+/// What comes of an error of reading.
+fn read_fault(error: &io::Error) -> LineFault {
+    match error.kind() {
+        ErrorKind::OutOfMemory => LineFault::Memory,
+        _ => LineFault::Read,
+    }
+}
+
+/// Whether a byte is white space of JSON.
+fn is_space(byte: u8) -> bool {
+    matches!(byte, b' ' | b'\t' | b'\r' | b'\n')
+}
+
+/// A line without the byte order mark that the first may begin with.
+fn without_mark(line: &[u8], number: u64) -> &[u8] {
+    if number > 1 {
+        return line;
+    }
+    line.strip_prefix(b"\xef\xbb\xbf").unwrap_or(line)
+}
+
+impl<R: Read + Drop> ObjectLines<R> {
+    /// The records of what a reader gives.
+    ///
+    /// # Errors
+    ///
+    /// `Memory`.
+    pub fn new(alloc: Global, input: R) -> Result<ObjectLines<R>, LineFault> {
+        match BufReader::new(alloc, input) {
+            Ok(reader) => Ok(ObjectLines {
+                alloc,
+                reader,
+                line: Vec::new(alloc),
+                scratch: Scratch::new(alloc),
+                record: ByteRecord::new(alloc),
+                number: 0,
+            }),
+            Err(error) => Err(read_fault(&error)),
+        }
+    }
+
+    /// Goes on to the next line, and tells whether there is one.
+    fn next_line(&mut self) -> Result<bool, LineFault> {
+        self.line.clear();
+        match self.reader.read_until(b'\n', &mut self.line) {
+            Ok(0) => Ok(false),
+            Ok(_) => {
+                self.number = self.number.saturating_add(1);
+                Ok(true)
+            }
+            Err(error) => Err(read_fault(&error)),
+        }
+    }
+
+    /// Makes the record of the line, and tells whether there is one: a blank line has none.
+    fn fill(&mut self, names: &[&str]) -> Result<bool, LineFault> {
+        let text = without_mark(&self.line, self.number);
+        if text.iter().all(|byte| is_space(*byte)) {
+            return Ok(false);
+        }
+        fill_from_text(self.alloc, &mut self.record, names, text, &mut self.scratch)?;
+        Ok(true)
+    }
+
+    /// Goes on to the next line that is not blank, and tells whether there is one.
+    ///
+    /// # Errors
+    ///
+    /// `Read`; those of [`fill_record`](crate::fill_record), `NoObject` also where the line is no JSON text.
+    pub fn advance(&mut self, names: &[&str]) -> Result<bool, LineFault> {
+        for _ in 0..u64::MAX {
+            if !self.next_line()? {
+                return Ok(false);
+            }
+            if self.fill(names)? {
+                return Ok(true);
+            }
+        }
+        Err(LineFault::Read)
+    }
+
+    /// The record.
+    pub fn record(&self) -> &ByteRecord {
+        &self.record
+    }
+
+    /// The line of the record, counted from 1.
+    pub fn line(&self) -> u64 {
+        self.number
+    }
+}
