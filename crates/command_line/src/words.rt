@@ -224,10 +224,11 @@ fn check_words<'a>(alloc: Global) -> Result<Command<'a>, AllocError>
 }
 
 const IMPORT: &str = "\
-Each FILE is CSV with a header, and becomes a partition of its source; INPUT is written once all of them
-are read. COLUMNS has a field of the header for each number of a record, in the plan's order, with
-commas between: `bytes` is a whole number; `power:3` a decimal times 1000; `at:ms` a time in ISO 8601
-with its zone, in milliseconds since 1970; `customer:name` the number of a name in the file of --names;
+Each FILE is CSV with a header, or, where its name ends in .ndjson or .jsonl, a JSON object a line, and
+becomes a partition of its source; INPUT is written once all of them are read. COLUMNS has a field of the
+header, or a member of the objects, for each number of a record, in the plan's order, with commas
+between: `bytes` is a whole number; `power:3` a decimal times 1000; `at:ms` a time in ISO 8601 with its
+zone, in milliseconds since 1970; `customer:name` the number of a name in the file of --names;
 `status:ge:500` is 1 where the number is at least 500, else 0.
 
 Example: streamjob import plan.json input.json time:ms,customer:name,bytes --names names.csv api=0.csv,1.csv
@@ -237,7 +238,7 @@ Page: docs/FORMATS.md, under Import";
 fn import_files<'a>(alloc: Global) -> Result<Command<'a>, AllocError>
     ensures { IfOk result (λ c. IsCommand import_files_shape c) }
 {
-    let about = "Write an input of a plan from CSV files";
+    let about = "Write an input of a plan from CSV or NDJSON files";
     let command = named(alloc, "import", about, IMPORT);
     let command = required(alloc, command, "PLAN", PLAN)?;
     let command = required(alloc, command, "INPUT", "File to write the input to")?;
@@ -245,13 +246,13 @@ fn import_files<'a>(alloc: Global) -> Result<Command<'a>, AllocError>
         alloc,
         command,
         "COLUMNS",
-        "Fields of the CSV files that make a record, with commas between",
+        "Fields of the files that make a record, with commas between",
     )?;
     several(
         alloc,
         command,
         "SOURCE",
-        "SOURCE=FILE[,FILE..]: a source of the plan, and its CSV files, one for each partition",
+        "SOURCE=FILE[,FILE..]: a source of the plan, and its files, one for each partition",
     )
 }
 

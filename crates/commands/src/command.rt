@@ -38,7 +38,7 @@ pub enum Command<'a> {
         input: Option<&'a str>,
         scale: Option<&'a str>,
     },
-    /// Write an input of a plan from CSV files.
+    /// Write an input of a plan from CSV or NDJSON files.
     Import {
         plan: &'a str,
         words: ImportWords<'a>,

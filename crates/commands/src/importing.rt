@@ -41,7 +41,7 @@ fn after_import(answer: Result<(), ImportFault>) -> Result<(), CommandFault>
     }
 }
 
-/// Writes an input of a plan from CSV files.
+/// Writes an input of a plan from CSV or NDJSON files.
 ///
 /// # Errors
 ///

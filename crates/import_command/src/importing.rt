@@ -67,7 +67,7 @@ fn import_by<R: Files + RandomSource + AllocGlobal>(
     answer
 }
 
-/// Writes an input of a plan from the CSV files that words name, and with it the table of names and the late rows, where words ask
+/// Writes an input of a plan from the files that words name, and with it the table of names and the late rows, where words ask
 /// for these. Each file that is written holds what it held or all that is written.
 ///
 /// # Errors

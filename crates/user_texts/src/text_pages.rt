@@ -3,7 +3,7 @@
 use crate::page::FaultPage;
 
 /// The pages of the faults of a plan, of an input and of an import, in the order of docs/FAULTS.md.
-pub const TEXT_PAGES: [FaultPage<'static>; 33] = [
+pub const TEXT_PAGES: [FaultPage<'static>; 34] = [
     (
         "D1",
         r#"D1 Columns (status 2)
@@ -448,8 +448,9 @@ Put a text with a comma between double quotes, and double a quote within.
         "D5",
         r#"D5 Value (status 3)
 
-The text of a field is not what its column says: it is no number, has more decimal places than the column keeps, does not fit 64 bits, is no time
-in ISO 8601 with its zone, is finer than milliseconds or in no calendar, or is a name that is no UTF-8. Nothing is rounded, and an empty field is no number.
+The text of a field, or of a member, is not what its column says: it is no number, has more decimal places than the column keeps, does not fit 64 bits, is no time
+in ISO 8601 with its zone, is finer than milliseconds or in no calendar, or is a name that is no UTF-8. Nothing is rounded, and an empty field is no number. Of an
+NDJSON file a member that a column asks for may also be null, a list or an object, which have no text.
 
 ```csv calls.csv
 at,key
@@ -457,11 +458,17 @@ at,key
 6,2.389
 ```
 
+```ndjson calls.ndjson
+{"at":5,"key":null}
+```
+
 ```console
 $ streamjob import plan.json new.json at,key calls=calls.csv
 D5 Value calls.csv:3: key: "2.389" has more than 0 decimal places
 $ streamjob import plan.json new.json at:ms,key calls=calls.csv
 D5 Value calls.csv:2: at: "5" is no time with a zone, as 2026-03-01T12:00:00.5Z
+$ streamjob import plan.json new.json at,key calls=calls.ndjson
+D5 Value calls.ndjson:1: key: null, a list or an object is no string, number, true or false
 ```
 
 Ask for more places (`key:3`), or mend the field. [Import](FORMATS.md#import) has the form of each kind.
@@ -524,6 +531,32 @@ D8 Names names.csv:2: a record is NUMBER,NAME, with the numbers from 1 on and ea
 ```
 
 Name a file that `import` wrote, or one that is not there yet. A table whose lines changed gives other numbers than before.
+"#,
+    ),
+    (
+        "D9",
+        r#"D9 Object (status 3)
+
+A line of an NDJSON file, whose name ends in `.ndjson` or `.jsonl`, is no JSON object of UTF-8, or its object lacks the member of a column, or has it twice.
+
+```ndjson calls.ndjson
+{"at":5,"key":1,"note":{"any":["thing",null]}}
+{"at":6,"Key":1}
+```
+
+```ndjson cut.jsonl
+{"at":5,"key":
+```
+
+```console
+$ streamjob import plan.json new.json at,key calls=calls.ndjson
+D9 Object calls.ndjson:2: the object has no member "key"
+$ streamjob import plan.json new.json at,key calls=cut.jsonl
+D9 Object cut.jsonl:1: the line is no JSON object
+```
+
+Each line is one object: a list of them is split by `jq -c '.[]'`, and an object over several lines is joined by `jq -c .`. Spell the column as the member, in the
+same case; give a member that may be absent a value of its own before, as by `jq -c '.key = (.key // 0)'`.
 "#,
     ),
 ];
