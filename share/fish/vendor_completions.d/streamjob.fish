@@ -3,7 +3,7 @@ complete -c streamjob -f
 complete -c streamjob -n __fish_use_subcommand -a run -d 'Run a plan on an input and print its rows'
 complete -c streamjob -n __fish_use_subcommand -a simulate -d 'Run a job in legs by an order of steps that you choose, and print its rows'
 complete -c streamjob -n __fish_use_subcommand -a leg -d 'Run one leg of a job at a scale and print its rows'
-complete -c streamjob -n __fish_use_subcommand -a import -d 'Write an input of a plan from CSV files'
+complete -c streamjob -n __fish_use_subcommand -a import -d 'Write an input of a plan from CSV or NDJSON files'
 complete -c streamjob -n __fish_use_subcommand -a layout -d 'Print the stages, edges, partitions and key groups of a plan at a scale'
 complete -c streamjob -n __fish_use_subcommand -a check -d 'Print the places at which a plan, an input or a scale is refused'
 complete -c streamjob -n __fish_use_subcommand -a show -d 'Print what a savepoint holds'
@@ -29,4 +29,4 @@ complete -c streamjob -n '__fish_seen_subcommand_from check' -F
 complete -c streamjob -n '__fish_seen_subcommand_from check' -l scale -r -d 'JSON file of the scale: a ring'\''s capacity and each operator'\''s parallelism' -F
 complete -c streamjob -n '__fish_seen_subcommand_from show' -F
 complete -c streamjob -n '__fish_seen_subcommand_from group' -f
-complete -c streamjob -n '__fish_seen_subcommand_from explain' -f -a 'C1 C2 D1 D2 F1 F2 P1 P2 P3 P4 P5 P6 P7 P8 P9 P10 P11 P12 P13 P14 P15 I1 I2 I3 I4 I5 I6 I7 I8 I9 I10 D3 D4 D5 D6 D7 D8 S1 S2 S3 S4 S5 S6 S7 V1 V2 V3 V4 V5 Q1 Q2 Q3 Q4 Q5 Q6 Q7 Q8 Q9 Q11 Q12 L1 L3 L4 L5 L6 memory'
+complete -c streamjob -n '__fish_seen_subcommand_from explain' -f -a 'C1 C2 D1 D2 F1 F2 P1 P2 P3 P4 P5 P6 P7 P8 P9 P10 P11 P12 P13 P14 P15 I1 I2 I3 I4 I5 I6 I7 I8 I9 I10 D3 D4 D5 D6 D7 D8 D9 S1 S2 S3 S4 S5 S6 S7 V1 V2 V3 V4 V5 Q1 Q2 Q3 Q4 Q5 Q6 Q7 Q8 Q9 Q11 Q12 L1 L3 L4 L5 L6 memory'
