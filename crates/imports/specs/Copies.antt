@@ -1,5 +1,5 @@
 -- What is written of a partition.
-use Rattle.std.specs.Prelude.{◌≡◌, ℕ, List, ◌++◌, Option, Result, Ok, Err}
+use Rattle.std.specs.Prelude.{ℕ, List, ◌++◌, Option, Result, Ok, Err}
 use Rattle.std.specs.Io.KnownBytes.{Appends}
 use Rattle.import_entries.specs.declared.rule.EntryRule.{EntryRule}
 use Rattle.entry_texts.specs.EntryTexts.{end_text}

@@ -1,2 +1,5 @@
 pub mod Copies
+pub mod Judging
 pub mod Status
+pub mod Telling
+pub mod Words

@@ -1,5 +1,8 @@
 //! The sentences of refusals: where something stands, and what it has to be.
 
+ghost use Rattle.imports.specs.Judging.{IsRefusal};
+ghost use Rattle.imports.specs.Telling.{member_code, place_code, TellsRow, TellsNames};
+
 use crate::fault::RowFault;
 use crate::kinds::Records;
 use crate::records::CsvRows;
@@ -85,7 +88,9 @@ fn refused_value(
     column: usize,
     text: &[u8],
     fault: FieldFault,
-) -> ImportFault {
+) -> ImportFault
+    ensures { IsRefusal ImportCode.Value result }
+{
     let name = name_of(columns, column);
     match wrong(alloc, fault, places_kept(columns, column)) {
         Ok(wrong) => refused(
@@ -97,7 +102,9 @@ fn refused_value(
 }
 
 /// The refusal of a row by its place.
-fn refused_place(alloc: Global, spot: Spot<'_>, name: &str, fault: PlaceFault) -> ImportFault {
+fn refused_place(alloc: Global, spot: Spot<'_>, name: &str, fault: PlaceFault) -> ImportFault
+    ensures { IsRefusal (place_code fault) result }
+{
     let (file, line) = (spot.file, spot.line);
     match fault {
         PlaceFault::Range => refused(
@@ -112,7 +119,9 @@ fn refused_place(alloc: Global, spot: Spot<'_>, name: &str, fault: PlaceFault) -
 }
 
 /// The refusal of a header.
-fn refused_header(alloc: Global, spot: Spot<'_>, name: &str, what: &str) -> ImportFault {
+fn refused_header(alloc: Global, spot: Spot<'_>, name: &str, what: &str) -> ImportFault
+    ensures { IsRefusal ImportCode.Header result }
+{
     let (file, line) = (spot.file, spot.line);
     refused(
         ImportCode::Header,
@@ -121,7 +130,9 @@ fn refused_header(alloc: Global, spot: Spot<'_>, name: &str, what: &str) -> Impo
 }
 
 /// The refusal of a record's width.
-fn refused_width(alloc: Global, spot: Spot<'_>, width: usize, wanted: usize) -> ImportFault {
+fn refused_width(alloc: Global, spot: Spot<'_>, width: usize, wanted: usize) -> ImportFault
+    ensures { IsRefusal ImportCode.Width result }
+{
     let (file, line) = (spot.file, spot.line);
     refused(
         ImportCode::Width,
@@ -130,7 +141,9 @@ fn refused_width(alloc: Global, spot: Spot<'_>, width: usize, wanted: usize) -> 
 }
 
 /// The refusal of a line that is no object.
-fn refused_object(alloc: Global, spot: Spot<'_>) -> ImportFault {
+fn refused_object(alloc: Global, spot: Spot<'_>) -> ImportFault
+    ensures { IsRefusal ImportCode.Object result }
+{
     let (file, line) = (spot.file, spot.line);
     refused(
         ImportCode::Object,
@@ -139,7 +152,9 @@ fn refused_object(alloc: Global, spot: Spot<'_>) -> ImportFault {
 }
 
 /// The refusal of a member without a text.
-fn refused_member(alloc: Global, spot: Spot<'_>, name: &str, fault: MemberFault) -> ImportFault {
+fn refused_member(alloc: Global, spot: Spot<'_>, name: &str, fault: MemberFault) -> ImportFault
+    ensures { IsRefusal (member_code fault) result }
+{
     let (file, line) = (spot.file, spot.line);
     match fault {
         MemberFault::Missing => refused(
@@ -167,7 +182,9 @@ pub(crate) fn refused_row<R: Read + Drop>(
     time: usize,
     rows: &Records<R>,
     fault: RowFault,
-) -> ImportFault {
+) -> ImportFault
+    ensures { TellsRow fault result }
+{
     let line = rows.line();
     let spot = Spot { file, line };
     match fault {
@@ -204,7 +221,9 @@ pub(crate) fn refused_row<R: Read + Drop>(
 }
 
 /// The refusal of a file that cannot be read.
-pub(crate) fn refused_file(alloc: Global, file: &str) -> ImportFault {
+pub(crate) fn refused_file(alloc: Global, file: &str) -> ImportFault
+    ensures { IsRefusal ImportCode.Read result }
+{
     refused(ImportCode::Read, format!(in alloc; "{file}"))
 }
 
@@ -214,7 +233,9 @@ pub fn refused_names<R: Read>(
     file: &str,
     rows: &CsvRows<R>,
     fault: RowFault,
-) -> ImportFault {
+) -> ImportFault
+    ensures { TellsNames fault result }
+{
     let line = rows.line();
     match fault {
         RowFault::Read => refused_file(alloc, file),

@@ -1,6 +1,10 @@
 //! What the words of an import say.
 
-ghost use Rattle.std.specs.Prelude.{◌≡◌, length, OnOk};
+ghost use Rattle.std.specs.Prelude.{◌≡◌, map, length, bytes_eq};
+ghost use Rattle.std.specs.List.{list_all, list_any};
+ghost use Rattle.imports.specs.Judging.{IsRefusal, Judges};
+ghost use Rattle.imports.specs.Words.{parts, ReadsColumns, are_right};
+ghost use Rattle.imports.specs.Words.{only, files_named, GivesFiles, names_some, has_files, are_sources};
 
 use crate::refusal::{ImportCode, ImportFault, refused};
 use import_columns::{Column, ColumnFault, ColumnKind, read_column};
@@ -18,7 +22,9 @@ fn wrong_column(fault: ColumnFault) -> &'static str {
     }
 }
 
-fn refused_column(alloc: Global, word: &str, what: &str) -> ImportFault {
+fn refused_column(alloc: Global, word: &str, what: &str) -> ImportFault
+    ensures { IsRefusal ImportCode.Columns result }
+{
     refused(ImportCode::Columns, format!(in alloc; "{word:?}: {what}"))
 }
 
@@ -27,7 +33,9 @@ fn refused_column(alloc: Global, word: &str, what: &str) -> ImportFault {
 /// # Errors
 ///
 /// `Columns` where one of them is none; `Memory`.
-pub fn read_columns<'w>(alloc: Global, word: &'w str) -> Result<Vec<Column<'w>>, ImportFault> {
+pub fn read_columns<'w>(alloc: Global, word: &'w str) -> Result<Vec<Column<'w>>, ImportFault>
+    ensures { ReadsColumns word.now result }
+{
     let mut columns = Vec::new(alloc);
     for one in word.split(',') {
         match read_column(one) {
@@ -53,7 +61,7 @@ pub fn check_columns(
     wanted: u32,
     has_names: bool,
 ) -> Result<(), ImportFault>
-    ensures { OnOk result (length columns.now ≡ wanted) }
+    ensures { Judges (are_right columns.now wanted has_names) ImportCode.Columns result }
 {
     let count = columns.len();
     if count as u64 != u64::from(wanted) {
@@ -74,7 +82,9 @@ pub fn check_columns(
     Ok(())
 }
 
-fn refused_source(alloc: Global, word: &str, what: &str) -> ImportFault {
+fn refused_source(alloc: Global, word: &str, what: &str) -> ImportFault
+    ensures { IsRefusal ImportCode.Sources result }
+{
     refused(ImportCode::Sources, format!(in alloc; "{word:?}: {what}"))
 }
 
@@ -87,12 +97,14 @@ pub(crate) fn files_of<'w>(
     alloc: Global,
     words: &[&'w str],
     source: &SourceSpec,
-) -> Result<&'w str, ImportFault> {
+) -> Result<&'w str, ImportFault>
+    ensures { GivesFiles (only (files_named source.now.uid (map (λ word. word.now) words.now))) result }
+{
     let uid = source.uid.as_str();
     let mut found = None;
     for word in words {
         if let Some((name, files)) = word.split_once('=') {
-            if name == uid {
+            if uid == name {
                 if found.is_some() {
                     return Err(refused_source(alloc, uid, "its files are named twice"));
                 }
@@ -110,10 +122,24 @@ pub(crate) fn files_of<'w>(
     }
 }
 
-/// The name of the source of a word.
-fn source_of<'w>(alloc: Global, word: &'w str) -> Result<&'w str, ImportFault> {
+/// Whether one of the sources has a name.
+fn is_source(sources: &[SourceSpec], name: &str) -> bool
+    ensures { result ≡ list_any (λ source. bytes_eq source.uid name.now) sources.now }
+{
+    sources.iter().any(|source| source.uid.as_str() == name)
+}
+
+/// Refuses a word that names no source.
+fn check_word(alloc: Global, word: &str, sources: &[SourceSpec]) -> Result<(), ImportFault>
+    ensures { Judges (names_some sources.now word.now) ImportCode.Sources result }
+{
     match word.split_once('=') {
-        Some((name, _)) => Ok(name),
+        Some((name, _)) => {
+            if is_source(sources, name) {
+                return Ok(());
+            }
+            Err(refused_source(alloc, name, "the plan has no such source"))
+        }
         None => Err(refused_source(
             alloc,
             word,
@@ -122,11 +148,30 @@ fn source_of<'w>(alloc: Global, word: &'w str) -> Result<&'w str, ImportFault> {
     }
 }
 
+/// Refuses words of which one names no source.
+fn check_words(alloc: Global, words: &[&str], sources: &[SourceSpec]) -> Result<(), ImportFault>
+    ensures { Judges (list_all (names_some sources.now) (map (λ word. word.now) words.now)) ImportCode.Sources result }
+{
+    for word in words {
+        check_word(alloc, word, sources)?;
+    }
+    Ok(())
+}
+
+/// How many files a word names, with commas between.
+fn count_of(files: &str) -> usize
+    ensures { result ≡ length (parts files.now) }
+{
+    files.split(',').count()
+}
+
 /// Refuses a source with another number of files than it has partitions.
-fn check_files(alloc: Global, words: &[&str], source: &SourceSpec) -> Result<(), ImportFault> {
+fn check_files(alloc: Global, words: &[&str], source: &SourceSpec) -> Result<(), ImportFault>
+    ensures { Judges (has_files (map (λ word. word.now) words.now) source.now) ImportCode.Sources result }
+{
     let uid = source.uid.as_str();
     let wanted = source.partitions;
-    let count = files_of(alloc, words, source)?.split(',').count();
+    let count = count_of(files_of(alloc, words, source)?);
     if count as u64 == u64::from(wanted) {
         return Ok(());
     }
@@ -147,13 +192,10 @@ pub fn check_sources(
     alloc: Global,
     words: &[&str],
     sources: &[SourceSpec],
-) -> Result<(), ImportFault> {
-    for word in words {
-        let name = source_of(alloc, word)?;
-        if !sources.iter().any(|source| source.uid.as_str() == name) {
-            return Err(refused_source(alloc, name, "the plan has no such source"));
-        }
-    }
+) -> Result<(), ImportFault>
+    ensures { Judges (are_sources (map (λ word. word.now) words.now) sources.now) ImportCode.Sources result }
+{
+    check_words(alloc, words, sources)?;
     for source in sources {
         check_files(alloc, words, source)?;
     }
