@@ -129,15 +129,24 @@ impl Acc {
         if !are_numbers(count, kinds, numbers) {
             return None;
         }
+        Some(Acc::of(kinds, count, numbers))
+    }
+
+    /// The accumulator of so many records with these numbers, which they can come to.
+    pub fn of(kinds: &[Kind], count: u64, numbers: &[i128]) -> Acc
+        requires { IsAcc (record { kinds = kinds.now; total = record { count = count; numbers = numbers.now } }) }
+        ensures { result ≡ record { kinds = kinds.now; total = record { count = count; numbers = numbers.now } } }
+    {
+        let width = kinds.len();
         let mut all_kinds = [Kind::Count; MOST_AGGREGATES];
         let mut all_numbers = [0; MOST_AGGREGATES];
         all_kinds[..width].copy_from_slice(kinds);
         all_numbers[..width].copy_from_slice(numbers);
-        Some(Acc {
+        Acc {
             count,
             width,
             kinds: all_kinds,
             numbers: all_numbers,
-        })
+        }
     }
 }

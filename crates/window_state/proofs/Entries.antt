@@ -16,6 +16,7 @@ use Rattle.plan_model.specs.Rows.{pane_cmp, is_due, row_at}
 use Rattle.plan_model.proofs.Facts.{pane_cmp_total, pane_cmp-IsAntisymmetric}
 use Rattle.aggregates.specs.Kinds.{AccData}
 use Rattle.window_state.specs.Windows.{is_pane, acc_at, total_at, AreWindows}
+use Rattle.window_state.specs.Places.{AreSound}
 use Rattle.window_state.specs.State.{totals}
 use Rattle.window_state.specs.Firing.{rows_due}
 use Rattle.window_state.specs.Parts.{with_entry, entries_at}
@@ -43,11 +44,25 @@ found_total (e ∷ es) q =
 pub get-totals : (es : List (Pane × AccData)) (q : Pane) → get (from_entries {R = pane_cmp} (totals es)) q ≡ total_at es q
 get-totals es q = get-from_entries pane_cmp_total (totals es) q ∙ found_total es q
 
+-- it has none only where nothing stands
+pub no_total : (o : Option AccData) → option_map (λ (a : AccData). a.total) o ≡ None → o ≡ None
+no_total None h = refl
+no_total (Some a) h = absurd cc
+
+-- what has these numbers
+pub with_numbers : (o : Option AccData) (zs : List ℤ) → Some zs ≡ option_map (λ (a : AccData). a.total.numbers) o → (a : AccData) × (o ≡ Some a) × (zs ≡ a.total.numbers)
+with_numbers None zs h = absurd cc
+with_numbers (Some a) zs h = let same : zs ≡ a.total.numbers = cc in (a, refl, same)
+
+pub without_numbers : (o : Option AccData) → (let none : Option (List ℤ) = None in none ≡ option_map (λ (a : AccData). a.total.numbers) o) → o ≡ None
+without_numbers None h = refl
+without_numbers (Some a) h = absurd cc
+
 -- entries that have the same in each pane make the same map
 pub same_totals : (es fs : List (Pane × AccData)) → ((q : Pane) → acc_at es q ≡ acc_at fs q) → from_entries {R = pane_cmp} (totals es) ≡ from_entries (totals fs)
 same_totals es fs is = same_map pane_cmp_total pane_cmp-IsAntisymmetric _ _ (λ q. get-totals es q ∙ ap (option_map (λ (a : AccData). a.total)) (is q) ∙ sym (get-totals fs q))
 
-total_cond : (b : Bool) (a o : Option AccData) → option_map (λ (x : AccData). x.total) (cond b a o) ≡ cond b (option_map (λ (x : AccData). x.total) a) (option_map (λ (x : AccData). x.total) o)
+pub total_cond : (b : Bool) (a o : Option AccData) → option_map (λ (x : AccData). x.total) (cond b a o) ≡ cond b (option_map (λ (x : AccData). x.total) a) (option_map (λ (x : AccData). x.total) o)
 total_cond true a o = refl
 total_cond false a o = refl
 
@@ -101,6 +116,9 @@ some_of false o a h = h
 -- where one pane is taken out
 pub windows_taken : (w : WindowSpec) (p : Pane) (m n : List (Pane × AccData)) → AreWindows w m → IsDistinct is_pane (keys_of n) → ((q : Pane) → acc_at n q ≡ cond (is_pane p q) None (acc_at m q)) → AreWindows w n
 windows_taken w p m n h distinct taken = windows_fewer w m n h distinct (λ q a there. some_of (is_pane p q) (acc_at m q) a (sym (taken q) ∙ there))
+
+pub sound_taken : (p : Pane) (m n : List (Pane × AccData)) → AreSound m → ((q : Pane) → acc_at n q ≡ cond (is_pane p q) None (acc_at m q)) → AreSound n
+sound_taken p m n h taken q a there = h q a (some_of (is_pane p q) (acc_at m q) a (sym (taken q) ∙ there))
 
 -- ---- rows
 

@@ -1,3 +1,5 @@
+mod Numbers
+mod Spread
 mod Updates
 mod Slides
 mod Entries
@@ -6,3 +8,4 @@ mod Sorted
 mod Rows
 mod PartMaps
 mod Due
+mod Placed

@@ -1,5 +1,5 @@
 -- The panes in order have the pane of each window.
-use Rattle.std.proofs.Common.{◌≡◌, Bool, true, false, cond, List, refl, sym, ap, ◌∙◌, Option, Some, None}
+use Rattle.std.proofs.Common.{◌≡◌, Bool, true, false, cond, List, refl, sym, ap, ◌∙◌, Option, None}
 use Rattle.std.specs.List.{list_any}
 use Rattle.std.specs.Option.{is_some}
 use Rattle.std.specs.List.Sorted.{IsStrictlySortedBy}
@@ -8,35 +8,20 @@ use Rattle.plan_model.specs.declared.spec.Pane.{Pane}
 use Rattle.plan_model.specs.Rows.{pane_cmp}
 use Rattle.aggregates.specs.Kinds.{AccData}
 use Rattle.window_state.specs.Windows.{is_pane, acc_at, AreOrdered}
-use Rattle.window_state.proofs.Updates.{Writes, pane_from_test}
+use Rattle.window_state.proofs.Updates.{pane_from_test}
 use Rattle.window_state.proofs.Entries.{tied}
 
 -- whether q is one of the panes
 abbrev pub has_pane : List Pane → Pane → Bool
 has_pane ps q = list_any (λ p. is_eq (pane_cmp q p)) ps
 
--- one window is written in a pane that has one
-pub order_written : (p : Pane) (a b : AccData) (m n : List (Pane × AccData)) (ps : List Pane) → Writes p a m n → AreOrdered ps m → acc_at m p ≡ Some b → AreOrdered ps n
-order_written p a b m n ps w h there = record {
-  ordered = h.ordered;
-  those = λ q. by_case q (is_pane p q) refl ∙ ap is_some (sym (w.at q));
-} where
-  by_case : (q : Pane) (t : Bool) → is_pane p q ≡ t → has_pane ps q ≡ is_some (cond (is_pane p q) (Some a) (acc_at m q))
-  by_case q true e =
-      ap (has_pane ps) (sym (pane_from_test p q e)) ∙ h.those p ∙ ap is_some there
-      ∙ sym (ap (λ t. is_some (cond t (Some a) (acc_at m q))) e)
-  by_case q false e = h.those q ∙ sym (ap (λ t. is_some (cond t (Some a) (acc_at m q))) e)
-
--- one pane more, where a window is written
-pub order_put : (p : Pane) (a : AccData) (m n : List (Pane × AccData)) (ps more : List Pane) → AreOrdered ps m → IsStrictlySortedBy pane_cmp more
-    → ((q : Pane) → has_pane more q ≡ cond (is_eq (pane_cmp p q)) true (has_pane ps q)) → ((q : Pane) → acc_at n q ≡ cond (is_pane p q) (Some a) (acc_at m q)) → AreOrdered more n
-order_put p a m n ps more h ordered is put = record {
+-- one pane more, where a window is put
+pub order_put : (p : Pane) (m n : List (Pane × AccData)) (ps more : List Pane) → AreOrdered ps m → IsStrictlySortedBy pane_cmp more
+    → ((q : Pane) → has_pane more q ≡ cond (is_eq (pane_cmp p q)) true (has_pane ps q)) → ((q : Pane) → is_some (acc_at n q) ≡ cond (is_pane p q) true (is_some (acc_at m q))) → AreOrdered more n
+order_put p m n ps more h ordered is put = record {
   ordered = ordered;
-  those = λ q. is q ∙ ap (λ t. cond t true (has_pane ps q)) (tied p q) ∙ by_case (is_pane p q) (has_pane ps q) (acc_at m q) (h.those q) ∙ ap is_some (sym (put q));
-} where
-  by_case : (t b : Bool) (o : Option AccData) → b ≡ is_some o → cond t true b ≡ is_some (cond t (Some a) o)
-  by_case true b o e = refl
-  by_case false b o e = e
+  those = λ q. is q ∙ ap (λ t. cond t true (has_pane ps q)) (tied p q) ∙ ap (cond (is_pane p q) true) (h.those q) ∙ sym (put q);
+}
 
 -- one pane more, and taken back, where no window stands
 pub order_back : (p : Pane) (m n : List (Pane × AccData)) (ps more back : List Pane) → AreOrdered ps m → acc_at m p ≡ None → n ≡ m → IsStrictlySortedBy pane_cmp back

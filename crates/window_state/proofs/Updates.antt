@@ -7,8 +7,9 @@ use Rattle.std.proofs.lemmas.Int.{ints}
 use Rattle.plan_model.specs.declared.spec.WindowSpec.{WindowSpec}
 use Rattle.plan_model.specs.declared.spec.Pane.{Pane}
 use Rattle.plan_model.specs.Aggregates.{Aggregated}
-use Rattle.aggregates.specs.Kinds.{AccData, kind_of}
+use Rattle.aggregates.specs.Kinds.{AccData, IsAcc, kind_of}
 use Rattle.window_state.specs.Windows.{acc_at, is_pane, IsStart, AreWindows}
+use Rattle.window_state.specs.Places.{AreSound}
 
 same_pane : (a b c d : ℤ) → (int_eq a b && int_eq c d) ≡ true → (a ≡ b) × (c ≡ d)
 same_pane a b c d h = let e1 : a ≡ b = grind (arith, ints) in let e2 : c ≡ d = grind (arith, ints) in (e1, e2)
@@ -43,6 +44,9 @@ windows_written w p a m n writes_ h kinds start = record {
   kinds = everywhere (λ q b. b.kinds ≡ map kind_of w.aggregates) p a m n writes_ kinds h.kinds;
   starts = everywhere (λ q b. IsStart q.start) p a m n writes_ start h.starts;
 }
+
+pub sound_written : (p : Pane) (a : AccData) (m n : List (Pane × AccData)) → Writes p a m n → AreSound m → IsAcc a → AreSound n
+sound_written p a m n w h here = everywhere (λ q b. IsAcc b) p a m n w here h
 
 -- what is written in a pane is g of what stood there
 pub written_there : (p : Pane) (f : Pane → Option Aggregated) (new : Option Aggregated) (g : Option Aggregated → Option Aggregated) → new ≡ g (f p)

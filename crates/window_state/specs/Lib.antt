@@ -5,3 +5,6 @@ pub mod Codes
 pub mod Firing
 pub mod Parts
 pub mod Hashing
+pub mod Words
+pub mod Places
+pub mod PlacesView

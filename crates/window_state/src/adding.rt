@@ -12,7 +12,6 @@ ghost use Rattle.window_state.specs.State.{HasRoomFor, TakesIn};
 ghost use Rattle.window_state.specs.Windows.{CanAggregate, IsStart, is_pane};
 
 use crate::windows::Windows;
-use aggregates::Acc;
 use columns::Batch;
 use plan_model::Pane;
 use std::alloc::AllocError;
@@ -28,17 +27,10 @@ fn add_at(windows: &mut Windows, pane: Pane, batch: &Batch, row: usize) -> Resul
         ≡ (if is_pane pane q then merge windows.old.window.aggregates (map.get windows.old.totals q) (aggregate_of windows.old.window.aggregates (slice_index_or batch.now.rows row [] ∷ []))
         else map.get windows.old.totals q)) }
 {
-    match windows.accs.get_mut(&pane) {
-        Some(acc) => {
-            acc.add(&windows.window, batch, row);
-            Ok(())
-        }
-        None => {
-            let acc = Acc::first(&windows.window, batch, row);
-            windows.put(pane, acc)?;
-            Ok(())
-        }
+    if windows.places.add(&pane, batch, row) {
+        return Ok(());
     }
+    windows.put_first(pane, batch, row)
 }
 
 /// Brings a record in at the windows of its time that begin `first`, and whole slides more, before it.

@@ -1,6 +1,6 @@
 //! Windows that fire.
 
-ghost use Rattle.std.specs.Prelude.{◌≡◌, ◌∷◌, ◌↔◌, true, not, IfSome, IfNone, IfOk};
+ghost use Rattle.std.specs.Prelude.{◌≡◌, ℕ, ◌∷◌, ◌↔◌, true, not, IfSome, IfNone, IfOk};
 ghost use Rattle.std.specs.FinMap as map;
 ghost use Rattle.std.specs.List.Sorted.{IsSortedByKey, IsStrictlySortedBy};
 ghost use Rattle.plan_model.specs.Rows.{is_due as due, pane_cmp, pane_of, row_at, AreRowsOf};
@@ -9,7 +9,6 @@ ghost use Rattle.window_state.specs.State.{fired};
 ghost use Rattle.window_state.specs.Firing.{AllDue, NoneDue, IsWithout};
 
 use crate::windows::Windows;
-use aggregates::Acc;
 use plain_data::Items;
 use plan_model::{Pane, Row, WindowSpec};
 use std::alloc::{AllocError, Global};
@@ -23,19 +22,18 @@ fn is_due(w: &WindowSpec, watermark: i64, start: i64) -> bool
     start as i128 + w.size as i128 - 1 <= watermark as i128
 }
 
-/// The row of what stands in a pane.
-fn row_of(alloc: Global, w: &WindowSpec, pane: Pane, acc: &Acc) -> Result<Row, AllocError>
+/// The row of the numbers of a pane.
+fn row_of(w: &WindowSpec, pane: Pane, numbers: Vec<i128>) -> Row
     requires operator { IsOperator w.now }
     requires start { IsStart pane.start }
-    ensures { IfOk result (λ row. row ≡ row_at w.now pane acc.now.total) }
+    ensures { (n : ℕ) → result ≡ row_at w.now pane (record { count = n; numbers = numbers.items }) }
 {
-    let values = Items::from_vec(Vec::from_slice(alloc, acc.numbers())?);
-    Ok(Row {
+    Row {
         start: pane.start,
         end: pane.start + w.size,
         key: pane.key,
-        values,
-    })
+        values: Items::from_vec(numbers),
+    }
 }
 
 /// The rows of the windows that fire by the watermark, in order.
@@ -49,11 +47,11 @@ pub(crate) fn rows_of(
 {
     let mut rows = Vec::new(alloc);
     for pane in &windows.panes {
-        if !is_due(&windows.window, watermark, pane.start) {
+        if !is_due(windows.window(), watermark, pane.start) {
             break;
         }
-        if let Some(acc) = windows.accs.get(pane) {
-            rows.push(row_of(alloc, &windows.window, *pane, acc)?)?;
+        if let Some(numbers) = windows.places.numbers(alloc, pane)? {
+            rows.push(row_of(windows.window(), *pane, numbers))?;
         }
     }
     Ok(rows)
@@ -64,13 +62,13 @@ pub(crate) fn remove_due(windows: &mut Windows, watermark: i64)
     ensures { windows.new ≡ record windows.old { totals = map.retain_keys windows.old.totals (λ q. not (due windows.old.window watermark q.start)) } }
 {
     // Clearing takes time for each pane that the map has memory for.
-    let is_filled = windows.accs.capacity() / 4 <= windows.accs.len();
-    if is_filled && are_all_due(&windows.panes, &windows.window, watermark) {
+    let is_filled = windows.places.capacity() / 4 <= windows.places.len();
+    if is_filled && are_all_due(&windows.panes, windows.places.window(), watermark) {
         windows.panes.clear();
-        windows.accs.clear();
+        windows.places.clear();
     } else {
-        while let Some(pane) = pop_due(&mut windows.panes, &windows.window, watermark) {
-            windows.accs.swap_remove(&pane);
+        while let Some(pane) = pop_due(&mut windows.panes, windows.places.window(), watermark) {
+            windows.places.remove(&pane);
         }
     }
 }

@@ -7,8 +7,10 @@ mod firing;
 mod hashing;
 mod having;
 mod parts;
+mod places;
 mod state;
 mod windows;
+mod words;
 
 pub use fault::StateFault;
 pub use hashing::HashKeys;

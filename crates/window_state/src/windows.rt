@@ -1,19 +1,19 @@
 //! Open windows.
 
-ghost use Rattle.std.specs.Prelude.{◌≡◌, OnOk, OnErr, IfOk, Some, if◌then◌else◌};
+ghost use Rattle.std.specs.Prelude.{◌≡◌, OnOk, OnErr, IfOk, None, if◌then◌else◌, [], ◌∷◌, length, slice_index_or, ◌<◌};
 ghost use Rattle.std.specs.BTreeSet.{IsFromIterResult};
 ghost use Rattle.std.specs.FinMap as map;
-ghost use Rattle.std.specs.List.{All, IsDistinct};
-ghost use Rattle.std.specs.Map.{keys_of};
+ghost use Rattle.std.specs.List.{All};
 ghost use Rattle.plan_model.specs.declared.spec.Pane.{Pane as PaneValue};
+ghost use Rattle.plan_model.specs.Aggregates.{aggregate_of};
 ghost use Rattle.plan_model.specs.Rows.{pane_cmp};
-ghost use Rattle.window_state.specs.Windows.{IsOperator, acc_at, is_pane};
+ghost use Rattle.window_state.specs.Windows.{IsOperator, CanAggregate, IsStart, acc_at, is_pane};
 ghost use Rattle.window_state.specs.Parts.{accs_in, entries_of, panes_in, IsPartOf};
 
 use crate::hashing::HashKeys;
 use crate::parts::Part;
-use aggregates::Acc;
-use indexmap::IndexMap;
+use crate::places::Places;
+use columns::Batch;
 use plan_model::{Pane, WindowSpec};
 use std::alloc::{AllocError, Global};
 use std::collections::BTreeSet;
@@ -22,8 +22,7 @@ use std::marker::Model;
 /// The open windows of a window operator: what stands in each pane, and the panes in order.
 #[derive(Drop)]
 pub(crate) struct Windows {
-    pub window: WindowSpec,
-    pub accs: IndexMap<Pane, Acc, HashKeys>,
+    pub places: Places,
     pub panes: BTreeSet<Pane>,
 }
 
@@ -51,8 +50,7 @@ impl Windows {
         ensures { result ≡ record { window = window; totals = map.empty } }
     {
         Windows {
-            window,
-            accs: IndexMap::with_hasher(alloc, keys),
+            places: Places::new(alloc, keys, window),
             panes: BTreeSet::new(alloc),
         }
     }
@@ -68,34 +66,34 @@ impl Windows {
         requires parts { All (IsPartOf window) parts.now }
         ensures { IfOk result (λ windows. windows ≡ record { window = window; totals = map.from_entries (entries_of parts.now) }) }
     {
-        let accs = accs_of(alloc, keys, parts)?;
+        let places = places_of(alloc, keys, window, parts)?;
         let panes = panes_of(alloc, parts)?;
-        Ok(Windows {
-            window,
-            accs,
-            panes,
-        })
+        Ok(Windows { places, panes })
     }
 
     /// The window operator.
     pub fn window(&self) -> &WindowSpec
         ensures { result.now ≡ self.now.window }
     {
-        &self.window
+        self.places.window()
     }
 
-    /// Puts an accumulator in a pane. Where no memory is to be had, what stands in the panes is as it was.
-    pub fn put(&mut self, pane: Pane, acc: Acc) -> Result<(), AllocError>
-        requires { IsPartOf self.old.window (record { pane = pane; acc = acc }) }
-        ensures put { OnOk result ((q : PaneValue) → map.get self.new.totals q ≡ (if is_pane pane q then Some acc.total else map.get self.old.totals q)) }
+    /// Brings a record in in a pane where nothing stands. Where no memory is to be had, what stands in the
+    /// panes is as it was.
+    pub fn put_first(&mut self, pane: Pane, batch: &Batch, row: usize) -> Result<(), AllocError>
+        requires row_in { row < length batch.now.rows }
+        requires window { CanAggregate batch.now.width self.old.window }
+        requires start { IsStart pane.start }
+        requires absent { map.get self.old.totals pane ≡ None }
+        ensures put { OnOk result ((q : PaneValue) → map.get self.new.totals q
+            ≡ (if is_pane pane q then aggregate_of self.old.window.aggregates (slice_index_or batch.now.rows row [] ∷ []) else map.get self.old.totals q)) }
         ensures err { OnErr result (self.new ≡ self.old) }
         ensures window_stays { self.new.window ≡ self.old.window }
     {
         self.panes.insert(pane)?;
-        match self.accs.insert(pane, acc) {
-            Ok(_) => Ok(()),
+        match self.places.push_first(pane, batch, row) {
+            Ok(()) => Ok(()),
             Err(_) => {
-                // The pane is a new one, since only a new one takes memory.
                 self.panes.remove(&pane);
                 Err(AllocError)
             }
@@ -104,22 +102,24 @@ impl Windows {
 }
 
 /// What stands in the panes of the parts. Room is made for all of them first.
-fn accs_of(
+fn places_of(
     alloc: Global,
     keys: HashKeys,
+    window: WindowSpec,
     parts: &[Part],
-) -> Result<IndexMap<Pane, Acc, HashKeys>, AllocError>
-    ensures unique { IfOk result (λ accs. IsDistinct is_pane (keys_of accs.entries)) }
-    ensures first { IfOk result (λ accs. (q : PaneValue) → acc_at accs.entries q ≡ acc_at (accs_in parts.now) q) }
+) -> Result<Places, AllocError>
+    requires operator { IsOperator window }
+    requires parts { All (IsPartOf window) parts.now }
+    ensures window { IfOk result (λ places. places.window ≡ window) }
+    ensures first { IfOk result (λ places. (q : PaneValue) → acc_at places.entries q ≡ acc_at (accs_in parts.now) q) }
 {
-    let mut accs = IndexMap::with_capacity_and_hasher(alloc, parts.len(), keys)?;
-    let mut left = parts.len();
-    while left > 0 {
-        left -= 1;
-        let part = &parts[left];
-        accs.insert(part.pane, part.acc)?;
+    let mut places = Places::with_capacity(alloc, keys, window, parts.len())?;
+    for part in parts {
+        if !places.contains(&part.pane) {
+            places.push_acc(part.pane, &part.acc)?;
+        }
     }
-    Ok(accs)
+    Ok(places)
 }
 
 /// The panes of the parts, in order.

@@ -7,9 +7,9 @@ use Rattle.window_state.proofs.firing.remove_due.Given as goal
 
 abbrev pub invariant-loop-pane : goal.invariant-loop-pane
 invariant-loop-pane l = record {
-  window : l.windows-inside.window ≡ l.initial.windows-inside.window;
+  window : l.windows-inside.places.window ≡ l.initial.windows-inside.places.window;
   sound : IsWindowsInside l.windows-inside;
-  later : (q : Pane) → is_due l.windows-inside.window l.watermark q.start ≡ false → acc_at l.windows-inside.accs.entries q ≡ acc_at l.initial.windows-inside.accs.entries q;
+  later : (q : Pane) → is_due l.windows-inside.places.window l.watermark q.start ≡ false → acc_at l.windows-inside.places.entries q ≡ acc_at l.initial.windows-inside.places.entries q;
 }
 
 abbrev pub decreases-loop-pane : goal.decreases-loop-pane

@@ -8,6 +8,6 @@ use Rattle.window_state.proofs.firing.rows_of.Given as goal
 abbrev pub invariant-loop-pane : goal.invariant-loop-pane
 invariant-loop-pane l =
     let s = l.windows-inside in record {
-      rows : l.rows.items ++ rows_due s.window l.watermark (entries_at s.accs.entries l.pane-iterator) ≡ rows_due s.window l.watermark (entries_at s.accs.entries s.panes.keys);
+      rows : l.rows.items ++ rows_due s.places.window l.watermark (entries_at s.places.entries l.pane-iterator) ≡ rows_due s.places.window l.watermark (entries_at s.places.entries s.panes.keys);
       ordered : IsStrictlySortedBy pane_cmp l.pane-iterator;
     }

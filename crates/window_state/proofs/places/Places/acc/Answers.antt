@@ -1,0 +1,69 @@
+use Rattle.std.proofs.Common.{◌≡◌, ◌∙◌, ◌+◌, ◌*◌, T, false, map, Some, pos, sym, ap, subst, arith, rules, nat_abs, Fits, FitsSigned, to_z, of_z}
+use lib.Signed.{non_neg}
+use Rattle.std.specs.Int.{w64}
+use Rattle.std.specs.Option.{is_some}
+use Rattle.std.specs.List.{list_any}
+use Rattle.std.proofs.lemmas.List.{get_or_default}
+use Rattle.aggregates.specs.Kinds.{AccData, IsAcc, kind_of}
+use Rattle.window_state.specs.Windows.{acc_at, is_pane}
+use Rattle.window_state.specs.Words.{word, count_of, numbers_at, acc_in}
+use Rattle.window_state.specs.Places.{PlacesData}
+use Rattle.window_state.proofs.Placed.{kinds_of, its_place, no_place, cast_fits, cast_is}
+use Rattle.window_state.proofs.places.Places.acc.Goals as goal
+
+pub overflow_cast-count : goal.overflow_cast-count
+overflow_cast-count c =
+    let s = c.self.inside in
+    let at = c.in-Some.place * s.stride in
+    let st = its_place s.window s.stride s.panes.keys s.words.items c.args.pane.now c.in-Some.place c.self.invariant (sym c.in-Some.ensures.index) in
+    let here : c.index.result.now ≡ word s.words.items at = c.index.ensures ∙ get_or_default s.words.items at c.index.result.now (pos 0) (omega (arith, st.room)) in
+    let read : FitsSigned w64 c.index.result.now = search rules in
+    let counted = (c.self.invariant.sound c.args.pane.now (acc_in (kinds_of s.window) s.words.items at) st.here).counted in
+    subst (λ z. T (non_neg (to_z w64 (of_z w64 z))) × Fits w64 (nat_abs (to_z w64 (of_z w64 z)))) (sym here) (cast_fits (word s.words.items at) (subst (FitsSigned w64) here read) counted)
+
+pub returns-in_default-clause-acc : goal.returns-in_default-clause-acc
+returns-in_default-clause-acc c =
+    let s = c.self.inside in
+    let p = c.args.pane.now in
+    let none : list_any (is_pane p) s.panes.keys ≡ false = sym c.get_index_of.ensures.found ∙ ap is_some c.in_default.is in
+    sym (sym (ap (λ (v : PlacesData). acc_at v.entries p) c.self.view_is) ∙ no_place (kinds_of s.window) s.words.items s.panes.keys p none)
+
+pub of-requires : goal.of-requires
+of-requires c =
+    let s = c.self.inside in
+    let at = c.in-Some.place * s.stride in
+    let st = its_place s.window s.stride s.panes.keys s.words.items c.args.pane.now c.in-Some.place c.self.invariant (sym c.in-Some.ensures.index) in
+    let here : c.index.result.now ≡ word s.words.items at = c.index.ensures ∙ get_or_default s.words.items at c.index.result.now (pos 0) (omega (arith, st.room)) in
+    let read : FitsSigned w64 c.index.result.now = search rules in
+    let counted = (c.self.invariant.sound c.args.pane.now (acc_in (kinds_of s.window) s.words.items at) st.here).counted in
+    let count : nat_abs (to_z w64 (of_z w64 c.index.result.now)) ≡ count_of (word s.words.items at) =
+    ap (λ z. nat_abs (to_z w64 (of_z w64 z))) here ∙ cast_is (word s.words.items at) (subst (FitsSigned w64) here read) counted in
+    let numbers = c.in_ok-numbers.ensures ∙ (λ t. numbers_at (count t) (map kind_of (c.as_slice-aggregates.ensures t)) (c.as_slice.ensures.value t) (at + 1)) in
+    let kinds : c.args.kinds.now ≡ kinds_of s.window = c.requires ∙ ap (λ (v : PlacesData). kinds_of v.window) (sym c.self.view_is) in
+    let all = c.as_slice-2.ensures.value ∙ numbers in
+    subst IsAcc (λ t. record { kinds = sym kinds t; total = record { count = sym count t; numbers = sym all t } }) (c.self.invariant.sound c.args.pane.now (acc_in (kinds_of s.window) s.words.items at) st.here)
+
+pub returns-clause-acc : goal.returns-clause-acc
+returns-clause-acc c =
+    let s = c.self.inside in
+    let at = c.in-Some.place * s.stride in
+    let st = its_place s.window s.stride s.panes.keys s.words.items c.args.pane.now c.in-Some.place c.self.invariant (sym c.in-Some.ensures.index) in
+    let here : c.index.result.now ≡ word s.words.items at = c.index.ensures ∙ get_or_default s.words.items at c.index.result.now (pos 0) (omega (arith, st.room)) in
+    let read : FitsSigned w64 c.index.result.now = search rules in
+    let counted = (c.self.invariant.sound c.args.pane.now (acc_in (kinds_of s.window) s.words.items at) st.here).counted in
+    let count : nat_abs (to_z w64 (of_z w64 c.index.result.now)) ≡ count_of (word s.words.items at) =
+    ap (λ z. nat_abs (to_z w64 (of_z w64 z))) here ∙ cast_is (word s.words.items at) (subst (FitsSigned w64) here read) counted in
+    let numbers = c.in_ok-numbers.ensures ∙ (λ t. numbers_at (count t) (map kind_of (c.as_slice-aggregates.ensures t)) (c.as_slice.ensures.value t) (at + 1)) in
+    let kinds : c.args.kinds.now ≡ kinds_of s.window = c.requires ∙ ap (λ (v : PlacesData). kinds_of v.window) (sym c.self.view_is) in
+    let all = c.as_slice-2.ensures.value ∙ numbers in
+    ap Some (c.of.ensures ∙ (λ t. record { kinds = kinds t; total = record { count = count t; numbers = all t } }))
+    ∙ sym (sym (ap (λ (v : PlacesData). acc_at v.entries c.args.pane.now) c.self.view_is) ∙ st.here)
+
+pub returns-clause-part : goal.returns-clause-part
+returns-clause-part c =
+    let s = c.self.inside in
+    let st = its_place s.window s.stride s.panes.keys s.words.items c.args.pane.now c.in-Some.place c.self.invariant (sym c.in-Some.ensures.index) in
+    record {
+      kinds = ap (λ (a : AccData). a.kinds) c.of.ensures ∙ c.requires;
+      start = c.self.invariant.windows.starts c.args.pane.now (acc_in (kinds_of s.window) s.words.items (c.in-Some.place * s.stride)) st.here;
+    }

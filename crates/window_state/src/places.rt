@@ -1,0 +1,236 @@
+//! The places of panes.
+
+ghost use Rattle.std.specs.Prelude.{◌≡◌, true, false, pos, ◌++◌, ◌∷◌, [], ◌^◌, ◌<◌, ◌≤◌, ◌*◌, length, map, replicate, slice_index_or, IfOk, IfSome, OnOk, OnErr, Some, None, is_some, if◌then◌else◌};
+ghost use Rattle.std.specs.List.{All, IsDistinct, list_any};
+ghost use Rattle.std.specs.Option.{option_map};
+ghost use Rattle.plan_model.specs.declared.spec.Pane.{Pane as PaneValue};
+ghost use Rattle.plan_model.specs.Aggregates.{aggregate_of, merge};
+ghost use Rattle.aggregates.specs.Kinds.{AccData, kind_of};
+ghost use Rattle.window_state.specs.Windows.{acc_at, is_pane, total_at, CanAggregate, IsOperator, IsStart};
+ghost use Rattle.window_state.specs.Parts.{IsPartOf};
+
+use crate::hashing::HashKeys;
+use crate::words::{add_record, numbers_at, stride_of, write_acc, write_first};
+use aggregates::{Acc, Kind};
+use columns::Batch;
+use indexmap::IndexSet;
+use plan_model::{Pane, WindowSpec};
+use std::alloc::{AllocError, Global};
+use std::marker::Model;
+
+/// What stands in panes, in one list of words: a pane has a place, and a place has as many words as the
+/// operator's aggregates need. So a pane takes no more memory than its numbers do, and its index.
+#[derive(Drop)]
+pub(crate) struct Places {
+    window: WindowSpec,
+    stride: usize,
+    panes: IndexSet<Pane, HashKeys>,
+    words: Vec<i64>,
+}
+
+impl Model for Places {
+    ghost use Rattle.window_state.specs.Places.{PlacesData};
+
+    ghost Value = { PlacesData };
+
+    ghost use Rattle.window_state.specs.PlacesView.{places_view, IsPlacesInside};
+
+    ghost view = { places_view };
+
+    ghost invariant = { IsPlacesInside };
+}
+
+impl Places {
+    /// No places of the operator. Their panes will be hashed by the keys.
+    pub fn new(alloc: Global, keys: HashKeys, window: WindowSpec) -> Places
+        requires { IsOperator window }
+        ensures { result ≡ record { window = window; entries = [] } }
+    {
+        let stride = stride_of(window.aggregates.as_slice());
+        Places {
+            window,
+            stride,
+            panes: IndexSet::with_hasher(alloc, keys),
+            words: Vec::new(alloc),
+        }
+    }
+
+    /// The same, with room for so many places.
+    pub fn with_capacity(
+        alloc: Global,
+        keys: HashKeys,
+        window: WindowSpec,
+        n: usize,
+    ) -> Result<Places, AllocError>
+        requires { IsOperator window }
+        ensures { IfOk result (λ places. places ≡ record { window = window; entries = [] }) }
+    {
+        let stride = stride_of(window.aggregates.as_slice());
+        let panes = IndexSet::with_capacity_and_hasher(alloc, n, keys)?;
+        let words = Vec::with_capacity(alloc, n.saturating_mul(stride))?;
+        Ok(Places {
+            window,
+            stride,
+            panes,
+            words,
+        })
+    }
+
+    /// The window operator.
+    pub fn window(&self) -> &WindowSpec
+        ensures { result.now ≡ self.now.window }
+    {
+        &self.window
+    }
+
+    /// How many places there are.
+    pub fn len(&self) -> usize {
+        self.panes.len()
+    }
+
+    /// For how many places there is memory.
+    pub fn capacity(&self) -> usize {
+        self.panes.capacity()
+    }
+
+    /// Whether a pane has a place.
+    pub fn contains(&self, pane: &Pane) -> bool
+        ensures { result ≡ is_some (acc_at self.now.entries pane.now) }
+    {
+        self.panes.contains(pane)
+    }
+
+    /// The number of each aggregate in a pane, if it has a place.
+    pub fn numbers(&self, alloc: Global, pane: &Pane) -> Result<Option<Vec<i128>>, AllocError>
+        ensures numbers { IfOk result (λ found. option_map (λ numbers. numbers.items) found ≡ option_map (λ (a : AccData). a.total.numbers) (acc_at self.now.entries pane.now)) }
+        ensures start { IfOk result (λ found. IfSome found (λ numbers. IsStart pane.now.start)) }
+        ensures operator { IfOk result (λ found. IsOperator self.now.window) }
+    {
+        let Some(place) = self.panes.get_index_of(pane) else {
+            return Ok(None);
+        };
+        let at = place * self.stride;
+        let count = self.words[at] as u64;
+        let aggregates = self.window.aggregates.as_slice();
+        let numbers = numbers_at(alloc, self.words.as_slice(), at + 1, aggregates, count)?;
+        Ok(Some(numbers))
+    }
+
+    /// The accumulator of a pane, if it has a place.
+    pub fn acc(&self, alloc: Global, kinds: &[Kind], pane: &Pane) -> Result<Option<Acc>, AllocError>
+        requires { kinds.now ≡ map kind_of self.now.window.aggregates }
+        ensures acc { IfOk result (λ acc. acc ≡ acc_at self.now.entries pane.now) }
+        ensures part { IfOk result (λ acc. IfSome acc (λ a. IsPartOf self.now.window (record { pane = pane.now; acc = a }))) }
+    {
+        let Some(place) = self.panes.get_index_of(pane) else {
+            return Ok(None);
+        };
+        let at = place * self.stride;
+        let count = self.words[at] as u64;
+        let aggregates = self.window.aggregates.as_slice();
+        let numbers = numbers_at(alloc, self.words.as_slice(), at + 1, aggregates, count)?;
+        Ok(Some(Acc::of(kinds, count, numbers.as_slice())))
+    }
+
+    /// Brings a record in, if the pane has a place, and says whether it has one.
+    pub fn add(&mut self, pane: &Pane, batch: &Batch, row: usize) -> bool
+        requires row_in { row < length batch.now.rows }
+        requires window { CanAggregate batch.now.width self.old.window }
+        requires room { (a : AccData) → acc_at self.old.entries pane.now ≡ Some a → a.total.count < 2 ^ 41 }
+        ensures window_stays { self.new.window ≡ self.old.window }
+        ensures found { result ≡ is_some (acc_at self.old.entries pane.now) }
+        ensures added { result ≡ true → (q : PaneValue) → total_at self.new.entries q
+            ≡ (if is_pane pane.now q then merge self.old.window.aggregates (total_at self.old.entries q) (aggregate_of self.old.window.aggregates (slice_index_or batch.now.rows row [] ∷ []))
+            else total_at self.old.entries q) }
+        ensures panes { (q : PaneValue) → is_some (acc_at self.new.entries q) ≡ is_some (acc_at self.old.entries q) }
+        ensures none { result ≡ false → self.new ≡ self.old }
+    {
+        let Some(place) = self.panes.get_index_of(pane) else {
+            return false;
+        };
+        let at = place * self.stride;
+        let aggregates = self.window.aggregates.as_slice();
+        add_record(self.words.as_mut_slice(), at, aggregates, batch, row);
+        true
+    }
+
+    /// Gives a pane a place, and brings a record in.
+    pub fn push_first(&mut self, pane: Pane, batch: &Batch, row: usize) -> Result<(), AllocError>
+        requires row_in { row < length batch.now.rows }
+        requires window { CanAggregate batch.now.width self.old.window }
+        requires start { IsStart pane.start }
+        requires absent { acc_at self.old.entries pane ≡ None }
+        ensures window_stays { self.new.window ≡ self.old.window }
+        ensures added { OnOk result ((q : PaneValue) → total_at self.new.entries q
+            ≡ (if is_pane pane q then aggregate_of self.old.window.aggregates (slice_index_or batch.now.rows row [] ∷ []) else total_at self.old.entries q)) }
+        ensures panes { OnOk result ((q : PaneValue) → is_some (acc_at self.new.entries q) ≡ (if is_pane pane q then true else is_some (acc_at self.old.entries q))) }
+        ensures err { OnErr result (self.new ≡ self.old) }
+    {
+        let at = push_place(&mut self.panes, &mut self.words, self.stride, pane)?;
+        let aggregates = self.window.aggregates.as_slice();
+        write_first(self.words.as_mut_slice(), at, aggregates, batch, row);
+        Ok(())
+    }
+
+    /// Gives a pane a place, and puts an accumulator there.
+    pub fn push_acc(&mut self, pane: Pane, acc: &Acc) -> Result<(), AllocError>
+        requires part { IsPartOf self.old.window (record { pane = pane; acc = acc.now }) }
+        requires absent { acc_at self.old.entries pane ≡ None }
+        ensures window_stays { self.new.window ≡ self.old.window }
+        ensures put { OnOk result ((q : PaneValue) → acc_at self.new.entries q ≡ (if is_pane pane q then Some acc.now else acc_at self.old.entries q)) }
+        ensures err { OnErr result (self.new ≡ self.old) }
+    {
+        let at = push_place(&mut self.panes, &mut self.words, self.stride, pane)?;
+        let aggregates = self.window.aggregates.as_slice();
+        write_acc(self.words.as_mut_slice(), at, aggregates, acc);
+        Ok(())
+    }
+
+    /// Takes a pane's place. The words of the last place move there.
+    pub fn remove(&mut self, pane: &Pane)
+        ensures window_stays { self.new.window ≡ self.old.window }
+        ensures taken { (q : PaneValue) → acc_at self.new.entries q ≡ (if is_pane pane.now q then None else acc_at self.old.entries q) }
+    {
+        if let Some((place, _)) = self.panes.swap_remove_full(pane) {
+            let last = self.words.len() - self.stride;
+            let words = self.words.as_mut_slice();
+            words.copy_within(last.., place * self.stride);
+            self.words.truncate(last);
+        }
+    }
+
+    /// Takes all places.
+    pub fn clear(&mut self)
+        ensures { self.new ≡ record self.old { entries = [] } }
+    {
+        self.panes.clear();
+        self.words.clear();
+    }
+}
+
+/// Gives a pane the place after the last, with so many words, and says where they begin.
+fn push_place(
+    panes: &mut IndexSet<Pane, HashKeys>,
+    words: &mut Vec<i64>,
+    stride: usize,
+    pane: Pane,
+) -> Result<usize, AllocError>
+    requires absent { list_any (is_pane pane) panes.old.keys ≡ false }
+    requires small { stride ≤ 17 }
+    ensures at { IfOk result (λ at. at ≡ length words.old.items) }
+    ensures panes { OnOk result (panes.new.keys ≡ panes.old.keys ++ pane ∷ []) }
+    ensures unique { OnOk result (IsDistinct is_pane panes.new.keys) }
+    ensures words { OnOk result (words.new.items ≡ words.old.items ++ replicate stride (pos 0)) }
+    ensures panes_err { OnErr result (panes.new.keys ≡ panes.old.keys) }
+    ensures words_err { OnErr result (words.new.items ≡ words.old.items) }
+{
+    let at = words.as_slice().len();
+    words.resize(at + stride, 0)?;
+    match panes.insert(pane) {
+        Ok(_) => Ok(at),
+        Err(_) => {
+            words.truncate(at);
+            Err(AllocError)
+        }
+    }
+}
