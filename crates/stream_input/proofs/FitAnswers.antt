@@ -1,7 +1,8 @@
 -- What is answered of sources that meet the requirements up to the range of times.
-use Rattle.std.proofs.Common.{◌≡◌, ℕ, ◌^◌, true, false, List, Option, Some, None, Ok, Err, option_and_then, length, refl}
+use Rattle.std.proofs.Common.{◌≡◌, ℕ, ◌^◌, Bool, true, false, cond, List, Option, Some, None, Ok, Err, option_and_then, length, refl}
 use Rattle.std.specs.Prelude.{nat_le, IsUtf8}
-use Rattle.std.proofs.lemmas.Str.{is_utf8-from_IsUtf8}
+use Rattle.std.specs.Str.{is_utf8}
+use Rattle.std.proofs.lemmas.Str.{IsUtf8-from_is_utf8, is_utf8-from_IsUtf8}
 use Rattle.serde_json.specs.Data.{Data}
 use Rattle.serde_json.specs.Read.{read}
 use Rattle.json_parts.specs.Parts.{json_of}
@@ -40,6 +41,14 @@ none_said plan sources text of none h =
 pub json_of_text : (bytes : List ℕ) → IsUtf8 bytes → json_of bytes ≡ read bytes
 unfolding json_of
 json_of_text bytes utf8 = rw (is_utf8-from_IsUtf8 bytes utf8) refl
+
+none_unless : (b : Bool) (o : Option Data) → (b ≡ true → ⊥) → cond b o None ≡ None
+none_unless true o never = absurd (never refl)
+none_unless false o never = refl
+
+pub json_of_other : (bytes : List ℕ) → (IsUtf8 bytes → ⊥) → json_of bytes ≡ None
+unfolding json_of
+json_of_other bytes other = none_unless (is_utf8 bytes) (read bytes) (λ e. other (IsUtf8-from_is_utf8 bytes e))
 
 of_data : (o : Option Data) (text : InputText) → option_and_then input_text o ≡ Some text → (d : Data) × (o ≡ Some d) × (input_text d ≡ Some text)
 of_data None text h = absurd (cc)

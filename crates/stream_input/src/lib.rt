@@ -13,6 +13,7 @@ mod building;
 mod cells;
 mod fault;
 mod input;
+mod passing;
 mod reading;
 mod requirements;
 mod text;

@@ -13,6 +13,7 @@ ghost use Rattle.stream_input.specs.InputText.{input_text};
 ghost use Rattle.stream_input.specs.Fit.{fit_entry, IsSlots, IsRead};
 
 use crate::cells::batch_at;
+use crate::passing::MOST_DEPTH;
 use crate::requirements::is_time;
 use json_tokens::{Miss, Scanner, scan_rows};
 use logical_plan::Plan;
@@ -20,9 +21,6 @@ use plain_data::Items;
 use plan_model::SourceSpec;
 use std::alloc::Global;
 use stream_model::{Entry, Partition, Source};
-
-/// The deepest that lists and objects nest in a text.
-const MOST_DEPTH: usize = 127;
 
 fn next_entry(
     alloc: Global,
