@@ -3,3 +3,5 @@
 
 #[cfg(test)]
 mod inputs;
+#[cfg(test)]
+mod refused;

@@ -23,7 +23,7 @@ use Rattle.stream_input.proofs.Refines.{list_refines, entry_refines}
 use Rattle.stream_input.proofs.FitEntries.{all_weaker}
 use Rattle.stream_input.proofs.Slots.{put_pair, each_member-put, list_all-put_pair, one_replaced, distinct_front}
 
-distinct_sources : (plan : PlanData) → IsPlan plan → are_distinct (map (λ (s : SourceSpec). s.uid) plan.sources) ≡ true
+pub distinct_sources : (plan : PlanData) → IsPlan plan → are_distinct (map (λ (s : SourceSpec). s.uid) plan.sources) ≡ true
 distinct_sources plan p =
     let sources = map (λ (s : SourceSpec). s.uid) plan.sources in
     let filters = map (λ (f : FilterSpec). f.uid) plan.filters in

@@ -1,4 +1,12 @@
 mod Rows
+mod Passed
+mod FirstTokens
+mod Counted
+mod Notings
+mod EntryNotings
+mod SourceNotings
+mod NotedSources
+mod FirstFaults
 mod Tables
 mod Sound
 mod Refines

@@ -14,7 +14,7 @@ use Rattle.plan_model.specs.Uids.{are_distinct}
 -- ---- what the members say, with one more
 
 -- the pairs, with x at k
-pub put_pair : {X : Type 0} → List ℕ → X → List (List ℕ × X) → List (List ℕ × X)
+unfoldable pub put_pair : {X : Type 0} → List ℕ → X → List (List ℕ × X) → List (List ℕ × X)
 put_pair k x [] = (k, x) ∷ []
 put_pair k x (p ∷ ps) = match_ordering (slice_cmp nat_cmp k p.0) ((k, x) ∷ p ∷ ps) ((p.0, x) ∷ ps) (p ∷ put_pair k x ps)
 
@@ -111,7 +111,7 @@ module _ {S X Y : Type 0} (name : S → List ℕ) (g : X → Y) (k : List ℕ) (
   abbrev value_at : List (List ℕ × X) → S → Option Y
   value_at qs s = option_map g (under (name s) qs)
 
-  kept : (s : S) → bytes_eq k (name s) ≡ false → value_at (put_pair k x ps) s ≡ value_at ps s
+  pub kept : (s : S) → bytes_eq k (name s) ≡ false → value_at (put_pair k x ps) s ≡ value_at ps s
   kept s other = ap (option_map g) (under-put_pair (name s) k x ps ∙ rw other refl)
 
   replaced : (s : S) → bytes_eq k (name s) ≡ true → value_at (put_pair k x ps) s ≡ Some (g x)

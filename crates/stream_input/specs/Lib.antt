@@ -5,3 +5,4 @@ pub mod Requirements
 pub mod EntryTest
 pub mod Answer
 pub mod Fit
+pub mod Seen

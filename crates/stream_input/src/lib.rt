@@ -12,10 +12,14 @@
 mod building;
 mod cells;
 mod fault;
+mod finding;
 mod input;
+mod noting;
+mod numerals;
 mod passing;
 mod reading;
 mod requirements;
+mod seen;
 mod text;
 mod tokens;
 

@@ -1,6 +1,6 @@
 //! From bytes to the sources of an input.
 
-ghost use Rattle.std.specs.Prelude.{◌≡◌, false, None, option_and_then, IfOk, IfErr};
+ghost use Rattle.std.specs.Prelude.{◌≡◌, option_and_then, Err, IfOk, IfErr};
 ghost use Rattle.json_parts.specs.Parts.{json_of};
 ghost use Rattle.stream_model.specs.InputData.{input_data_of};
 ghost use Rattle.stream_input.specs.InputText.{InputText, input_text};
@@ -9,7 +9,8 @@ ghost use Rattle.stream_input.specs.Answer.{Gives, is_memory, text_of_bytes, inp
 
 use crate::building::sources_of;
 use crate::fault::InputFault;
-use crate::passing::is_grammatical;
+use crate::finding::fault_in;
+use crate::passing::is_json;
 use crate::requirements;
 use crate::text::{SourceText, text_of_input};
 use crate::tokens::sources_in;
@@ -17,7 +18,7 @@ use json_parts::{PartError, value_of};
 use json_tokens::Miss;
 use logical_plan::Plan;
 use plain_data::Items;
-use std::alloc::{AllocError, Global};
+use std::alloc::Global;
 use stream_model::{Source, first_late, is_few};
 
 /// The partitions of each source, in the order of the plan, that the bytes say.
@@ -44,11 +45,37 @@ fn sources_after(
     match quick {
         Ok(sources) => orderly(plan, sources),
         Err(Miss::Memory) => Err(InputFault::Memory),
+        Err(Miss::Other) => sources_by_value(alloc, plan, bytes),
+    }
+}
+
+/// The same of bytes that were missed: a fault is found without a tree of the whole text, if it can be.
+#[tactic(auto, unfolding(crate::specs::Answer::input_of_bytes))]
+fn sources_by_value(alloc: Global, plan: &Plan, bytes: &[u8]) -> Result<Items<Source>, InputFault>
+    ensures { Gives is_memory (λ sources. input_data_of plan.now.columns plan.now.window.time sources) result (input_of_bytes plan.now bytes.now) }
+{
+    match fault_of(alloc, plan, bytes) {
+        Ok(fault) => Err(fault),
+        Err(Miss::Memory) => Err(InputFault::Memory),
         Err(Miss::Other) => {
             let text = text_of(alloc, bytes)?;
             sources_from(alloc, plan, text.as_slice())
         }
     }
+}
+
+/// The fault of the bytes, where it is found without a tree of the whole text.
+#[tactic(auto, unfolding(crate::specs::Answer::input_of_bytes))]
+fn fault_of(alloc: Global, plan: &Plan, bytes: &[u8]) -> Result<InputFault, Miss>
+    ensures { IfOk result (λ fault. input_of_bytes plan.now bytes.now ≡ Err fault) }
+{
+    let Ok(text) = str::from_utf8(bytes) else {
+        return Ok(InputFault::NotJson);
+    };
+    if !is_json(alloc, text)? {
+        return Ok(InputFault::NotJson);
+    }
+    fault_in(alloc, plan, text)
 }
 
 /// The sources that the bytes say, read token by token, where all requirements up to the range of the
@@ -62,24 +89,11 @@ fn read_by_tokens(alloc: Global, plan: &Plan, bytes: &[u8]) -> Result<Items<Sour
     }
 }
 
-/// Whether the bytes are a text with the grammar of JSON.
-fn is_text(alloc: Global, bytes: &[u8]) -> Result<bool, AllocError>
-    ensures { IfOk result (λ found. found ≡ false → json_of bytes.now ≡ None) }
-{
-    match str::from_utf8(bytes) {
-        Ok(text) => is_grammatical(alloc, text),
-        Err(_) => Ok(false),
-    }
-}
-
 /// What the bytes say.
 #[tactic(auto, unfolding(crate::specs::Answer::text_of_bytes))]
 fn text_of(alloc: Global, bytes: &[u8]) -> Result<Items<SourceText>, InputFault>
     ensures { Gives is_memory (λ text. text) result (text_of_bytes bytes.now) }
 {
-    if !is_text(alloc, bytes)? {
-        return Err(InputFault::NotJson);
-    }
     match value_of(alloc, bytes) {
         Ok(value) => Ok(text_of_input(alloc, &value)?),
         Err(PartError::Form) => Err(InputFault::NotJson),

@@ -46,7 +46,8 @@ fn are_planned(specs: &[SourceSpec], sources: &[SourceText]) -> bool
         .all(|source| is_planned(specs, source.0.as_str()))
 }
 
-fn is_planned(specs: &[SourceSpec], name: &str) -> bool
+/// Whether the plan has a source with a name.
+pub fn is_planned(specs: &[SourceSpec], name: &str) -> bool
     ensures { result ≡ list_any (λ s. bytes_eq s.uid name.now) specs.now }
 {
     specs.iter().any(|spec| spec.uid.as_str() == name)

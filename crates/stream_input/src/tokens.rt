@@ -101,7 +101,7 @@ fn next_source(
 }
 
 /// The place of the source with a name.
-fn place_of(specs: &[SourceSpec], name: &[u8]) -> Option<usize>
+pub fn place_of(specs: &[SourceSpec], name: &[u8]) -> Option<usize>
     ensures { result ≡ position (λ s. bytes_eq s.uid name.now) specs.now }
 {
     specs

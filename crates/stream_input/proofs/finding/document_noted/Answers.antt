@@ -1,0 +1,10 @@
+use Rattle.std.proofs.lemmas.Bool.{MatchBool-at_true}
+use Rattle.std.proofs.lemmas.Result.{IfOk-weaker}
+use Rattle.json_tokens.proofs.Facts.{members_over}
+use Rattle.stream_input.proofs.finding.document_noted.Goals as goal
+
+pub returns : goal.returns
+returns c =
+    let opened = MatchBool-at_true _ _ c.if-not-is_open.false c.in_ok-is_open.ensures.opened in
+    let start = c.open_object.new.reader in
+    IfOk-weaker c.members_noted.result _ _ (λ noted told. (told.0, rw opened.0 (members_over c.args.depth start told.1 c.members_noted.new.reader told.0 opened.1 told.2 told.3), told.4)) c.members_noted.ensures

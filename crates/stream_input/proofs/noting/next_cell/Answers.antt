@@ -1,0 +1,24 @@
+use Rattle.std.proofs.Common.{◌≡◌, ◌∷◌, false, Some, sym, ap, ◌∙◌, arith}
+use Rattle.json.specs.Token as token
+use Rattle.json.specs.Reads.{token_of}
+use Rattle.serde_json.specs.Read.{number_of}
+use Rattle.serde_json.specs.View.{number_view}
+use Rattle.json_parts.specs.Parts.{cell_text}
+use Rattle.json_tokens.specs.Ahead.{part}
+use Rattle.stream_input.specs.Seen.{is_number}
+use Rattle.stream_input.proofs.FirstTokens.{other_cell, number_cell}
+use Rattle.stream_input.proofs.noting.next_cell.Goals as goal
+
+pub returns-then-not-is_number-clause-said : goal.returns-then-not-is_number-clause-said
+returns-then-not-is_number-clause-said c =
+    let first : c.args.reader.now ≡ token_of c.in_ok-token.token ∷ c.next.new.self = grind arith in
+    let d = c.in_ok-pass_rest.ensures.value in
+    let other : is_number (token_of c.in_ok-token.token) ≡ false = sym c.if-not-is_number.ensures in
+    ap (part cell_text c.args.depth) first ∙ other_cell c.args.depth (token_of c.in_ok-token.token) c.next.new.self c.pass_rest.new.reader d.0 other d.1
+
+pub returns-clause-said : goal.returns-clause-said
+returns-clause-said c =
+    let first : c.args.reader.now ≡ token_of c.in_ok-token.token ∷ c.next.new.self = grind arith in
+    let is : c.args.reader.now ≡ token.number c.in-Number.text.now ∷ c.next.new.self = grind (arith, first) in
+    let found : number_of c.in-Number.text.now ≡ Some (number_view c.in_ok-number.number) = grind arith in
+    ap (part cell_text c.args.depth) is ∙ number_cell c.args.depth c.in-Number.text.now c.next.new.self (number_view c.in_ok-number.number) found ∙ ap (λ cell. Some (cell, c.next.new.self)) (sym c.as_i64.ensures)

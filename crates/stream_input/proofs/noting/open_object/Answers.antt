@@ -1,0 +1,12 @@
+use Rattle.std.proofs.Common.{◌≡◌, ◌∷◌, false, sym, arith}
+use Rattle.json.specs.Reads.{token_of}
+use Rattle.stream_input.specs.Seen.{opens_object}
+use Rattle.stream_input.proofs.FirstTokens.{other_object}
+use Rattle.stream_input.proofs.noting.open_object.Goals as goal
+
+pub returns-then-not-is_object_start-clause-opened : goal.returns-then-not-is_object_start-clause-opened
+returns-then-not-is_object_start-clause-opened c =
+    let first : c.args.reader.now ≡ token_of c.in_ok-token.token ∷ c.next.new.self = grind arith in
+    let d = c.in_ok-pass_rest.ensures.value in
+    let other : opens_object (token_of c.in_ok-token.token) ≡ false = sym c.if-not-is_object_start.ensures in
+    (d.0, rw first d.1, other_object c.args.depth (token_of c.in_ok-token.token) c.next.new.self c.pass_rest.new.reader d.0 other d.1)
