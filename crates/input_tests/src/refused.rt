@@ -222,6 +222,8 @@ fn batches_at_their_limit(rt: HostRuntime) -> Result<(), Fail> {
     }
     let text = format!(in rt.alloc(); r#"{{"s":[[{{"rows":[{rows}[1,1,1]]}}],[]],"a":[[]]}}"#)?;
     check_all(&rt, &[text.as_str()], None)?;
-    let text = format!(in rt.alloc(); r#"{{"s":[[{{"rows":[{rows}[1,1,1],[1,1,1]]}}],[]],"a":[[]]}}"#)?;
+    let text = format!(in rt.alloc();
+        r#"{{"s":[[{{"rows":[{rows}[1,1,1],[1,1,1]]}}],[]],"a":[[]]}}"#
+    )?;
     check_all(&rt, &[text.as_str()], Some(InputFault::Rows))
 }
