@@ -208,7 +208,8 @@ const CHECK: &str = "\
 It prints nothing of files that are right. Of the first that is refused, in the order plan, input, scale,
 it prints each place, up to 20, at which the requirement that standard error names is not met:
 `FILE:LINE:COLUMN: what stands there, and what has to`. Of each file it then warns, up to 20 times, of
-members that stand twice, of which the last counts, and of watermarks that are below one before them.
+members that stand twice, of which the last counts, of watermarks that are below one before them, and of
+partitions whose watermarks never rise.
 
 Example: streamjob check plan.json input.json --scale scale.json
 Page: docs/FORMATS.md, under Plan, Input and Scale";
@@ -229,7 +230,7 @@ becomes a partition of its source; INPUT is written once all of them are read. C
 header, or a member of the objects, for each number of a record, in the plan's order, with commas
 between: `bytes` is a whole number; `power:3` a decimal times 1000; `at:ms` a time in ISO 8601 with its
 zone, in milliseconds since 1970; `customer:name` the number of a name in the file of --names;
-`status:ge:500` is 1 where the number is at least 500, else 0.
+`status:ge:500` is 1 where the number is at least 500, else 0, and `fuel:eq:diesel` where the text is that.
 
 Example: streamjob import plan.json input.json time:ms,customer:name,bytes --names names.csv api=0.csv,1.csv
 Page: docs/FORMATS.md, under Import";
@@ -273,7 +274,7 @@ fn import_names<'a>(alloc: Global) -> Result<Command<'a>, AllocError>
         command,
         "bound",
         "N",
-        "How far behind the greatest time a record may come; without it there are no watermarks",
+        "How far behind the greatest time of earlier entries a record may come; without it there are no watermarks",
     )
 }
 
@@ -293,7 +294,7 @@ fn import_words<'a>(alloc: Global) -> Result<Command<'a>, AllocError>
         command,
         "rows",
         "N",
-        "Most rows of an entry, 1 to 4096; a watermark comes after each entry",
+        "Most rows of an entry, 1 to 4096 (4096); watermarks stand between entries, so 1 looks at each record",
     )
 }
 

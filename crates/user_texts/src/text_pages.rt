@@ -65,7 +65,7 @@ point or in quotes, `null` for an absent member, `min` for `least`, `max` for `g
 {}
 ```
 
-Compare each member with the [plan](FORMATS.md#plan). No other member may stand in a plan, so there is no place for remarks.
+`streamjob check plan.json` tells each place and what has to stand there, by the [plan](FORMATS.md#plan)'s members. No other member may stand in a plan, so there is no place for remarks.
 "#,
     ),
     (
@@ -471,7 +471,8 @@ $ streamjob import plan.json new.json at,key calls=calls.ndjson
 D5 Value calls.ndjson:1: key: null, a list or an object is no string, number, true or false
 ```
 
-Ask for more places (`key:3`), or mend the field. [Import](FORMATS.md#import) has the form of each kind.
+Ask for more places (`key:3`), or mend the field. A time in ISO 8601 is asked for by `at:ms`, a text as a number of a table by `key:name`, and whether a
+field is just some text by `key:eq:TEXT`. [Import](FORMATS.md#import) has the form of each kind.
 "#,
     ),
     (
