@@ -8,3 +8,5 @@ mod MemberTurns
 mod NumberTexts
 mod RowLists
 mod Starts
+mod Passed
+mod FirstTokens

@@ -1,3 +1,4 @@
 pub mod Ahead
 pub mod Lexemes
 pub mod Rows
+pub mod Passed

@@ -5,15 +5,21 @@
 //! speak of the next value of the text, as `serde_json` reads it, in the words of `specs/Ahead`.
 //!
 //! Nothing here tells what is wrong with a text of another form: it is [`OtherForm`](json_parts::OtherForm),
-//! or a [`Miss`] where memory may run out too, and a reading by `serde_json::Value` can tell.
+//! or a [`Miss`] where memory may run out too. [`pass_value`] and the functions beside it go through any
+//! text by `json::Reader`, which is slower, and keep nothing of it.
 #![tactic(auto)]
 
 mod bytes;
 mod miss;
 mod numbers;
+mod numerals;
+mod opening;
+mod passing;
 mod rows;
 mod scanner;
 
 pub use miss::Miss;
+pub use opening::{next_cell, open_list, open_object};
+pub use passing::{MOST_DEPTH, is_json, pass_value};
 pub use rows::scan_rows;
 pub use scanner::Scanner;

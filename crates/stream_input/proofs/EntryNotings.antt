@@ -6,7 +6,8 @@ use Rattle.serde_json.specs.Data.{Data, object, no_members, member}
 use Rattle.serde_json.specs.Find.{as_object}
 use Rattle.json_parts.specs.Parts.{whole, each_at, list_text, cell_text, has_only}
 use Rattle.stream_input.specs.InputText.{rows, watermark, rows_text, watermark_text, entry_text}
-use Rattle.stream_input.specs.Seen.{Seen, Sees, Passes, Notes, seen_entry, seen_rows, seen_watermark}
+use Rattle.json_tokens.specs.Passed.{Passes}
+use Rattle.stream_input.specs.Seen.{Seen, Sees, Notes, seen_entry, seen_rows, seen_watermark}
 
 rows_member : (d : Data) → entry_text (object (member (codes "rows") d no_members)) ≡ option_and_then (λ f. Some (rows f)) (list_text (list_text cell_text) d)
 unfolding entry_text has_only rows_text each_at list_text

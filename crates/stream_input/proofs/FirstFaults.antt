@@ -1,9 +1,8 @@
 -- The first fault up to the range of times, by what is noted of a text.
-use Rattle.std.proofs.Common.{◌≡◌, ℕ, suc, ◌-◌, ◌^◌, ◌<◌, ◌≤◌, ◌==◌, ◌&&◌, ◌||◌, min, Bool, true, false, cond, List, [], ◌∷◌, map, length, Option, Some, None, option_map, option_and_then, is_some, unwrap_or, bytes_eq, Err, refl, sym, ap, ◌∙◌, arith}
+use Rattle.std.proofs.Common.{◌≡◌, ℕ, suc, ◌-◌, ◌^◌, ◌<◌, ◌≤◌, ◌==◌, ◌&&◌, ◌||◌, min, Bool, true, false, cond, List, [], ◌∷◌, map, length, Option, Some, None, option_map, is_some, unwrap_or, bytes_eq, Err, refl, sym, ap, ◌∙◌, arith}
 use Rattle.std.specs.List.{All, list_all, list_any, find, zip}
 use Rattle.std.specs.Option.{option_map_or}
 use Rattle.serde_json.specs.Data.{Members, object}
-use Rattle.serde_json.specs.Read.{read}
 use Rattle.json_parts.specs.Members.{members_text}
 use Rattle.plan_model.specs.declared.spec.SourceSpec.{SourceSpec}
 use Rattle.plan_model.specs.PlanData.{PlanData, IsPlan}
@@ -104,7 +103,6 @@ module _ (plan : PlanData) (ms : Members) (counts : List (Option ℕ)) (noted : 
     unfolding requirements
     time_fault wide whole sized h = rw (sources_met, partitions_met, width_is, wide, numbers_are, whole, rows_are, sized, times_are, h) refl
 
-pub document_said : (plan : PlanData) (ms : Members) (counts : List (Option ℕ)) (noted : Noted) (n : IsNoted plan ms counts noted) (bytes : List ℕ) → read bytes ≡ Some (object ms)
-    → option_and_then input_text (read bytes) ≡ Some n.text
+pub text_noted : (plan : PlanData) (ms : Members) (counts : List (Option ℕ)) (noted : Noted) (n : IsNoted plan ms counts noted) → input_text (object ms) ≡ Some n.text
 unfolding input_text members_text
-document_said plan ms counts noted n bytes is = ap (option_and_then input_text) is ∙ n.says
+text_noted plan ms counts noted n = n.says

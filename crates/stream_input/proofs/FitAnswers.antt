@@ -1,5 +1,5 @@
 -- What is answered of sources that meet the requirements up to the range of times.
-use Rattle.std.proofs.Common.{◌≡◌, ℕ, ◌^◌, Bool, true, false, cond, List, Option, Some, None, Ok, Err, option_and_then, is_some, length, refl, sym, ◌∙◌}
+use Rattle.std.proofs.Common.{◌≡◌, ℕ, ◌^◌, Bool, true, false, cond, List, Option, Some, None, Ok, Err, option_and_then, is_some, length, refl, sym, ap, ◌∙◌}
 use Rattle.std.specs.Prelude.{nat_le, IsUtf8}
 use Rattle.std.specs.Str.{is_utf8}
 use Rattle.std.proofs.lemmas.Str.{IsUtf8-from_is_utf8, is_utf8-from_IsUtf8}
@@ -9,13 +9,15 @@ use Rattle.json_parts.specs.Parts.{json_of}
 use Rattle.plan_model.specs.PlanData.{PlanData}
 use Rattle.stream_model.specs.declared.entry.Entry.{Entry}
 use Rattle.stream_input.specs.declared.fault.InputFault.{InputFault}
-use Rattle.stream_input.specs.declared.fault.InputFault.TheVariants.{NotJson, TooMany}
+use Rattle.stream_input.specs.declared.fault.InputFault.TheVariants.{NotJson, Member, TooMany}
 use Rattle.stream_model.specs.InputData.{input_data_of, all_records}
 use Rattle.stream_input.specs.InputText.{InputText, input_text}
 use Rattle.stream_model.specs.Late.{first_late}
 use Rattle.stream_input.specs.Fault.{late_fault}
 use Rattle.stream_input.specs.Requirements.{requirements, late_record, is_few}
-use Rattle.stream_input.specs.Answer.{text_of_bytes, input_or_fault, input_of_bytes}
+use Rattle.stream_input.specs.Answer.{if_ok, text_of_bytes, input_or_fault, input_of_bytes}
+use Rattle.stream_input.specs.Seen.{IsFaultOf}
+use Rattle.std.specs.Option.{ok_or}
 use Rattle.stream_input.specs.Fit.{AreOf}
 
 pub late_said : (plan : PlanData) (sources : List (List (List Entry))) (text : InputText) (place : ℕ × (ℕ × ℕ)) → AreOf plan sources text → first_late plan.window.time sources ≡ Some place
@@ -63,9 +65,13 @@ pub text_said : (bytes : List ℕ) (text : InputText) → option_and_then input_
 unfolding text_of_bytes
 text_said bytes text h = let d = of_data (json_of bytes) text h in rw (d.1, d.2) refl
 
-pub fault_told : (plan : PlanData) (bytes : List ℕ) (text : InputText) (fault : InputFault) → option_and_then input_text (json_of bytes) ≡ Some text → input_or_fault plan text ≡ Err fault → input_of_bytes plan bytes ≡ Err fault
-unfolding input_of_bytes
-fault_told plan bytes text fault h e = rw (text_said bytes text h) e
+fault_by : (plan : PlanData) (fault : InputFault) (o : Option InputText) → IsFaultOf plan fault o → if_ok (ok_or o Member) (input_or_fault plan) ≡ Err fault
+fault_by plan fault None h = ap Err (sym h)
+fault_by plan fault (Some text) h = h
+
+pub fault_told : (plan : PlanData) (bytes : List ℕ) (d : Data) (fault : InputFault) → json_of bytes ≡ Some d → IsFaultOf plan fault (input_text d) → input_of_bytes plan bytes ≡ Err fault
+unfolding input_of_bytes text_of_bytes
+fault_told plan bytes d fault is h = rw is (fault_by plan fault (input_text d) h)
 
 pub none_told : (plan : PlanData) (bytes : List ℕ) → json_of bytes ≡ None → input_of_bytes plan bytes ≡ Err NotJson
 unfolding input_of_bytes text_of_bytes

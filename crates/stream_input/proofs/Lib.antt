@@ -1,12 +1,11 @@
 mod Rows
-mod Passed
-mod FirstTokens
 mod Counted
 mod Notings
 mod EntryNotings
 mod SourceNotings
 mod NotedSources
 mod FirstFaults
+mod OtherForms
 mod Tables
 mod Sound
 mod Refines

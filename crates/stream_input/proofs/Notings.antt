@@ -15,7 +15,8 @@ use Rattle.json_tokens.proofs.Facts.{converted_some, list_opens}
 use Rattle.plain_data.specs.Record.{at}
 use Rattle.columns.specs.declared.TheConstants.{MOST_ROWS}
 use Rattle.stream_input.specs.Said.{number_of, record_of}
-use Rattle.stream_input.specs.Seen.{Seen, both, all_seen, Sees, Passes, Notes, Counts, seen_row, seen_rows}
+use Rattle.json_tokens.specs.Passed.{Passes}
+use Rattle.stream_input.specs.Seen.{Seen, both, all_seen, Sees, Notes, Counts, seen_row, seen_rows}
 use Rattle.stream_input.proofs.Slots.{and_then_parts, same_some}
 use Rattle.stream_input.proofs.Counted.{sized_count}
 

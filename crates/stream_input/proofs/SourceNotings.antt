@@ -9,7 +9,8 @@ use Rattle.json_parts.specs.Parts.{list_text, each}
 use Rattle.json_tokens.specs.Ahead.{parts}
 use Rattle.json_tokens.proofs.Facts.{converted_some, list_opens}
 use Rattle.stream_input.specs.InputText.{EntryText, entry_text}
-use Rattle.stream_input.specs.Seen.{Seen, SourceSeen, Sees, SeesSource, Passes, Counts, seen_source}
+use Rattle.json_tokens.specs.Passed.{Passes}
+use Rattle.stream_input.specs.Seen.{Seen, SourceSeen, Sees, SeesSource, Counts, seen_source}
 use Rattle.stream_input.proofs.Notings.{list_of_parts, no_parts, each_length}
 
 counted_by : (columns time count : ℕ) (ds : List Data) (seen : Seen) (o : Option (List (List EntryText))) → each (list_text entry_text) ds ≡ o → Counts count (length ds) → Sees (seen_source columns time) seen o

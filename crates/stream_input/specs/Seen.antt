@@ -1,18 +1,19 @@
 -- What is noted of a part of a text, of which nothing is kept.
-use Rattle.std.specs.Prelude.{◌≡◌, ℕ, ◌^◌, ◌-◌, ◌<◌, ◌≤◌, ℤ, Bool, true, false, ◌&&◌, ◌==◌, List, length, map, min, bytes_eq, Option, Some, None, is_some}
+use Rattle.std.specs.Prelude.{◌≡◌, ℕ, ◌^◌, ◌-◌, ◌<◌, ◌≤◌, ℤ, Bool, true, false, ◌&&◌, ◌==◌, List, length, map, min, bytes_eq, Option, Some, None, Err, is_some}
 use Rattle.std.specs.List.{list_all, list_any, find}
 use Rattle.std.specs.Option.{option_map}
-use Rattle.json.specs.Token as token
 use Rattle.json.specs.Token.{Token}
-use Rattle.json.specs.Json.{value}
-use Rattle.serde_json.specs.Data.{Data, Members}
-use Rattle.serde_json.specs.Read.{of_json, converted}
+use Rattle.serde_json.specs.Data.{Data, object, Members}
+use Rattle.json_tokens.specs.Passed.{Passes}
 use Rattle.json_parts.specs.Parts.{list_text}
 use Rattle.json_parts.specs.Members.{each_member}
 use Rattle.plain_data.specs.Record.{at}
 use Rattle.plan_model.specs.PlanData.{PlanData}
-use Rattle.stream_input.specs.InputText.{EntryText, rows, watermark, entry_text, InputText}
+use Rattle.stream_input.specs.InputText.{EntryText, rows, watermark, entry_text, InputText, input_text}
 use Rattle.stream_input.specs.Said.{record_of}
+use Rattle.stream_input.specs.declared.fault.InputFault.{InputFault}
+use Rattle.stream_input.specs.declared.fault.InputFault.TheVariants.{Member}
+use Rattle.stream_input.specs.Answer.{input_or_fault}
 use Rattle.stream_input.specs.Requirements.{is_wide, is_whole, is_sized, is_time, is_timely}
 pub use Rattle.stream_input.specs.declared.seen.Seen.{Seen}
 pub use Rattle.stream_input.specs.declared.seen.SourceSeen.{SourceSeen}
@@ -52,10 +53,6 @@ abbrev pub Sees : {X : Type 0} → (X → Seen) → Seen → Option X → Type 0
 Sees see seen None = seen.is_formed ≡ false
 Sees see seen (Some x) = seen ≡ see x
 
--- the next value, with the tokens behind it
-abbrev pub Passes : ℕ → List Token → Data → List Token → Type 0
-Passes depth old d new = converted of_json (value depth old) ≡ Some (d, new)
-
 -- the next value was passed, and that is noted of what f says of it
 abbrev pub Notes : {X : Type 0} → (Data → Option X) → (X → Seen) → ℕ → List Token → Seen → List Token → Type 0
 Notes f see depth old seen new = (d : Data) × Passes depth old d new × Sees see seen (f d)
@@ -86,38 +83,12 @@ pub record IsNoted (plan : PlanData) (ms : Members) (counts : List (Option ℕ))
   pub counted : counts ≡ map (λ s. count_at text s.uid) plan.sources
   pub seen : noted.is_planned ≡ true → noted.seen ≡ seen_text plan.columns plan.window.time text
 
-abbrev pub opens_list : Token → Bool
-opens_list token.begin_object = false
-opens_list token.end_object = false
-opens_list token.begin_array = true
-opens_list token.end_array = false
-opens_list (token.key s) = false
-opens_list (token.string s) = false
-opens_list (token.number s) = false
-opens_list (token.boolean b) = false
-opens_list token.null = false
-opens_list token.bad = false
+-- what is told of a document: that is noted, or nothing where a part has another form
+abbrev pub Tells : PlanData → List (Option ℕ) → Option Noted → Data → Type 0
+Tells plan counts None d = input_text d ≡ None
+Tells plan counts (Some noted) d = (ms : Members) × (d ≡ object ms) × IsNoted plan ms counts noted
 
-abbrev pub opens_object : Token → Bool
-opens_object token.begin_object = true
-opens_object token.end_object = false
-opens_object token.begin_array = false
-opens_object token.end_array = false
-opens_object (token.key s) = false
-opens_object (token.string s) = false
-opens_object (token.number s) = false
-opens_object (token.boolean b) = false
-opens_object token.null = false
-opens_object token.bad = false
-
-abbrev pub is_number : Token → Bool
-is_number token.begin_object = false
-is_number token.end_object = false
-is_number token.begin_array = false
-is_number token.end_array = false
-is_number (token.key s) = false
-is_number (token.string s) = false
-is_number (token.number s) = true
-is_number (token.boolean b) = false
-is_number token.null = false
-is_number token.bad = false
+-- the fault of a text that is JSON
+abbrev pub IsFaultOf : PlanData → InputFault → Option InputText → Type 0
+IsFaultOf plan fault None = fault ≡ Member
+IsFaultOf plan fault (Some text) = input_or_fault plan text ≡ Err fault

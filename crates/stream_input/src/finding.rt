@@ -1,45 +1,29 @@
 //! The fault of a text, found without keeping anything of it.
 
-ghost use Rattle.std.specs.Prelude.{◌≡◌, ◌<◌, ◌==◌, ◌+◌, List, Option, Some, None, Err, unwrap_or, is_some, length, map, slice_set, bytes_eq, option_and_then, IfOk, IfSome, OnOk};
+ghost use Rattle.std.specs.Prelude.{◌≡◌, ◌==◌, List, Some, None, Err, unwrap_or, is_some, length, map, IfOk, IfSome, OnOk};
 ghost use Rattle.std.specs.List.{list_all, zip};
 ghost use Rattle.json.specs.Token.{Token as SpecToken};
 ghost use Rattle.json.specs.Json.{read_key};
 ghost use Rattle.serde_json.specs.Data.{Data, Members, object, put as with_member};
+ghost use Rattle.serde_json.specs.Find.{get_member};
 ghost use Rattle.serde_json.specs.Read.{read};
 ghost use Rattle.json_parts.specs.Parts.{list_text};
 ghost use Rattle.json_tokens.proofs.Facts.{MembersRead};
-ghost use Rattle.stream_input.specs.InputText.{InputText, entry_text, input_text};
+ghost use Rattle.stream_input.specs.InputText.{entry_text, input_text};
 ghost use Rattle.stream_input.specs.Answer.{input_or_fault};
-ghost use Rattle.stream_input.specs.Seen.{IsNoted, Passes, SeesSource};
+ghost use Rattle.json_tokens.specs.Passed.{Passes};
+ghost use Rattle.stream_input.specs.Seen.{IsFaultOf, IsNoted, SeesSource, Tells};
 
 use crate::fault::InputFault;
-use crate::noting::{next_source, open_object};
-use crate::passing::MOST_DEPTH;
+use crate::noting::next_source;
 use crate::requirements::is_planned;
 use crate::seen::{Noted, SourceSeen, both, nothing};
-use crate::tokens::place_of;
+use crate::tokens::{empty_slots, place_of, put};
 use json::{Invalid, Reader, Scratch};
-use json_tokens::Miss;
+use json_tokens::{MOST_DEPTH, Miss, open_object, pass_value};
 use logical_plan::Plan;
 use plan_model::SourceSpec;
-use std::alloc::{AllocError, Global};
-
-fn no_counts(alloc: Global, specs: &[SourceSpec]) -> Result<Vec<Option<usize>>, AllocError>
-    ensures { IfOk result (λ counts. counts.items ≡ map (λ s. None) specs.now) }
-{
-    let mut counts = Vec::new(alloc);
-    for _spec in specs {
-        counts.push(None)?;
-    }
-    Ok(counts)
-}
-
-fn put(counts: &mut Vec<Option<usize>>, place: usize, count: usize)
-    requires { place < length counts.old.items }
-    ensures { counts.new.items ≡ slice_set counts.old.items place (Some count) }
-{
-    counts[place] = Some(count);
-}
+use std::alloc::Global;
 
 /// Takes one more member. One of another form is not told, nor is a source of the plan that came before.
 fn put_member(
@@ -76,16 +60,31 @@ fn put_member(
     })
 }
 
-/// The members of the document up to the closing brace.
+/// Passes the other members of an object up to the closing brace. None may have this name, under which a
+/// part of another form stands.
+fn pass_others<'a>(reader: &mut Reader<'a>, name: &'a str, depth: usize) -> Result<(), Invalid>
+    ensures { OnOk result ((start : List SpecToken) → (ms : Members) → (d : Data) → MembersRead depth start ms reader.old → get_member name.now ms ≡ Some d
+        → (all : Members) × (rest : List SpecToken) × MembersRead depth start all rest × (read_key rest ≡ Some (None, reader.new)) × (get_member name.now all ≡ Some d)) }
+{
+    'others: while let Some(other) = reader.next_key()? {
+        if other == name {
+            return Err(Invalid);
+        }
+        pass_value(reader, depth)?;
+    }
+    Ok(())
+}
+
+/// The members of the document up to the closing brace. None: a part has another form.
 fn members_noted(
     plan: &Plan,
     reader: &mut Reader<'_>,
     counts: &mut Vec<Option<usize>>,
     depth: usize,
-) -> Result<Noted, Invalid>
+) -> Result<Option<Noted>, Invalid>
     requires { counts.old.items ≡ map (λ s. None) plan.now.sources }
-    ensures { IfOk result (λ noted. (ms : Members) × (rest : List SpecToken) × MembersRead depth reader.old ms rest × (read_key rest ≡ Some (None, reader.new))
-        × IsNoted plan.now ms counts.new.items noted) }
+    ensures { IfOk result (λ told. (ms : Members) × (rest : List SpecToken) × MembersRead depth reader.old ms rest × (read_key rest ≡ Some (None, reader.new))
+        × Tells plan.now counts.new.items told (object ms)) }
 {
     let mut noted = Noted {
         is_planned: true,
@@ -93,24 +92,28 @@ fn members_noted(
     };
     'members: while let Some(name) = reader.next_key()? {
         let source = next_source(plan, reader, depth)?;
+        if !source.seen.is_formed {
+            pass_others(reader, name, depth)?;
+            return Ok(None);
+        }
         noted = put_member(plan, counts, noted, name, source)?;
     }
-    Ok(noted)
+    Ok(Some(noted))
 }
 
-/// The whole document, an object.
+/// The whole document. None: a part of it has another form.
 fn document_noted(
     plan: &Plan,
     reader: &mut Reader<'_>,
     counts: &mut Vec<Option<usize>>,
     depth: usize,
-) -> Result<Noted, Invalid>
+) -> Result<Option<Noted>, Invalid>
     requires { counts.old.items ≡ map (λ s. None) plan.now.sources }
-    ensures { IfOk result (λ noted. (ms : Members) × Passes depth reader.old (object ms) reader.new × IsNoted plan.now ms counts.new.items noted) }
+    ensures { IfOk result (λ told. (d : Data) × Passes depth reader.old d reader.new × Tells plan.now counts.new.items told d) }
 {
     let is_open = open_object(reader, depth)?;
     if !is_open {
-        return Err(Invalid);
+        return Ok(None);
     }
     members_noted(plan, reader, counts, depth - 1)
 }
@@ -159,20 +162,22 @@ fn first_fault(plan: &Plan, counts: &[Option<usize>], noted: Noted) -> Option<In
 ///
 /// # Errors
 ///
-/// `Other` where another reading has to tell: the text has no fault up to the range of times, or it is
-/// written in a rare way; `Memory`.
+/// `Other` where it is not told so: there is none, or the text is written in a rare way; `Memory`.
 pub fn fault_in(alloc: Global, plan: &Plan, text: &str) -> Result<InputFault, Miss>
-    ensures { IfOk result (λ fault. (said : InputText) × (option_and_then input_text (read text.now) ≡ Some said) × (input_or_fault plan.now said ≡ Err fault)) }
+    ensures { IfOk result (λ fault. (d : Data) × (read text.now ≡ Some d) × IsFaultOf plan.now fault (input_text d)) }
 {
-    let mut counts = no_counts(alloc, plan.sources())?;
+    let mut counts = empty_slots(alloc, plan.sources())?;
     let mut scratch = Scratch::new(alloc);
     let mut reader = Reader::new(text, &mut scratch)?;
-    let Ok(noted) = document_noted(plan, &mut reader, &mut counts, MOST_DEPTH) else {
+    let Ok(told) = document_noted(plan, &mut reader, &mut counts, MOST_DEPTH) else {
         return Err(Miss::Other);
     };
     if reader.next().is_some() {
         return Err(Miss::Other);
     }
+    let Some(noted) = told else {
+        return Ok(InputFault::Member);
+    };
     match first_fault(plan, &counts, noted) {
         Some(fault) => Ok(fault),
         None => Err(Miss::Other),

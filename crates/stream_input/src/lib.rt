@@ -5,8 +5,8 @@
 //! What a text says is defined in `specs/InputText` and `specs/Said`, what it must meet in
 //! `specs/Requirements`.
 //!
-//! `tokens` reads a text that meets it in one pass, straight into batches. Any other goes through
-//! `text`, `requirements` and `building`, which tell the fault.
+//! `tokens` reads a text that meets it in one pass, straight into batches. Of any other, `finding` finds the
+//! fault and keeps nothing; what neither takes goes through `text`, `requirements` and `building`.
 #![tactic(auto)]
 
 mod building;
@@ -15,8 +15,6 @@ mod fault;
 mod finding;
 mod input;
 mod noting;
-mod numerals;
-mod passing;
 mod reading;
 mod requirements;
 mod seen;

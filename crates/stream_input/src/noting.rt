@@ -1,93 +1,23 @@
 //! What is noted of entries, where nothing of them is kept.
 
-ghost use Rattle.std.specs.Prelude.{◌≡◌, ◌<◌, ◌≤◌, ◌==◌, ◌∷◌, ℤ, List, Option, Some, None, cond, length, min, IfOk, OnOk};
-ghost use Rattle.std.specs.Bool.{MatchBool};
-ghost use Rattle.json.specs.Token.{Token as SpecToken, begin_array, begin_object};
+ghost use Rattle.std.specs.Prelude.{◌≡◌, ◌<◌, ◌==◌, ℤ, List, Option, Some, None, cond, length, IfOk, OnOk};
+ghost use Rattle.json.specs.Token.{Token as SpecToken};
 ghost use Rattle.json.specs.Json.{read_key};
-ghost use Rattle.json.specs.Reads.{token_of};
 ghost use Rattle.serde_json.specs.Data.{Data, Members, object, member, no_members};
-ghost use Rattle.serde_json.specs.Find.{as_array, as_object};
 ghost use Rattle.json_parts.specs.Parts.{cell_text, list_text, each};
-ghost use Rattle.json_tokens.specs.Ahead.{part, parts};
+ghost use Rattle.json_tokens.specs.Ahead.{parts};
+ghost use Rattle.json_tokens.specs.Passed.{Passes};
 ghost use Rattle.json_tokens.proofs.Facts.{MembersRead};
 ghost use Rattle.stream_input.specs.InputText.{entry_text};
 ghost use Rattle.stream_input.specs.Said as said;
-ghost use Rattle.stream_input.specs.Seen.{Counts, Notes, Passes, Sees, SeesSource, all_seen, is_number, opens_list, opens_object, seen_entry, seen_partition, seen_row, seen_rows, seen_source, seen_watermark};
+ghost use Rattle.stream_input.specs.Seen.{Notes, Sees, SeesSource, seen_entry, seen_partition, seen_row, seen_rows, seen_source, seen_watermark};
 
-use crate::numerals::number_of;
-use crate::passing::{pass_rest, pass_value};
 use crate::requirements::{is_time, number_of as number_or_zero};
 use crate::seen::{Seen, SourceSeen, both, nothing, unformed};
 use columns::MOST_ROWS;
-use json::{Invalid, Reader, Token};
+use json::{Invalid, Reader};
+use json_tokens::{next_cell, open_list, open_object, pass_value};
 use logical_plan::Plan;
-
-fn is_list_start(token: &Token<'_>) -> bool
-    ensures { result ≡ opens_list (token_of token.now) }
-{
-    matches!(token, Token::BeginArray)
-}
-
-fn is_object_start(token: &Token<'_>) -> bool
-    ensures { result ≡ opens_object (token_of token.now) }
-{
-    matches!(token, Token::BeginObject)
-}
-
-fn is_number(token: &Token<'_>) -> bool
-    ensures { result ≡ is_number (token_of token.now) }
-{
-    matches!(token, Token::Number(_))
-}
-
-/// Passes the bracket that opens a list. Any other value is passed as a whole, and no list is open.
-fn open_list(reader: &mut Reader<'_>, depth: usize) -> Result<bool, Invalid>
-    ensures opened { IfOk result (λ is_open. MatchBool is_open ((reader.old ≡ begin_array ∷ reader.new) × (0 < depth)) ((d : Data) × Passes depth reader.old d reader.new × (as_array d ≡ None))) }
-    ensures shorter { OnOk result (length reader.new < length reader.old) }
-{
-    let token = reader.next().ok_or(Invalid)?;
-    if !is_list_start(&token) {
-        pass_rest(reader, token, depth)?;
-        return Ok(false);
-    }
-    if depth == 0 {
-        return Err(Invalid);
-    }
-    Ok(true)
-}
-
-/// Passes the brace that opens an object. Any other value is passed as a whole, and no object is open.
-pub fn open_object(reader: &mut Reader<'_>, depth: usize) -> Result<bool, Invalid>
-    ensures opened { IfOk result (λ is_open. MatchBool is_open ((reader.old ≡ begin_object ∷ reader.new) × (0 < depth)) ((d : Data) × Passes depth reader.old d reader.new × (as_object d ≡ None))) }
-    ensures shorter { OnOk result (length reader.new < length reader.old) }
-{
-    let token = reader.next().ok_or(Invalid)?;
-    if !is_object_start(&token) {
-        pass_rest(reader, token, depth)?;
-        return Ok(false);
-    }
-    if depth == 0 {
-        return Err(Invalid);
-    }
-    Ok(true)
-}
-
-/// The next value as a cell of a row.
-fn next_cell(reader: &mut Reader<'_>, depth: usize) -> Result<Option<i64>, Invalid>
-    ensures said { IfOk result (λ cell. part cell_text depth reader.old ≡ Some (cell, reader.new)) }
-    ensures shorter { OnOk result (length reader.new < length reader.old) }
-{
-    let token = reader.next().ok_or(Invalid)?;
-    if !is_number(&token) {
-        pass_rest(reader, token, depth)?;
-        return Ok(None);
-    }
-    let Token::Number(text) = token else {
-        return Err(Invalid);
-    };
-    let number = number_of(text).ok_or(Invalid)?;
-    Ok(number.as_i64())
-}
 
 /// The time of a row, once one more cell was read behind `count` others.
 fn time_after(time: i64, column: usize, count: usize, cell: Option<i64>) -> i64

@@ -10,12 +10,11 @@ ghost use Rattle.stream_input.specs.Answer.{Gives, is_memory, text_of_bytes, inp
 use crate::building::sources_of;
 use crate::fault::InputFault;
 use crate::finding::fault_in;
-use crate::passing::is_json;
 use crate::requirements;
 use crate::text::{SourceText, text_of_input};
 use crate::tokens::sources_in;
 use json_parts::{PartError, value_of};
-use json_tokens::Miss;
+use json_tokens::{Miss, is_json};
 use logical_plan::Plan;
 use plain_data::Items;
 use std::alloc::Global;
@@ -55,13 +54,12 @@ fn sources_by_value(alloc: Global, plan: &Plan, bytes: &[u8]) -> Result<Items<So
     ensures { Gives is_memory (λ sources. input_data_of plan.now.columns plan.now.window.time sources) result (input_of_bytes plan.now bytes.now) }
 {
     match fault_of(alloc, plan, bytes) {
-        Ok(fault) => Err(fault),
-        Err(Miss::Memory) => Err(InputFault::Memory),
-        Err(Miss::Other) => {
-            let text = text_of(alloc, bytes)?;
-            sources_from(alloc, plan, text.as_slice())
-        }
+        Ok(fault) => return Err(fault),
+        Err(Miss::Memory) => return Err(InputFault::Memory),
+        Err(Miss::Other) => {}
     }
+    let text = text_of(alloc, bytes)?;
+    sources_from(alloc, plan, text.as_slice())
 }
 
 /// The fault of the bytes, where it is found without a tree of the whole text.

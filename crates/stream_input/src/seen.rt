@@ -20,8 +20,7 @@ pub struct SourceSeen {
     pub partitions: usize,
 }
 
-/// What is noted of the sources of a text that have the form: whether the plan has each, and their
-/// entries.
+/// What is noted of sources that have the form: whether the plan has each, and their entries.
 #[derive(Clone, Copy, Debug, PartialEq, Eq)]
 pub struct Noted {
     pub is_planned: bool,

@@ -1,6 +1,5 @@
-//! An input read token by token, straight into batches.
-//!
-//! What is not read so is a [`Miss`]: a text with a fault, above all. The reading by value tells which.
+//! An input read token by token, straight into batches. What is not read so is a [`Miss`]: a text with a
+//! fault, above all.
 
 ghost use Rattle.std.specs.Prelude.{◌≡◌, ◌<◌, ◌==◌, Some, None, length, map, position, bytes_eq, slice_set, option_and_then, IfOk, OnOk};
 ghost use Rattle.std.specs.List.{list_all, zip};
@@ -13,9 +12,8 @@ ghost use Rattle.stream_input.specs.InputText.{input_text};
 ghost use Rattle.stream_input.specs.Fit.{fit_entry, IsSlots, IsRead};
 
 use crate::cells::batch_at;
-use crate::passing::MOST_DEPTH;
 use crate::requirements::is_time;
-use json_tokens::{Miss, Scanner, scan_rows};
+use json_tokens::{MOST_DEPTH, Miss, Scanner, scan_rows};
 use logical_plan::Plan;
 use plain_data::Items;
 use plan_model::SourceSpec;
@@ -109,7 +107,8 @@ pub fn place_of(specs: &[SourceSpec], name: &[u8]) -> Option<usize>
         .position(|spec| spec.uid.as_str().as_bytes() == name)
 }
 
-fn empty_slots(alloc: Global, specs: &[SourceSpec]) -> Result<Vec<Option<Source>>, Miss>
+/// A place for something of each source.
+pub fn empty_slots<T: Drop>(alloc: Global, specs: &[SourceSpec]) -> Result<Vec<Option<T>>, Miss>
     ensures { IfOk result (λ slots. slots.items ≡ map (λ s. None) specs.now) }
 {
     let mut slots = Vec::new(alloc);
@@ -119,11 +118,11 @@ fn empty_slots(alloc: Global, specs: &[SourceSpec]) -> Result<Vec<Option<Source>
     Ok(slots)
 }
 
-fn put(slots: &mut Vec<Option<Source>>, place: usize, source: Source)
+pub fn put<T: Drop>(slots: &mut Vec<Option<T>>, place: usize, part: T)
     requires { place < length slots.old.items }
-    ensures { slots.new.items ≡ slice_set slots.old.items place (Some source) }
+    ensures { slots.new.items ≡ slice_set slots.old.items place (Some part) }
 {
-    slots[place] = Some(source);
+    slots[place] = Some(part);
 }
 
 /// For each source of the plan its partitions, where the object has its uid, and no other name.

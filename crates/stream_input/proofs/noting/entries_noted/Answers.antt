@@ -3,7 +3,8 @@ use Rattle.serde_json.specs.Read.{converted}
 use Rattle.json_tokens.specs.Ahead.{part}
 use Rattle.json_tokens.proofs.Facts.{items_next, items_over}
 use Rattle.stream_input.specs.InputText.{entry_text}
-use Rattle.stream_input.specs.Seen.{Passes, seen_entry}
+use Rattle.json_tokens.specs.Passed.{Passes}
+use Rattle.stream_input.specs.Seen.{seen_entry}
 use Rattle.stream_input.proofs.Notings.{sees_more}
 use Rattle.stream_input.proofs.noting.entries_noted.Goals as goal
 

@@ -4,7 +4,8 @@ use Rattle.json_parts.specs.Parts.{list_text}
 use Rattle.json_tokens.specs.Ahead.{part}
 use Rattle.json_tokens.proofs.Facts.{items_begin, items_next, items_over}
 use Rattle.stream_input.specs.InputText.{entry_text}
-use Rattle.stream_input.specs.Seen.{Passes, seen_partition}
+use Rattle.json_tokens.specs.Passed.{Passes}
+use Rattle.stream_input.specs.Seen.{seen_partition}
 use Rattle.stream_input.proofs.Counted.{counts_none, counts_more}
 use Rattle.stream_input.proofs.Notings.{sees_more}
 use Rattle.stream_input.proofs.SourceNotings.{source_counted}

@@ -3,7 +3,8 @@ use Rattle.serde_json.specs.Read.{converted}
 use Rattle.json_parts.specs.Parts.{cell_text, list_text}
 use Rattle.json_tokens.specs.Ahead.{part}
 use Rattle.json_tokens.proofs.Facts.{items_begin, items_next, items_over}
-use Rattle.stream_input.specs.Seen.{Passes, seen_row}
+use Rattle.json_tokens.specs.Passed.{Passes}
+use Rattle.stream_input.specs.Seen.{seen_row}
 use Rattle.stream_input.proofs.Counted.{counts_none, counts_more}
 use Rattle.stream_input.proofs.Notings.{sees_more, rows_counted}
 use Rattle.stream_input.proofs.noting.rows_noted.Goals as goal

@@ -21,6 +21,6 @@ returns c =
     let bytes = c.args.bytes.now in
     IfOk-weaker c.fault_in.result _ _
     (λ fault told.
-    let said : option_and_then input_text (json_of bytes) ≡ Some told.0 = rw (json_of_text bytes c.in-Ok.ensures.cases.1) (rw c.in-Ok.ensures.cases.0 at told.1) in
-    fault_told plan bytes told.0 fault said told.2)
+    let is : json_of bytes ≡ Some told.0 = rw (json_of_text bytes c.in-Ok.ensures.cases.1) (rw c.in-Ok.ensures.cases.0 at told.1) in
+    fault_told plan bytes told.0 fault is told.2)
     c.fault_in.ensures

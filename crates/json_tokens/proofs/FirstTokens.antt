@@ -9,8 +9,8 @@ use Rattle.serde_json.specs.Find.{as_array, as_object, as_i64}
 use Rattle.serde_json.specs.Read.{of_json, of_items, of_members, converted, number_of}
 use Rattle.json_parts.specs.Parts.{whole, cell_text}
 use Rattle.json_tokens.specs.Ahead.{part}
-use Rattle.stream_input.specs.Seen.{Passes, opens_list, opens_object, is_number}
-use Rattle.stream_input.proofs.Passed.{converted-array, converted-object}
+use Rattle.json_tokens.specs.Passed.{Passes, opens_list, opens_object, is_number}
+use Rattle.json_tokens.proofs.Passed.{converted-array, converted-object}
 
 -- what g says of the value that was read, if it was
 abbrev of_read : {X : Type 0} → (Data → Option X) → Option (Data × List Token) → Option X

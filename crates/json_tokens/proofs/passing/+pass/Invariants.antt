@@ -2,7 +2,7 @@ use Rattle.std.proofs.Common.{◌≡◌, ℕ, ◌+◌, ◌*◌, ◌≤◌, lengt
 use Rattle.json.specs.Json.{items, members, value, parse_map}
 use Rattle.serde_json.specs.Data.{Items, Members, no_members}
 use Rattle.serde_json.specs.Read.{of_items, of_members, converted}
-use Rattle.stream_input.proofs.passing.+pass.Given as goal
+use Rattle.json_tokens.proofs.passing.+pass.Given as goal
 
 abbrev pub decreases-pass_value : goal.decreases-pass_value
 decreases-pass_value l = 3 * l.depth + 1

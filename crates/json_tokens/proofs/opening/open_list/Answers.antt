@@ -1,8 +1,8 @@
 use Rattle.std.proofs.Common.{◌≡◌, ◌∷◌, false, sym, arith}
 use Rattle.json.specs.Reads.{token_of}
-use Rattle.stream_input.specs.Seen.{opens_list}
-use Rattle.stream_input.proofs.FirstTokens.{no_list}
-use Rattle.stream_input.proofs.noting.open_list.Goals as goal
+use Rattle.json_tokens.specs.Passed.{opens_list}
+use Rattle.json_tokens.proofs.FirstTokens.{no_list}
+use Rattle.json_tokens.proofs.opening.open_list.Goals as goal
 
 pub returns-then-not-is_list_start-clause-opened : goal.returns-then-not-is_list_start-clause-opened
 returns-then-not-is_list_start-clause-opened c =

@@ -5,9 +5,9 @@ use Rattle.serde_json.specs.Read.{number_of}
 use Rattle.serde_json.specs.View.{number_view}
 use Rattle.json_parts.specs.Parts.{cell_text}
 use Rattle.json_tokens.specs.Ahead.{part}
-use Rattle.stream_input.specs.Seen.{is_number}
-use Rattle.stream_input.proofs.FirstTokens.{other_cell, number_cell}
-use Rattle.stream_input.proofs.noting.next_cell.Goals as goal
+use Rattle.json_tokens.specs.Passed.{is_number}
+use Rattle.json_tokens.proofs.FirstTokens.{other_cell, number_cell}
+use Rattle.json_tokens.proofs.opening.next_cell.Goals as goal
 
 pub returns-then-not-is_number-clause-said : goal.returns-then-not-is_number-clause-said
 returns-then-not-is_number-clause-said c =

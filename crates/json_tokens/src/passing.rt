@@ -5,7 +5,7 @@ ghost use Rattle.json.specs.Json.{value, items, members};
 ghost use Rattle.json.specs.Reads.{token_of};
 ghost use Rattle.serde_json.specs.Data.{Data, Items, Members, no_members};
 ghost use Rattle.serde_json.specs.Read.{of_json, of_items, of_members, converted, read};
-ghost use Rattle.stream_input.specs.Seen.{Passes};
+ghost use Rattle.json_tokens.specs.Passed.{Passes};
 
 use crate::numerals::number_of;
 use json::{Invalid, Reader, Scratch, Token};

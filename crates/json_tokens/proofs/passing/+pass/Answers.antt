@@ -5,8 +5,8 @@ use Rattle.json.proofs.Grammar.{value_is, value-begin_array, value-begin_object,
 use Rattle.serde_json.specs.Data.{null, boolean, string, number, array, object, no_items, no_members, item, put}
 use Rattle.serde_json.specs.View.{number_view}
 use Rattle.serde_json.specs.Read.{of_json, of_items, converted}
-use Rattle.stream_input.proofs.Passed.{either_way, converted-array, converted-object, before_item, nothing_before, item_read, item_refused, items_over, member_read, member_refused, key_refused, members_over}
-use Rattle.stream_input.proofs.passing.+pass.Goals as goal
+use Rattle.json_tokens.proofs.Passed.{either_way, converted-array, converted-object, before_item, nothing_before, item_read, item_refused, items_over, member_read, member_refused, key_refused, members_over}
+use Rattle.json_tokens.proofs.passing.+pass.Goals as goal
 
 pub pass_items-items-init : goal.pass_items-items-init
 pass_items-items-init t c =

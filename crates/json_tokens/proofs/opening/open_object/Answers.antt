@@ -1,8 +1,8 @@
 use Rattle.std.proofs.Common.{◌≡◌, ◌∷◌, false, sym, arith}
 use Rattle.json.specs.Reads.{token_of}
-use Rattle.stream_input.specs.Seen.{opens_object}
-use Rattle.stream_input.proofs.FirstTokens.{other_object}
-use Rattle.stream_input.proofs.noting.open_object.Goals as goal
+use Rattle.json_tokens.specs.Passed.{opens_object}
+use Rattle.json_tokens.proofs.FirstTokens.{other_object}
+use Rattle.json_tokens.proofs.opening.open_object.Goals as goal
 
 pub returns-then-not-is_object_start-clause-opened : goal.returns-then-not-is_object_start-clause-opened
 returns-then-not-is_object_start-clause-opened c =
