@@ -74,30 +74,6 @@ no_list depth t ts r d h e = from_read as_array depth (t ∷ ts) r d _ _ (value_
 pub other_object : (depth : ℕ) (t : Token) (ts r : List Token) (d : Data) → opens_object t ≡ false → Passes depth (t ∷ ts) d r → as_object d ≡ None
 other_object depth t ts r d h e = from_read as_object depth (t ∷ ts) r d _ _ (value_is depth (t ∷ ts)) (no_object_with _ _ t ts h) e
 
-pub list_starts : (t : Token) → opens_list t ≡ true → t ≡ Token.begin_array
-list_starts Token.begin_array h = refl
-list_starts Token.begin_object h = absurd (cc)
-list_starts Token.end_object h = absurd (cc)
-list_starts Token.end_array h = absurd (cc)
-list_starts (Token.key s) h = absurd (cc)
-list_starts (Token.string s) h = absurd (cc)
-list_starts (Token.number s) h = absurd (cc)
-list_starts (Token.boolean b) h = absurd (cc)
-list_starts Token.null h = absurd (cc)
-list_starts Token.bad h = absurd (cc)
-
-pub object_starts : (t : Token) → opens_object t ≡ true → t ≡ Token.begin_object
-object_starts Token.begin_object h = refl
-object_starts Token.begin_array h = absurd (cc)
-object_starts Token.end_object h = absurd (cc)
-object_starts Token.end_array h = absurd (cc)
-object_starts (Token.key s) h = absurd (cc)
-object_starts (Token.string s) h = absurd (cc)
-object_starts (Token.number s) h = absurd (cc)
-object_starts (Token.boolean b) h = absurd (cc)
-object_starts Token.null h = absurd (cc)
-object_starts Token.bad h = absurd (cc)
-
 -- ---- cells
 
 pub other_cell : (depth : ℕ) (t : Token) (ts r : List Token) (d : Data) → is_number t ≡ false → Passes depth (t ∷ ts) d r → part cell_text depth (t ∷ ts) ≡ Some (None, r)

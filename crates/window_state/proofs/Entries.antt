@@ -66,13 +66,6 @@ pub total_cond : (b : Bool) (a o : Option AccData) → option_map (λ (x : AccDa
 total_cond true a o = refl
 total_cond false a o = refl
 
--- where something is written in one pane, or taken out there
-pub get-written : (p : Pane) (a : Option AccData) (m n : List (Pane × AccData)) → ((q : Pane) → acc_at n q ≡ cond (is_pane p q) a (acc_at m q))
-    → (q : Pane) → get (from_entries {R = pane_cmp} (totals n)) q ≡ cond (is_pane p q) (option_map (λ (x : AccData). x.total) a) (get (from_entries {R = pane_cmp} (totals m)) q)
-get-written p a m n is q =
-    get-totals n q ∙ ap (option_map (λ (x : AccData). x.total)) (is q) ∙ total_cond (is_pane p q) a (acc_at m q)
-    ∙ ap (cond (is_pane p q) (option_map (λ (x : AccData). x.total) a)) (sym (get-totals m q))
-
 -- ---- entries in the order of their panes
 
 and_T : (a b : Bool) → T a → T b → T (a && b)

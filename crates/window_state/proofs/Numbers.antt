@@ -110,9 +110,6 @@ pub number-below : (n : ℕ) (k : Kind) (ws vs : List ℤ) (x : ℕ) → AgreeBe
 number-below n k ws vs x h = number-same n k ws vs x x (λ j low. h (x + j) (omega (arith, low)))
 
 -- or not yet
-pub numbers-above : (n : ℕ) (ks : List Kind) (ws vs : List ℤ) (x y z : ℕ) → IsWritten x y ws vs → y ≤ z → numbers_at n ks vs z ≡ numbers_at n ks ws z
-numbers-above n ks ws vs x y z h low = numbers-same n ks ws vs z z (λ j l. h.above (z + j) (omega (arith, low)))
-
 pub number-above : (n : ℕ) (k : Kind) (ws vs : List ℤ) (x y z : ℕ) → IsWritten x y ws vs → y ≤ z → number_at n k vs z ≡ number_at n k ws z
 number-above n k ws vs x y z h low = number-same n k ws vs z z (λ j l. h.above (z + j) (omega (arith, low)))
 
