@@ -21,9 +21,9 @@ complete -c streamjob -n '__fish_seen_subcommand_from leg' -l stop -r -d 'Cut to
 complete -c streamjob -n '__fish_seen_subcommand_from leg' -l save -r -d 'File to write the savepoint to, if the leg stops' -F
 complete -c streamjob -n '__fish_seen_subcommand_from import' -F
 complete -c streamjob -n '__fish_seen_subcommand_from import' -l names -r -d 'File of the table of names, read where it is there, and written' -F
-complete -c streamjob -n '__fish_seen_subcommand_from import' -l bound -r -d 'How far behind the greatest time a record may come; without it there are no watermarks' -f
+complete -c streamjob -n '__fish_seen_subcommand_from import' -l bound -r -d 'How far behind the greatest time of earlier entries a record may come; without it there are no watermarks' -f
 complete -c streamjob -n '__fish_seen_subcommand_from import' -l late -r -d 'File to write late records to; without it the first is refused' -F
-complete -c streamjob -n '__fish_seen_subcommand_from import' -l rows -r -d 'Most rows of an entry, 1 to 4096; a watermark comes after each entry' -f
+complete -c streamjob -n '__fish_seen_subcommand_from import' -l rows -r -d 'Most rows of an entry, 1 to 4096 (4096); watermarks stand between entries, so 1 looks at each record' -f
 complete -c streamjob -n '__fish_seen_subcommand_from layout' -F
 complete -c streamjob -n '__fish_seen_subcommand_from check' -F
 complete -c streamjob -n '__fish_seen_subcommand_from check' -l scale -r -d 'JSON file of the scale: a ring'\''s capacity and each operator'\''s parallelism' -F
