@@ -5,6 +5,7 @@ mod Names
 mod Passes
 mod ItemTurns
 mod MemberTurns
+mod NamedMembers
 mod NumberTexts
 mod RowLists
 mod Starts

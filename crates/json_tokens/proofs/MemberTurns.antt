@@ -1,5 +1,5 @@
 -- The grammar's loop over the members of an object, a turn at a time, under what the members say.
-use Rattle.std.proofs.Common.{arith, ◌≡◌, ℕ, ◌-◌, ◌<◌, ◌≤◌, List, ◌∷◌, length, Option, Some, None, option_map, refl, ap, ◌∙◌}
+use Rattle.std.proofs.Common.{arith, ◌≡◌, ℕ, ◌-◌, ◌<◌, List, ◌∷◌, length, Option, Some, None, option_map, refl, ap, ◌∙◌}
 use Rattle.json.specs.Token.{Token}
 use Rattle.json.specs.Json as json
 use Rattle.json.specs.Json.{parse_map, read_key, members, value}
@@ -7,6 +7,7 @@ use Rattle.json.proofs.Grammar.{members_end, members_more, value-begin_object}
 use Rattle.serde_json.specs.Data.{Data, object, Members, no_members, member, put}
 use Rattle.serde_json.specs.Read.{of_json, of_members, converted}
 use Rattle.json_tokens.specs.Ahead.{part}
+use Rattle.json_tokens.specs.Passed.{MembersRead}
 use Rattle.json_tokens.proofs.Converted.{converted_some, twice}
 
 with_member : (k : List ℕ) (j : json.Json) (d : Data) (old : Members) → of_json j ≡ Some d → (o : Option (json.Members × List Token))
@@ -17,17 +18,6 @@ with_member k j d old e (Some p) = rw e
 converted-object : (o : Option (json.Members × List Token)) → converted of_json (parse_map json.object o) ≡ parse_map object (converted (λ ms. of_members ms no_members) o)
 converted-object None = refl
 converted-object (Some p) = twice object p.1 (of_members p.0 no_members)
-
--- what the members up to the closing brace make of those before, in at most n turns
-abbrev after : ℕ → Members → ℕ → List Token → Option (Members × List Token)
-after depth old n ts = converted (λ ms. of_members ms old) (members (value depth) n ts)
-
--- of the members that began at `start`, those that make up `ms` have been read, and `rest` is still to come
-pub record MembersRead (depth : ℕ) (start : List Token) (ms : Members) (rest : List Token) : Type 0 where
-  pub turns : ℕ
-  pub enough : length rest ≤ turns
-  pub shorter : length rest ≤ length start
-  pub so_far : after depth no_members (length start) start ≡ after depth ms turns rest
 
 pub members_begin : (depth : ℕ) (ts : List Token) → MembersRead depth ts no_members ts
 members_begin depth ts = record { turns = length ts; enough = omega arith; shorter = omega arith; so_far = refl }

@@ -1,5 +1,5 @@
 -- What is noted of a part of a text, of which nothing is kept.
-use Rattle.std.specs.Prelude.{◌≡◌, ℕ, ◌^◌, ◌-◌, ◌<◌, ◌≤◌, ℤ, Bool, true, false, ◌&&◌, ◌==◌, List, length, map, min, bytes_eq, Option, Some, None, Err, is_some}
+use Rattle.std.specs.Prelude.{◌≡◌, ℕ, ◌^◌, ◌-◌, ◌<◌, ◌≤◌, ℤ, true, false, ◌&&◌, ◌==◌, List, length, map, min, bytes_eq, Option, Some, None, Err, is_some}
 use Rattle.std.specs.List.{list_all, list_any, find}
 use Rattle.std.specs.Option.{option_map}
 use Rattle.json.specs.Token.{Token}

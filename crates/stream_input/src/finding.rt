@@ -5,13 +5,11 @@ ghost use Rattle.std.specs.List.{list_all, zip};
 ghost use Rattle.json.specs.Token.{Token as SpecToken};
 ghost use Rattle.json.specs.Json.{read_key};
 ghost use Rattle.serde_json.specs.Data.{Data, Members, object, put as with_member};
-ghost use Rattle.serde_json.specs.Find.{get_member};
 ghost use Rattle.serde_json.specs.Read.{read};
 ghost use Rattle.json_parts.specs.Parts.{list_text};
-ghost use Rattle.json_tokens.proofs.Facts.{MembersRead};
 ghost use Rattle.stream_input.specs.InputText.{entry_text, input_text};
 ghost use Rattle.stream_input.specs.Answer.{input_or_fault};
-ghost use Rattle.json_tokens.specs.Passed.{Passes};
+ghost use Rattle.json_tokens.specs.Passed.{MembersRead, Passes};
 ghost use Rattle.stream_input.specs.Seen.{IsFaultOf, IsNoted, SeesSource, Tells};
 
 use crate::fault::InputFault;
@@ -20,7 +18,7 @@ use crate::requirements::is_planned;
 use crate::seen::{Noted, SourceSeen, both, nothing};
 use crate::tokens::{empty_slots, place_of, put};
 use json::{Invalid, Reader, Scratch};
-use json_tokens::{MOST_DEPTH, Miss, open_object, pass_value};
+use json_tokens::{MOST_DEPTH, Miss, open_object, pass_others};
 use logical_plan::Plan;
 use plan_model::SourceSpec;
 use std::alloc::Global;
@@ -58,21 +56,6 @@ fn put_member(
         is_planned: noted.is_planned,
         seen: both(source.seen, noted.seen),
     })
-}
-
-/// Passes the other members of an object up to the closing brace. None may have this name, under which a
-/// part of another form stands.
-fn pass_others<'a>(reader: &mut Reader<'a>, name: &'a str, depth: usize) -> Result<(), Invalid>
-    ensures { OnOk result ((start : List SpecToken) → (ms : Members) → (d : Data) → MembersRead depth start ms reader.old → get_member name.now ms ≡ Some d
-        → (all : Members) × (rest : List SpecToken) × MembersRead depth start all rest × (read_key rest ≡ Some (None, reader.new)) × (get_member name.now all ≡ Some d)) }
-{
-    'others: while let Some(other) = reader.next_key()? {
-        if other == name {
-            return Err(Invalid);
-        }
-        pass_value(reader, depth)?;
-    }
-    Ok(())
 }
 
 /// The members of the document up to the closing brace. None: a part has another form.

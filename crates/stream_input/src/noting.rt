@@ -6,8 +6,7 @@ ghost use Rattle.json.specs.Json.{read_key};
 ghost use Rattle.serde_json.specs.Data.{Data, Members, object, member, no_members};
 ghost use Rattle.json_parts.specs.Parts.{cell_text, list_text, each};
 ghost use Rattle.json_tokens.specs.Ahead.{parts};
-ghost use Rattle.json_tokens.specs.Passed.{Passes};
-ghost use Rattle.json_tokens.proofs.Facts.{MembersRead};
+ghost use Rattle.json_tokens.specs.Passed.{MembersRead, Passes};
 ghost use Rattle.stream_input.specs.InputText.{entry_text};
 ghost use Rattle.stream_input.specs.Said as said;
 ghost use Rattle.stream_input.specs.Seen.{Notes, Sees, SeesSource, seen_entry, seen_partition, seen_row, seen_rows, seen_source, seen_watermark};
@@ -16,7 +15,7 @@ use crate::requirements::{is_time, number_of as number_or_zero};
 use crate::seen::{Seen, SourceSeen, both, nothing, unformed};
 use columns::MOST_ROWS;
 use json::{Invalid, Reader};
-use json_tokens::{next_cell, open_list, open_object, pass_value};
+use json_tokens::{next_cell, open_list, open_object, pass_others, pass_value};
 use logical_plan::Plan;
 
 /// The time of a row, once one more cell was read behind `count` others.
@@ -46,13 +45,11 @@ fn cells_noted(plan: &Plan, reader: &mut Reader<'_>, depth: usize) -> Result<See
         time = time_after(time, column, count, cell);
         count = count.saturating_add(1);
     }
-    Ok(Seen {
-        is_formed: true,
-        is_wide: count == plan.columns() as usize,
-        is_whole,
-        is_sized: true,
-        is_timely: is_time(time),
-    })
+    let mut seen = nothing();
+    seen.is_wide = count == plan.columns() as usize;
+    seen.is_whole = is_whole;
+    seen.is_timely = is_time(time);
+    Ok(seen)
 }
 
 /// The next value as a row.
@@ -102,13 +99,10 @@ fn next_watermark(plan: &Plan, reader: &mut Reader<'_>, depth: usize) -> Result<
     ensures shorter { OnOk result (length reader.new < length reader.old) }
 {
     let cell = next_cell(reader, depth)?;
-    Ok(Seen {
-        is_formed: true,
-        is_wide: true,
-        is_whole: cell.is_some(),
-        is_sized: true,
-        is_timely: is_time(number_or_zero(cell)),
-    })
+    let mut seen = nothing();
+    seen.is_whole = cell.is_some();
+    seen.is_timely = is_time(number_or_zero(cell));
+    Ok(seen)
 }
 
 /// The value of an entry's only member, which has this name.
@@ -132,7 +126,7 @@ fn next_member(
     Ok(unformed())
 }
 
-/// The members of an entry, at most one, up to the closing brace.
+/// The members of an entry up to the closing brace. With two of them it is none.
 fn members_noted(plan: &Plan, reader: &mut Reader<'_>, depth: usize) -> Result<Seen, Invalid>
     ensures said { IfOk result (λ seen. (ms : Members) × (rest : List SpecToken) × MembersRead depth reader.old ms rest × (read_key rest ≡ Some (None, reader.new))
         × Sees (seen_entry plan.now.columns plan.now.window.time) seen (entry_text (object ms))) }
@@ -142,13 +136,18 @@ fn members_noted(plan: &Plan, reader: &mut Reader<'_>, depth: usize) -> Result<S
         return Ok(unformed());
     };
     let seen = next_member(plan, reader, name, depth)?;
-    let Some(_) = reader.next_key()? else {
+    let Some(other) = reader.next_key()? else {
         return Ok(seen);
     };
-    Err(Invalid)
+    if other == name {
+        return Err(Invalid);
+    }
+    pass_value(reader, depth)?;
+    pass_others(reader, name, depth)?;
+    Ok(unformed())
 }
 
-/// The next value as an entry. One with more than one member is not told.
+/// The next value as an entry. One whose first member stands twice is not told.
 fn next_entry(plan: &Plan, reader: &mut Reader<'_>, depth: usize) -> Result<Seen, Invalid>
     ensures said { IfOk result (λ seen. Notes entry_text (seen_entry plan.now.columns plan.now.window.time) depth reader.old seen reader.new) }
     ensures shorter { OnOk result (length reader.new < length reader.old) }

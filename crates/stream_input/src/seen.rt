@@ -31,13 +31,9 @@ pub struct Noted {
 pub fn unformed() -> Seen
     ensures { result.is_formed ≡ false }
 {
-    Seen {
-        is_formed: false,
-        is_wide: true,
-        is_whole: true,
-        is_sized: true,
-        is_timely: true,
-    }
+    let mut seen = nothing();
+    seen.is_formed = false;
+    seen
 }
 
 /// Of no part yet.

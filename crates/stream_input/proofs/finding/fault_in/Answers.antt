@@ -1,11 +1,10 @@
-use Rattle.std.proofs.Common.{◌≡◌, [], Some, None, refl, sym, ap, ◌∙◌, subst, rules}
+use Rattle.std.proofs.Common.{◌≡◌, [], Some, sym, ap, ◌∙◌, subst, rules}
 use Rattle.json.specs.Json.{value}
 use Rattle.json.specs.Lex.{tokens}
-use Rattle.serde_json.specs.Data.{object}
 use Rattle.serde_json.specs.Read.{of_json, converted}
 use Rattle.json_tokens.proofs.Facts.{text_read}
 use Rattle.stream_input.specs.InputText.{input_text}
-use Rattle.stream_input.specs.Seen.{IsNoted, IsFaultOf, Tells}
+use Rattle.stream_input.specs.Seen.{IsNoted, Tells}
 use Rattle.stream_input.proofs.FirstFaults.{text_noted}
 use Rattle.stream_input.proofs.finding.fault_in.Goals as goal
 

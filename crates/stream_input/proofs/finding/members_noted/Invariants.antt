@@ -1,6 +1,6 @@
 use Rattle.std.proofs.Common.{length}
 use Rattle.serde_json.specs.Data.{Members}
-use Rattle.json_tokens.proofs.Facts.{MembersRead}
+use Rattle.json_tokens.specs.Passed.{MembersRead}
 use Rattle.stream_input.specs.Seen.{IsNoted}
 use Rattle.stream_input.proofs.finding.members_noted.Given as goal
 

@@ -1,4 +1,4 @@
-use Rattle.std.proofs.Common.{◌≡◌, ◌^◌, ◌-◌, ◌<◌, ◌==◌, ◌&&◌, ◌∷◌, ◌++◌, [], true, cond, length, SFits, Some, is_some, refl, sym, ap, ap₂, ◌∙◌, to_z-of_z, w64, arith, rules}
+use Rattle.std.proofs.Common.{◌≡◌, ◌^◌, ◌-◌, ◌<◌, ◌==◌, ◌&&◌, ◌∷◌, ◌++◌, [], cond, length, SFits, Some, is_some, refl, sym, ap, ap₂, ◌∙◌, to_z-of_z, w64, arith, rules}
 use Rattle.json_parts.specs.Parts.{cell_text}
 use Rattle.json_tokens.specs.Ahead.{part}
 use Rattle.json_tokens.proofs.Facts.{items_begin, items_next, items_over}
@@ -38,8 +38,10 @@ returns-clause-said c =
     let few = c.columns.ensures.sound.columns_few in
     let narrow : c.columns.result < 2 ^ 64 - 1 = omega (arith, c.columns.ensures.says) in
     let wide = same_count l.count (length i.0) c.columns.result narrow i.2 ∙ ap (λ n. length i.0 == n) c.columns.ensures.says in
-    let timely = c.is_time.ensures ∙ ap is_time (i.4 ∙ ap (λ w. at w.time (record_of i.0)) c.window.ensures.says) in (
+    let timely = c.is_time.ensures ∙ ap is_time (i.4 ∙ ap (λ w. at w.time (record_of i.0)) c.window.ensures.says) in
+    let formed = ap (λ s. s.is_formed) c.nothing-seen.ensures in
+    let sized = ap (λ s. s.is_sized) c.nothing-seen.ensures in (
       i.0,
       items_over cell_text c.args.depth c.args.reader.now l.reader c.take_end_array.new.self i.0 i.1 (grind arith),
-      λ o. record { is_formed = true; is_wide = wide o; is_whole = i.3 o; is_sized = true; is_timely = timely o },
+      λ o. record { is_formed = formed o; is_wide = wide o; is_whole = i.3 o; is_sized = sized o; is_timely = timely o },
     )

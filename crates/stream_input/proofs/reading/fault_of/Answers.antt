@@ -1,8 +1,7 @@
-use Rattle.std.proofs.Common.{◌≡◌, ◌∙◌, Some, false, sym, is_some, option_and_then}
+use Rattle.std.proofs.Common.{◌≡◌, ◌∙◌, Some, false, sym, is_some}
 use Rattle.std.proofs.lemmas.Result.{IfOk-weaker}
 use Rattle.serde_json.specs.Read.{read}
 use Rattle.json_parts.specs.Parts.{json_of}
-use Rattle.stream_input.specs.InputText.{input_text}
 use Rattle.stream_input.proofs.FitAnswers.{json_of_text, json_of_other, fault_told, none_told, no_text}
 use Rattle.stream_input.proofs.reading.fault_of.Goals as goal
 

@@ -1,6 +1,6 @@
 use Rattle.std.proofs.Common.{◌-◌, length}
 use Rattle.serde_json.specs.Data.{Members}
-use Rattle.json_tokens.proofs.Facts.{MembersRead}
+use Rattle.json_tokens.specs.Passed.{MembersRead}
 use Rattle.stream_input.specs.Fit.{IsSlots}
 use Rattle.stream_input.proofs.tokens.next_slots.Given as goal
 
