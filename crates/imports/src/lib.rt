@@ -12,6 +12,7 @@ mod records;
 mod refusal;
 mod row;
 mod telling;
+mod watched;
 mod words;
 
 pub use fault::RowFault;

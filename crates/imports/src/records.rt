@@ -1,6 +1,7 @@
 //! The records of a CSV text.
 
 use crate::fault::{RowFault, read_fault};
+use crate::watched::Watched;
 use csv::{ByteRecord, Reader, ReaderBuilder};
 use std::alloc::Global;
 use std::io::Read;
@@ -8,7 +9,7 @@ use std::io::Read;
 /// The records of a CSV text, one after the other. The first is the header.
 #[derive(Drop)]
 pub struct CsvRows<R> {
-    reader: Reader<R>,
+    reader: Reader<Watched<R>>,
     record: ByteRecord,
     width: Option<usize>,
     /// Whether the reader has gone over the line feed behind a record, as it has not where a carriage return stands before it.
@@ -30,7 +31,7 @@ impl<R: Read> CsvRows<R> {
         let mut builder = ReaderBuilder::new();
         let builder = builder.has_headers(false).flexible(true);
         CsvRows {
-            reader: builder.from_reader(alloc, input),
+            reader: builder.from_reader(alloc, Watched::new(input)),
             record: ByteRecord::new(alloc),
             width: None,
             is_past_lines: false,
@@ -57,10 +58,15 @@ impl<R: Read> CsvRows<R> {
             Some(_) => Ok(true),
             None => {
                 self.width = Some(width);
-                self.is_past_lines = self.last_line() > self.first_line();
+                self.is_past_lines = self.last_line() > self.front_line();
                 Ok(true)
             }
         }
+    }
+
+    /// The line of the first record.
+    fn front_line(&self) -> u64 {
+        self.reader.get_ref().lines().saturating_add(1)
     }
 
     /// The line at which the reader looked for the record, which is that of the record or one before it.
