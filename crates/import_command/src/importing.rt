@@ -1,6 +1,7 @@
 //! From the words of an import to the input.
 
-use crate::keeping::{keep_late, late_file, late_rows, written};
+use crate::apart::check_apart;
+use crate::keeping::{keep_late, late_file, late_rows, named, written};
 use crate::names::{keep_names, names_at};
 use crate::words::{ImportWords, entry_rule};
 use import_columns::Column;
@@ -21,6 +22,7 @@ fn rule_of<'i, R: AllocGlobal>(
     check_columns(rt.alloc(), columns, plan.columns(), words.names.is_some())?;
     let entries = entry_rule(rt.alloc(), words)?;
     check_sources(rt.alloc(), words.sources, plan.sources())?;
+    check_apart(rt.alloc(), words)?;
     Ok(ImportRule {
         sources: plan.sources(),
         words: words.sources,
@@ -42,7 +44,11 @@ fn write_files<R: Files + RandomSource + AllocGlobal>(
     let late_path = words.late.unwrap_or("");
     let mut late = late_rows(rt, late_path, new_late, rule.columns)?;
     let mut file = written(rt, words.input, new.open(rt))?;
-    import_files(rt, rule, names, &mut late, &mut file)?;
+    named(
+        rt,
+        words,
+        import_files(rt, rule, names, &mut late, &mut file),
+    )?;
     keep_late(rt, late_path, new_late, late)?;
     keep_names(rt, words.names, names)?;
     written(rt, words.input, new.keep(rt, &file))
@@ -72,7 +78,8 @@ fn import_by<R: Files + RandomSource + AllocGlobal>(
 ///
 /// # Errors
 ///
-/// What is refused first, the words before the files; `Write` where a file cannot be written; `Memory`. The input's file then holds what it held.
+/// What is refused first, the words before the files; `Write` where a file cannot be written, is read too or would be written
+/// twice; `Memory`. The input's file then holds what it held.
 pub fn import<R: Files + RandomSource + AllocGlobal>(
     rt: &R,
     plan: &Plan,

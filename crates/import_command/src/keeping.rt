@@ -1,5 +1,6 @@
 //! The files that an import writes.
 
+use crate::words::ImportWords;
 use import_columns::Column;
 use imports::{ImportCode, ImportFault, LateRows, RowFault, refused};
 use new_files::NewFile;
@@ -26,6 +27,25 @@ pub(crate) fn written<R: AllocGlobal, T>(
         Ok(value) => Ok(value),
         Err(error) => Err(write_fault(rt, path, &error)),
     }
+}
+
+/// Names the file that was not written, where an import does not tell which: that of the input, or that of late rows.
+pub(crate) fn named<R: AllocGlobal>(
+    rt: &R,
+    words: &ImportWords<'_>,
+    answer: Result<(), ImportFault>,
+) -> Result<(), ImportFault> {
+    let Err(ImportFault::Write) = &answer else {
+        return answer;
+    };
+    let input = words.input;
+    Err(match words.late {
+        Some(late) => refused(
+            ImportCode::Write,
+            format!(in rt.alloc(); "{input} or {late}"),
+        ),
+        None => refused(ImportCode::Write, format!(in rt.alloc(); "{input}")),
+    })
 }
 
 /// The place for late rows in a file, if there is a path for them.

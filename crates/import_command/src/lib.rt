@@ -1,6 +1,7 @@
 //! The command `import`: its words, the files that they name, and the input that is made of them.
 #![tactic(auto)]
 
+mod apart;
 mod importing;
 mod keeping;
 mod names;

@@ -61,11 +61,14 @@ F1 Read no-such-file.csv
 
 Standard output took no more: the disk is full, or the other end of a pipe is closed. How much of the answer was taken is not known.
 `leg --save` also says it where the file cannot be written: a folder stands there, its folder is missing or takes no files of yours, or the disk
-is full. Then no row was printed, and the file is as it was. So does `import`, of INPUT and of the files of `--names` and `--late`.
+is full. Then no row was printed, and the file is as it was. So does `import`, of INPUT and of the files of `--names` and `--late`; and where
+one of them is named twice, or is a file of a source too, since one would be written over the other. Two names of one file are not told apart.
 
 ```console
 $ streamjob import plan.json no-such-folder/new.json at,key calls=calls.csv
 F2 Write no-such-folder/new.json
+$ streamjob import plan.json calls.csv at,key calls=calls.csv
+F2 Write calls.csv: the import reads it too
 $ streamjob group 7 128 4 > /dev/full
 F2 Write
 $ streamjob leg plan.json input.json scale.json --stop 1 --save no-such-folder/savepoint
