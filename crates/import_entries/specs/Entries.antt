@@ -39,7 +39,7 @@ mark_said bound latest = None
 -- a time at or below a watermark is late
 abbrev pub late_said : Option ℤ → ℤ → Option PlaceFault
 late_said None time = None
-late_said (Some mark) time = if int_le time mark then Some (Late mark) else None
+late_said (Some mark) time = if int_le time mark then Some (Late time mark) else None
 
 -- why the next row goes nowhere, if it does not
 unfoldable pub place_fault : ℕ → Option ℕ → List ℤ → ℤ → Option PlaceFault

@@ -14,6 +14,6 @@ pub enum Place {
 pub enum PlaceFault {
     /// Its time is not -2^62 to 2^62 - 1.
     Range,
-    /// It is late: its time is not above this watermark.
-    Late(i64),
+    /// It is late: its time, and the watermark that it is not above.
+    Late(i64, i64),
 }

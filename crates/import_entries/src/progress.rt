@@ -49,7 +49,7 @@ fn late(mark: Option<i64>, time: i64) -> Option<PlaceFault>
     ensures { result ≡ late_said mark time }
 {
     match mark {
-        Some(mark) if time <= mark => Some(PlaceFault::Late(mark)),
+        Some(mark) if time <= mark => Some(PlaceFault::Late(time, mark)),
         _ => None,
     }
 }

@@ -19,7 +19,7 @@ member_code member.NoText = code.Value
 
 abbrev pub place_code : PlaceFault → ImportCode
 place_code place.Range = code.TimeRange
-place_code (place.Late mark) = code.LateRow
+place_code (place.Late time mark) = code.LateRow
 
 -- what is told of a row of a file
 abbrev pub TellsRow : RowFault → ImportFault → Type 0

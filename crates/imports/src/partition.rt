@@ -73,9 +73,9 @@ fn put_or_keep<R: Read + Drop, L: Write + Drop>(
     ensures stays { (start : Option (List ℕ)) (now : Option (List ℕ)) → Writes start now partition.old → OnOk result (Writes start now partition.new) }
 {
     match put(partition, row, time) {
-        Err(RowFault::Place(PlaceFault::Late(mark))) => match late {
+        Err(RowFault::Place(PlaceFault::Late(at, mark))) => match late {
             Some(late) => late.put(columns, places, rows.record()),
-            None => Err(RowFault::Place(PlaceFault::Late(mark))),
+            None => Err(RowFault::Place(PlaceFault::Late(at, mark))),
         },
         other => other,
     }

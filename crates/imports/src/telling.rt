@@ -111,9 +111,11 @@ fn refused_place(alloc: Global, spot: Spot<'_>, name: &str, fault: PlaceFault) -
             ImportCode::TimeRange,
             format!(in alloc; "{file}:{line}: {name}: a time is from -2^62 to 2^62 - 1"),
         ),
-        PlaceFault::Late(mark) => refused(
+        PlaceFault::Late(time, mark) => refused(
             ImportCode::LateRow,
-            format!(in alloc; "{file}:{line}: {name}: the time is not above the watermark {mark}"),
+            format!(in alloc;
+                "{file}:{line}: {name}: the time {time} is not above the watermark {mark}"
+            ),
         ),
     }
 }

@@ -509,10 +509,11 @@ at,key
 
 ```console
 $ streamjob import plan.json new.json at,key calls=calls.csv --bound 2 --rows 1
-D7 LateRow calls.csv:4: at: the time is not above the watermark 7
+D7 LateRow calls.csv:4: at: the time 6 is not above the watermark 7
 ```
 
-Take a greater bound, leave it out, or have late records written to a file of their own by `--late FILE`.
+Take a greater bound, by the watermark less the time and 1 (here 2 more, 4), leave it out, or have late records written to a file of their own by
+`--late FILE`.
 "#,
     ),
     (
