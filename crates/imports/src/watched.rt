@@ -15,27 +15,22 @@ struct Front {
     lines: u64,
 }
 
-impl Front {
-    /// Takes in the next byte, which stands at a place of the front if it belongs to it.
-    fn put(&mut self, place: usize, byte: u8) {
-        if byte == b'\n' {
-            self.lines = self.lines.saturating_add(1);
-        }
-        let is_blank = byte == b'\n' || byte == b'\r' || MARK.get(place) == Some(&byte);
-        self.place = if is_blank {
-            Some(place.saturating_add(1))
-        } else {
-            None
-        };
-    }
+/// Whether a byte that comes behind so many others of the front belongs to it.
+fn is_of_front(place: usize, byte: u8) -> bool {
+    byte == b'\n' || byte == b'\r' || MARK.get(place) == Some(&byte)
+}
 
+impl Front {
     /// Takes in the next bytes, up to the first that does not belong to the front.
     fn watch(&mut self, bytes: &[u8]) {
         for byte in bytes {
-            let Some(place) = self.place else {
-                return;
-            };
-            self.put(place, *byte);
+            match self.place {
+                Some(place) if is_of_front(place, *byte) => {
+                    self.place = Some(place.saturating_add(1));
+                    self.lines = self.lines.saturating_add(u64::from(*byte == b'\n'));
+                }
+                _ => self.place = None,
+            }
         }
     }
 }
@@ -49,13 +44,9 @@ pub(crate) struct Watched<R> {
 
 impl<R> Watched<R> {
     pub(crate) fn new(reader: R) -> Watched<R> {
-        Watched {
-            reader,
-            front: Front {
-                place: Some(0),
-                lines: 0,
-            },
-        }
+        let (place, lines) = (Some(0), 0);
+        let front = Front { place, lines };
+        Watched { reader, front }
     }
 
     /// How many line feeds stand before the first character.
