@@ -207,7 +207,8 @@ fn layout_words<'a>(alloc: Global) -> Result<Command<'a>, AllocError>
 const CHECK: &str = "\
 It prints nothing of files that are right. Of the first that is refused, in the order plan, input, scale,
 it prints each place, up to 20, at which the requirement that standard error names is not met:
-`FILE:LINE:COLUMN: what stands there, and what has to`. Of each file it then warns, up to 20 times, of
+`FILE:LINE:COLUMN: what stands there, and what has to`, and then those of later requirements, with `also`
+and their fault before the sentence. Of each file it then warns, up to 20 times, of
 members that stand twice, of which the last counts, of watermarks that are below one before them, and of
 partitions whose watermarks never rise.
 

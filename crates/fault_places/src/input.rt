@@ -121,8 +121,39 @@ fn test_of(plan: &Plan, fault: InputFault) -> Test {
     }
 }
 
-/// Tells of the places at which an input, which is JSON, does not meet the requirement of a fault.
+/// The faults of an input that is JSON, in the order of their requirements, but for the last: a record is late where all else is met.
+const FAULTS: [InputFault; 7] = [
+    InputFault::Member,
+    InputFault::Source,
+    InputFault::Partitions,
+    InputFault::Width,
+    InputFault::Number,
+    InputFault::Rows,
+    InputFault::TimeRange,
+];
+
+/// Tells of the places at which an input, which is JSON, does not meet the requirement of a fault, the first that it does not meet,
+/// and then of those at which it does not meet a later one.
 pub(crate) fn check(
+    notes: &mut Notes,
+    plan: &Plan,
+    input: &Placed<'_>,
+    fault: InputFault,
+) -> Result<(), AllocError> {
+    check_one(notes, plan, input, fault)?;
+    let mut is_later = false;
+    for next in &FAULTS {
+        if is_later && !notes.is_full() {
+            notes.go_on(*next)?;
+            check_one(notes, plan, input, *next)?;
+        }
+        is_later = is_later || *next == fault;
+    }
+    Ok(())
+}
+
+/// Tells of the places at which an input does not meet the requirement of a fault.
+fn check_one(
     notes: &mut Notes,
     plan: &Plan,
     input: &Placed<'_>,
@@ -130,6 +161,9 @@ pub(crate) fn check(
 ) -> Result<(), AllocError> {
     if fault == InputFault::Member {
         return check_shape(notes, input);
+    }
+    if !matches!(input.token, Token::BeginObject) {
+        return Ok(());
     }
     let parts = input.parts(notes.alloc)?;
     match fault {

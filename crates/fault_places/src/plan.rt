@@ -12,12 +12,45 @@ use logical_plan::PlanFault;
 use std::alloc::AllocError;
 use text_places::Placed;
 
-/// Tells of the places at which a plan, which is JSON, does not meet the requirement of a fault.
+/// The faults of a plan that is JSON, in the order of their requirements.
+const FAULTS: [PlanFault; 14] = [
+    PlanFault::Member,
+    PlanFault::Columns,
+    PlanFault::ColumnIndex,
+    PlanFault::MaxParallelism,
+    PlanFault::Sources,
+    PlanFault::Partitions,
+    PlanFault::Uid,
+    PlanFault::UidTwice,
+    PlanFault::Filters,
+    PlanFault::WindowSize,
+    PlanFault::WindowSlide,
+    PlanFault::WindowOffset,
+    PlanFault::Panes,
+    PlanFault::Aggregates,
+];
+
+/// Tells of the places at which a plan, which is JSON, does not meet the requirement of a fault, the first that it does not meet,
+/// and then of those at which it does not meet a later one.
 pub(crate) fn check(
     notes: &mut Notes,
     plan: &Placed<'_>,
     fault: PlanFault,
 ) -> Result<(), AllocError> {
+    check_one(notes, plan, fault)?;
+    let mut is_later = false;
+    for next in &FAULTS {
+        if is_later && !notes.is_full() {
+            notes.go_on(*next)?;
+            check_one(notes, plan, *next)?;
+        }
+        is_later = is_later || *next == fault;
+    }
+    Ok(())
+}
+
+/// Tells of the places at which a plan does not meet the requirement of a fault.
+fn check_one(notes: &mut Notes, plan: &Placed<'_>, fault: PlanFault) -> Result<(), AllocError> {
     match fault {
         PlanFault::NotJson | PlanFault::Memory => Ok(()),
         PlanFault::Member => shape::check_shape(notes, plan),

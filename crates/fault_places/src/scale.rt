@@ -200,8 +200,38 @@ fn check_ring(notes: &mut Notes, scale: &Placed<'_>) -> Result<(), AllocError> {
     check_range(notes, member, Range { least: 1, most })
 }
 
-/// Tells of the places at which a scale, which is JSON, does not meet the requirement of a fault.
+/// The faults of a scale that is JSON, in the order of their requirements, but for the last: how many tasks a layout has is not
+/// counted here.
+const FAULTS: [ScaleFault; 5] = [
+    ScaleFault::Member,
+    ScaleFault::UnknownUid,
+    ScaleFault::MissingUid,
+    ScaleFault::Parallelism,
+    ScaleFault::Ring,
+];
+
+/// Tells of the places at which a scale, which is JSON, does not meet the requirement of a fault, the first that it does not meet,
+/// and then of those at which it does not meet a later one.
 pub(crate) fn check(
+    notes: &mut Notes,
+    plan: &Plan,
+    scale: &Placed<'_>,
+    fault: ScaleFault,
+) -> Result<(), AllocError> {
+    check_one(notes, plan, scale, fault)?;
+    let mut is_later = false;
+    for next in &FAULTS {
+        if is_later && !notes.is_full() {
+            notes.go_on(*next)?;
+            check_one(notes, plan, scale, *next)?;
+        }
+        is_later = is_later || *next == fault;
+    }
+    Ok(())
+}
+
+/// Tells of the places at which a scale does not meet the requirement of a fault.
+fn check_one(
     notes: &mut Notes,
     plan: &Plan,
     scale: &Placed<'_>,

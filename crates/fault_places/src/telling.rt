@@ -12,6 +12,10 @@ use text_places::{Finding, Findings, MOST_PLACES, Placed, place_of};
 pub(crate) struct Notes {
     pub(crate) alloc: Global,
     pub(crate) places: Vec<Finding>,
+    /// How many of them are those of requirements before this one.
+    settled: usize,
+    /// The fault of this requirement, where it is not the first.
+    later: Option<String>,
 }
 
 impl Notes {
@@ -19,14 +23,46 @@ impl Notes {
         Notes {
             alloc,
             places: Vec::new(alloc),
+            settled: 0,
+            later: None,
+        }
+    }
+
+    /// Whether there are places enough.
+    pub(crate) fn is_full(&self) -> bool {
+        self.places.len() >= MOST_PLACES
+    }
+
+    /// Goes on to the requirement of a fault behind that of which was told so far. What stands at a place of that one is not told
+    /// again.
+    pub(crate) fn go_on<D: fmt::Display + Drop>(&mut self, fault: D) -> Result<(), AllocError> {
+        self.settled = self.places.len();
+        self.later = Some(format!(in self.alloc; "{fault}")?);
+        Ok(())
+    }
+
+    fn is_told(&self, offset: usize) -> bool {
+        self.places
+            .iter()
+            .take(self.settled)
+            .any(|it| it.offset == offset)
+    }
+
+    /// The sentence, with the fault where it is not the first.
+    fn said(&self, sentence: String) -> Result<String, AllocError> {
+        match &self.later {
+            Some(fault) => format!(in self.alloc; "also {fault}: {sentence}"),
+            None => Ok(sentence),
         }
     }
 
     /// Keeps one more place, unless there are enough.
     pub(crate) fn tell(&mut self, offset: usize, sentence: String) -> Result<(), AllocError> {
-        if self.places.len() < MOST_PLACES {
-            self.places.push(Finding { offset, sentence })?;
+        if self.is_full() || self.is_told(offset) {
+            return Ok(());
         }
+        let sentence = self.said(sentence)?;
+        self.places.push(Finding { offset, sentence })?;
         Ok(())
     }
 }

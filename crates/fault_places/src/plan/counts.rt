@@ -3,6 +3,7 @@
 use crate::owner::{Member, Owner};
 use crate::seeing::{items_of, member_of, whole_of};
 use crate::telling::{Notes, tell_value};
+use json::Token;
 use plan_model::{MOST_AGGREGATES, MOST_CONDITIONS, MOST_SOURCES};
 use std::alloc::{AllocError, Global};
 use std::fmt;
@@ -122,9 +123,19 @@ fn check_having(notes: &mut Notes, member: Member<'_, '_>, count: usize) -> Resu
     }
 }
 
+/// How many aggregates a window has, if it has a list of them.
+fn aggregates_of(alloc: Global, window: &Placed<'_>) -> Result<Option<usize>, AllocError> {
+    match member_of(alloc, window, "aggregates")? {
+        Some(list) if matches!(list.token, Token::BeginArray) => Ok(Some(count_of(alloc, &list)?)),
+        _ => Ok(None),
+    }
+}
+
 /// Tells of the having conditions of a window that name none of its aggregates.
 fn check_havings(notes: &mut Notes, window: &Placed<'_>) -> Result<(), AllocError> {
-    let count = items_of(notes.alloc, window, "aggregates")?.len();
+    let Some(count) = aggregates_of(notes.alloc, window)? else {
+        return Ok(());
+    };
     let having = items_of(notes.alloc, window, "having")?;
     for (i, item) in having.iter().enumerate() {
         let member = Member {

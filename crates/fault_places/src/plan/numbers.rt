@@ -69,16 +69,27 @@ fn of_plan<'m>(plan: &'m Placed<'m>, name: &'static str) -> Member<'static, 'm> 
     }
 }
 
-/// The number of columns of a plan.
-fn columns_of(alloc: Global, plan: &Placed<'_>) -> Result<i64, AllocError> {
-    let columns = member_of(alloc, plan, "columns")?;
-    Ok(columns.and_then(|value| whole_of(&value)).unwrap_or(0))
+/// How many columns a plan may have.
+fn column_counts() -> Range {
+    Range {
+        least: 1,
+        most: i64::from(MOST_COLUMNS),
+    }
+}
+
+/// The number of columns of a plan, if it may have so many.
+fn columns_of(alloc: Global, plan: &Placed<'_>) -> Result<Option<i64>, AllocError> {
+    let columns = member_of(alloc, plan, "columns")?.and_then(|value| whole_of(&value));
+    Ok(if column_counts().has(columns) {
+        columns
+    } else {
+        None
+    })
 }
 
 /// Tells of a number of columns that is not 1 to 16.
 pub(crate) fn check_columns(notes: &mut Notes, plan: &Placed<'_>) -> Result<(), AllocError> {
-    let most = i64::from(MOST_COLUMNS);
-    check_range(notes, of_plan(plan, "columns"), Range { least: 1, most })
+    check_range(notes, of_plan(plan, "columns"), column_counts())
 }
 
 fn check_filter_columns(
@@ -104,7 +115,9 @@ fn check_aggregate_columns(
 
 /// Tells of numbers that name no column.
 pub(crate) fn check_column_indices(notes: &mut Notes, plan: &Placed<'_>) -> Result<(), AllocError> {
-    let columns = columns_of(notes.alloc, plan)?;
+    let Some(columns) = columns_of(notes.alloc, plan)? else {
+        return Ok(());
+    };
     check_column(notes, of_plan(plan, "time"), columns)?;
     check_column(notes, of_plan(plan, "key"), columns)?;
     check_filter_columns(notes, plan, columns)?;

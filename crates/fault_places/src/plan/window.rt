@@ -19,6 +19,15 @@ struct Lengths {
     offset: usize,
 }
 
+/// How long a window and its slide may be.
+fn possible_lengths() -> Range {
+    Range {
+        least: 1,
+        most: LONGEST_WINDOW,
+    }
+}
+
+/// The size and the slide, if both may be so long.
 fn lengths_of(alloc: Global, window: &Placed<'_>) -> Result<Option<Lengths>, AllocError> {
     let Some(size_value) = member_of(alloc, window, "size")? else {
         return Ok(None);
@@ -27,6 +36,9 @@ fn lengths_of(alloc: Global, window: &Placed<'_>) -> Result<Option<Lengths>, All
     let (Some(size), Some(slide)) = (whole_of(&size_value), whole_of(&slide_value)) else {
         return Ok(None);
     };
+    if !possible_lengths().has(Some(size)) || !possible_lengths().has(Some(slide)) {
+        return Ok(None);
+    }
     Ok(Some(Lengths {
         size,
         slide,
@@ -80,9 +92,6 @@ fn tell_panes(notes: &mut Notes, lengths: Lengths, panes: u64) -> Result<(), All
 
 /// Tells of a slide of which more than 256 go into the size.
 fn check_panes_of(notes: &mut Notes, lengths: Lengths) -> Result<(), AllocError> {
-    if lengths.size < 1 || lengths.slide < 1 {
-        return Ok(());
-    }
     let panes = lengths
         .size
         .unsigned_abs()
@@ -130,6 +139,5 @@ pub(crate) fn check_length(
         object: &window,
         name,
     };
-    let most = LONGEST_WINDOW;
-    check_range(notes, member, Range { least: 1, most })
+    check_range(notes, member, possible_lengths())
 }
