@@ -92,6 +92,9 @@ fn tell_panes(notes: &mut Notes, lengths: Lengths, panes: u64) -> Result<(), All
 
 /// Tells of a slide of which more than 256 go into the size.
 fn check_panes_of(notes: &mut Notes, lengths: Lengths) -> Result<(), AllocError> {
+    if lengths.slide < 1 {
+        return Ok(());
+    }
     let panes = lengths
         .size
         .unsigned_abs()
