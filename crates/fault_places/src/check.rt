@@ -115,8 +115,8 @@ fn tell_whole(alloc: Global, found: &mut Findings, sentence: &str) -> Result<(),
     found.tell(0, String::from_str(alloc, sentence)?)
 }
 
-/// The places at which the bytes of a text that was refused do not meet the requirement of its fault: at least
-/// one, and of many the first 20.
+/// The places at which the bytes of a text that was refused do not meet the requirement of its fault, and behind them those
+/// at which they do not meet a later one: at least one, and of many the first 20.
 ///
 /// # Errors
 ///
@@ -142,7 +142,7 @@ fn tell<W: Write>(alloc: Global, text: &[u8], file: &str, refused: Refused<'_>, 
 }
 
 /// The plan that the bytes are. Nothing is written of one that is right, and of another a line for each place at
-/// which it does not meet the first requirement that it does not meet, with the name of its file.
+/// which it does not meet the first requirement that it does not meet, and then a later one, with the name of its file.
 ///
 /// # Errors
 ///
