@@ -6,4 +6,3 @@ pub mod Cut
 pub mod LayoutText
 pub mod Tells
 pub mod ShowText
-pub mod Narrow

@@ -1,13 +1,14 @@
 //! The text of rows.
 
-ghost use Rattle.std.specs.Prelude.{◌≡◌, ◌++◌, OnOk, IfOk, string_bytes};
+ghost use Rattle.std.specs.Prelude.{◌≡◌, ◌≤◌, ◌++◌, length, OnOk, IfOk, string_bytes};
 ghost use Rattle.std.specs.Fmt.{signed_decimal};
+ghost use Rattle.std.specs.List.{flat_map};
+ghost use Rattle.plan_model.specs.declared.limits.TheConstants.{MOST_AGGREGATES};
 ghost use Rattle.job_texts.specs.Text.{line_of, spaced, text_of_rows};
-ghost use Rattle.job_texts.specs.Narrow.{AreNarrow};
 
-use crate::narrow::{ROOM, are_narrow, put_line};
-use crate::number::{push_decimal, push_number, push_numbers};
-use plan_model::Row;
+use crate::narrow::{ROOM, put_line};
+use crate::number::{push_decimal, push_number};
+use plan_model::{Numbers, Row};
 use std::alloc::{AllocError, Global};
 use std::str::from_utf8_unchecked;
 
@@ -19,12 +20,28 @@ fn write_head(text: &mut String, row: &Row) -> Result<(), AllocError>
     push_number(text, row.key)
 }
 
-/// The line of a row of few numbers of 64 bits, by the room for such a line.
-fn write_narrow(text: &mut String, line: &mut [u8; ROOM], row: &Row) -> Result<(), AllocError>
-    requires { AreNarrow row.now.values }
+/// A space and the number in decimal for each number, in order.
+fn write_numbers(text: &mut String, numbers: &Numbers) -> Result<(), AllocError>
+    ensures { OnOk result (string_bytes text.new ≡ string_bytes text.old ++ flat_map spaced numbers.now) }
+{
+    for index in 0..numbers.len() {
+        push_number(text, numbers.get(index).unwrap())?;
+    }
+    Ok(())
+}
+
+/// The line of a row whose numbers have 64 bits, by the room for such a line.
+fn write_narrow(
+    text: &mut String,
+    line: &mut [u8; ROOM],
+    row: &Row,
+    numbers: &[i64],
+) -> Result<(), AllocError>
+    requires same { numbers.now ≡ row.now.values }
+    requires few { length numbers.now ≤ MOST_AGGREGATES }
     ensures { OnOk result (string_bytes text.new ≡ string_bytes text.old ++ line_of row.now) }
 {
-    let start = put_line(line, row);
+    let start = put_line(line, row, numbers);
     text.push_str(unsafe { from_utf8_unchecked(&line[start..]) })
 }
 
@@ -33,17 +50,17 @@ fn write_wide(text: &mut String, row: &Row) -> Result<(), AllocError>
     ensures { OnOk result (string_bytes text.new ≡ string_bytes text.old ++ line_of row.now) }
 {
     write_head(text, row)?;
-    push_numbers(text, row.values.as_slice())?;
+    write_numbers(text, &row.values)?;
     text.push_str("\n")
 }
 
 fn write_row(text: &mut String, line: &mut [u8; ROOM], row: &Row) -> Result<(), AllocError>
     ensures { OnOk result (string_bytes text.new ≡ string_bytes text.old ++ line_of row.now) }
 {
-    if are_narrow(row.values.as_slice()) {
-        return write_narrow(text, line, row);
+    match row.values.narrow() {
+        Some(numbers) => write_narrow(text, line, row, numbers),
+        None => write_wide(text, row),
     }
-    write_wide(text, row)
 }
 
 /// The text of rows: a line each, in order.

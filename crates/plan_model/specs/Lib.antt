@@ -5,3 +5,5 @@ pub mod Windows
 pub mod Aggregates
 pub mod Rows
 pub mod Laws
+pub mod Numbers
+pub mod NumbersView

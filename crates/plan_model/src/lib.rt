@@ -3,6 +3,7 @@
 
 pub mod laws;
 mod limits;
+mod numbers;
 mod spec;
 mod uid;
 
@@ -10,5 +11,6 @@ pub use limits::{
     LONGEST_UID, LONGEST_WINDOW, MOST_AGGREGATES, MOST_CONDITIONS, MOST_PARTITIONS, MOST_RECORDS,
     MOST_SOURCES, MOST_WINDOWS,
 };
+pub use numbers::Numbers;
 pub use spec::{Aggregate, FilterSpec, Having, Pane, Row, SourceSpec, WindowSpec};
 pub use uid::{Uid, is_uid, put_uid, read_uid};

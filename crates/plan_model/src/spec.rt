@@ -1,5 +1,6 @@
 //! The parts of a plan, a pane, and a row of the answer.
 
+use crate::numbers::Numbers;
 use crate::uid::Uid;
 use lane_kernels::Cmp;
 use plain_data::Items;
@@ -90,5 +91,5 @@ pub struct Row {
     pub start: i64,
     pub end: i64,
     pub key: i64,
-    pub values: Items<i128>,
+    pub values: Numbers,
 }

@@ -119,7 +119,7 @@ fn play_part<R: Abort>(rt: &R, world: &mut World, part: &Part) {
 }
 
 /// The start, the key and the numbers of a row.
-type Shown = (i64, i64, [i128; 2]);
+type Shown = (i64, i64, [i64; 2]);
 
 /// How a world has ended.
 #[derive(Clone, Copy)]
@@ -130,7 +130,11 @@ enum Ending {
 }
 
 fn is_shown(row: &Row, shown: &Shown) -> bool {
-    (row.start, row.key) == (shown.0, shown.1) && row.values.as_slice() == shown.2.as_slice()
+    (row.start, row.key) == (shown.0, shown.1)
+        && row
+            .values
+            .narrow()
+            .is_some_and(|numbers| numbers == shown.2.as_slice())
 }
 
 fn are_shown(rows: &[Row], shown: &[Shown]) -> bool {

@@ -1,4 +1,4 @@
-//! Tests of values: batches, accumulators, tokens of JSON, key groups and kernels.
+//! Tests of values: batches, accumulators, numbers of rows, tokens of JSON, key groups and kernels.
 #![tactic(auto)]
 
 #[cfg(test)]
@@ -9,5 +9,7 @@ mod batches;
 mod groups;
 #[cfg(test)]
 mod kernels;
+#[cfg(test)]
+mod numbers;
 #[cfg(test)]
 mod tokens;

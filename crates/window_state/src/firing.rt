@@ -9,8 +9,7 @@ ghost use Rattle.window_state.specs.State.{fired};
 ghost use Rattle.window_state.specs.Firing.{AllDue, NoneDue, IsWithout};
 
 use crate::windows::Windows;
-use plain_data::Items;
-use plan_model::{Pane, Row, WindowSpec};
+use plan_model::{Numbers, Pane, Row, WindowSpec};
 use std::alloc::{AllocError, Global};
 use std::collections::BTreeSet;
 
@@ -23,16 +22,16 @@ fn is_due(w: &WindowSpec, watermark: i64, start: i64) -> bool
 }
 
 /// The row of the numbers of a pane.
-fn row_of(w: &WindowSpec, pane: Pane, numbers: Vec<i128>) -> Row
+fn row_of(w: &WindowSpec, pane: Pane, numbers: Numbers) -> Row
     requires operator { IsOperator w.now }
     requires start { IsStart pane.start }
-    ensures { (n : ℕ) → result ≡ row_at w.now pane (record { count = n; numbers = numbers.items }) }
+    ensures { (n : ℕ) → result ≡ row_at w.now pane (record { count = n; numbers = numbers }) }
 {
     Row {
         start: pane.start,
         end: pane.start + w.size,
         key: pane.key,
-        values: Items::from_vec(numbers),
+        values: numbers,
     }
 }
 

@@ -10,11 +10,11 @@ ghost use Rattle.window_state.specs.Windows.{acc_at, is_pane, total_at, CanAggre
 ghost use Rattle.window_state.specs.Parts.{IsPartOf};
 
 use crate::hashing::HashKeys;
-use crate::words::{add_record, numbers_at, stride_of, write_acc, write_first};
+use crate::words::{add_record, numbers_at, row_numbers_at, stride_of, write_acc, write_first};
 use aggregates::{Acc, Kind};
 use columns::Batch;
 use indexmap::IndexSet;
-use plan_model::{Pane, WindowSpec};
+use plan_model::{Numbers, Pane, WindowSpec};
 use std::alloc::{AllocError, Global};
 use std::marker::Model;
 
@@ -101,8 +101,8 @@ impl Places {
     }
 
     /// The number of each aggregate in a pane, if it has a place.
-    pub fn numbers(&self, alloc: Global, pane: &Pane) -> Result<Option<Vec<i128>>, AllocError>
-        ensures numbers { IfOk result (λ found. option_map (λ numbers. numbers.items) found ≡ option_map (λ (a : AccData). a.total.numbers) (acc_at self.now.entries pane.now)) }
+    pub fn numbers(&self, alloc: Global, pane: &Pane) -> Result<Option<Numbers>, AllocError>
+        ensures numbers { IfOk result (λ found. found ≡ option_map (λ (a : AccData). a.total.numbers) (acc_at self.now.entries pane.now)) }
         ensures start { IfOk result (λ found. IfSome found (λ numbers. IsStart pane.now.start)) }
         ensures operator { IfOk result (λ found. IsOperator self.now.window) }
     {
@@ -112,7 +112,7 @@ impl Places {
         let at = place * self.stride;
         let count = self.words[at] as u64;
         let aggregates = self.window.aggregates.as_slice();
-        let numbers = numbers_at(alloc, self.words.as_slice(), at + 1, aggregates, count)?;
+        let numbers = row_numbers_at(alloc, self.words.as_slice(), at + 1, aggregates, count)?;
         Ok(Some(numbers))
     }
 

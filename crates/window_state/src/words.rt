@@ -13,7 +13,7 @@ ghost use Rattle.window_state.specs.Words.{acc_in, count_of, sum_of, width, word
 
 use aggregates::Acc;
 use columns::Batch;
-use plan_model::Aggregate;
+use plan_model::{Aggregate, Numbers};
 use std::alloc::{AllocError, Global};
 
 /// How many words the number of an aggregate has.
@@ -87,6 +87,26 @@ pub(crate) fn numbers_at(
     let mut at = at;
     for aggregate in aggregates {
         numbers.push(number_at(words, at, *aggregate, count))?;
+        at += width_of(*aggregate);
+    }
+    Ok(numbers)
+}
+
+/// The same, as the numbers of a row.
+pub(crate) fn row_numbers_at(
+    alloc: Global,
+    words: &[i64],
+    at: usize,
+    aggregates: &[Aggregate],
+    count: u64,
+) -> Result<Numbers, AllocError>
+    requires { at + width (map kind_of aggregates.now) ≤ length words.now }
+    ensures { IfOk result (λ numbers. numbers ≡ words_of.numbers_at count (map kind_of aggregates.now) words.now at) }
+{
+    let mut numbers = Numbers::new();
+    let mut at = at;
+    for aggregate in aggregates {
+        numbers.push(alloc, number_at(words, at, *aggregate, count))?;
         at += width_of(*aggregate);
     }
     Ok(numbers)

@@ -22,7 +22,7 @@ returns-clause-written c =
     let row = c.args.row.now in
     let all : length c.args.line.now ≡ 256 = search rules in
     let last : drop 255 (set c.args.line.now 255 10) ≡ 10 ∷ [] = drop-set c.args.line.now 255 10 (omega arith) ∙ ap (λ l. 10 ∷ l) (drop_all 256 c.args.line.now (omega arith)) in
-    let values = c.put_numbers-start.ensures.written ∙ ap (λ l. flat_map spaced c.as_slice.result.now ++ l) last ∙ ap (λ zs. flat_map spaced zs ++ 10 ∷ []) c.as_slice.ensures in
+    let values = c.put_numbers-start.ensures.written ∙ ap (λ l. flat_map spaced c.args.numbers.now ++ l) last ∙ ap (λ zs. flat_map spaced zs ++ 10 ∷ []) c.requires.same in
     let key = c.put_number-start.ensures.written ∙ (λ i. spaced (back row.key (search rules) i) ++ values i) in
     let end = c.put_number-start-2.ensures.written ∙ (λ i. spaced (back row.end (search rules) i) ++ key i) in
     let start = c.put_number.ensures.written ∙ (λ i. spaced (back row.start (search rules) i) ++ end i) in
@@ -35,7 +35,7 @@ returns-clause-ascii c =
     let start : IsAscii (spaced row.start) = subst (λ z. IsAscii (spaced z)) (back row.start (search rules)) c.put_number.ensures.ascii in
     let end : IsAscii (spaced row.end) = subst (λ z. IsAscii (spaced z)) (back row.end (search rules)) c.put_number-start-2.ensures.ascii in
     let key : IsAscii (spaced row.key) = subst (λ z. IsAscii (spaced z)) (back row.key (search rules)) c.put_number-start.ensures.ascii in
-    let values : IsAscii (flat_map spaced row.values) = subst (λ zs. IsAscii (flat_map spaced zs)) c.as_slice.ensures c.put_numbers-start.ensures.ascii in
+    let values : IsAscii (flat_map spaced row.values) = subst (λ zs. IsAscii (flat_map spaced zs)) c.requires.same c.put_numbers-start.ensures.ascii in
     IsAscii-append _ (10 ∷ [])
     (IsAscii-append _ (flat_map spaced row.values)
     (IsAscii-append _ (spaced row.key)

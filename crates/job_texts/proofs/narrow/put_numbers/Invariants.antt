@@ -1,5 +1,6 @@
 use Rattle.std.proofs.Common.{◌≡◌, ◌+◌, ◌-◌, ◌*◌, ◌≤◌, ◌++◌, length, drop}
 use Rattle.std.specs.List.{flat_map}
+use Rattle.std.specs.Str.{IsAscii}
 use Rattle.job_texts.specs.Text.{spaced}
 use Rattle.job_texts.proofs.narrow.put_numbers.Given as goal
 
@@ -9,6 +10,7 @@ invariant-loop-left l = record {
   below : l.start ≤ l.fn.end;
   room : l.fn.end ≤ l.start + 21 * (length l.numbers - l.left);
   written : drop l.start l.line ≡ flat_map spaced (drop l.left l.numbers) ++ drop l.fn.end l.fn.line;
+  ascii : IsAscii (flat_map spaced (drop l.left l.numbers));
 }
 
 abbrev pub decreases-loop-left : goal.decreases-loop-left

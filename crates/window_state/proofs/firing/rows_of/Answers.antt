@@ -1,6 +1,5 @@
 use Rattle.std.proofs.Common.{◌≡◌, ℤ, ◌++◌, ◌∷◌, [], true, false, None, rules, ap, sym, subst, ◌∙◌, FitsSigned, to_z, of_z}
 use Rattle.std.specs.FinMap.{get, from_entries}
-use Rattle.std.specs.Option.{option_map}
 use Rattle.std.specs.Int.{w64}
 use Rattle.std.specs.List.Sorted.{IsStrictlySortedBy, IsSortedByKey}
 use Rattle.std.proofs.lemmas.Int.{to_z-of_z}
@@ -29,7 +28,7 @@ loop-pane-preserved-in-Continue-branch-3 c =
     let w = s.places.window in
     let t = to_z w64 (of_z w64 c.args.watermark) in
     let p = c.in-Some.pane.now in
-    let there = with_numbers (acc_at es p) c.in-Some-2.numbers.items (ap (option_map (λ n. n.items)) (sym c.in-Some-2.is) ∙ c.in_ok-numbers.ensures.numbers) in
+    let there = with_numbers (acc_at es p) c.in-Some-2.numbers (sym c.in-Some-2.is ∙ c.in_ok-numbers.ensures.numbers) in
     let a = there.0 in
     let left = c.loop-pane.pane-iterator in
     let rest = c.next.new.self in
@@ -53,7 +52,7 @@ loop-pane-preserved c =
     let p = c.in-Some.pane.now in
     let left = c.loop-pane.pane-iterator in
     let rest = c.next.new.self in
-    let none : acc_at es p ≡ None = without_numbers (acc_at es p) (ap (option_map (λ n. n.items)) (sym c.in_default.is) ∙ c.in_ok-numbers.ensures.numbers) in
+    let none : acc_at es p ≡ None = without_numbers (acc_at es p) (sym c.in_default.is ∙ c.in_ok-numbers.ensures.numbers) in
     record {
       rows = ap (λ l. c.loop-pane.rows.items ++ rows_due s.places.window t l) (sym (none_next es p left rest c.in-Some.ensures.steps none)) ∙ c.loop-pane.invariant.rows;
       ordered = rest_ordered left rest p c.loop-pane.invariant.ordered c.in-Some.ensures.steps;
