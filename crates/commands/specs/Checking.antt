@@ -6,7 +6,7 @@ use Rattle.job.specs.Ends.{as_job}
 use Rattle.plan_model.specs.PlanData.{PlanData}
 use Rattle.logical_plan.specs.Answer as plans
 use Rattle.logical_plan.specs.declared.fault.PlanFault.{PlanFault}
-use Rattle.stream_input.specs.Answer as inputs
+use Rattle.input_texts.specs.Answer as inputs
 use Rattle.plan_scale.specs.Answer as scales
 use Rattle.fault_places.specs.Answer as places
 use Rattle.commands.specs.Answers.{CannotRead}

@@ -1,8 +1,8 @@
 //! What the command `check` does.
 
 ghost use Rattle.std.specs.Prelude.{is_some, option_map};
-ghost use Rattle.stream_input.specs.Answer.{input_of_bytes};
-ghost use Rattle.stream_input.specs.Answer.{is_memory as is_input_memory};
+ghost use Rattle.input_texts.specs.Answer.{input_of_bytes};
+ghost use Rattle.input_texts.specs.Answer.{is_memory as is_input_memory};
 ghost use Rattle.plan_scale.specs.Answer.{scale_of_bytes};
 ghost use Rattle.plan_scale.specs.Answer.{is_memory as is_scale_memory};
 ghost use Rattle.job_texts.specs.Fault.{input_fault, scale_fault};

@@ -5,8 +5,8 @@ ghost use Rattle.logical_plan.specs.Answer.{Gives, plan_of_bytes};
 ghost use Rattle.logical_plan.specs.Answer.{is_memory as is_plan_memory};
 ghost use Rattle.plan_scale.specs.Answer.{scale_of_bytes};
 ghost use Rattle.plan_scale.specs.Answer.{is_memory as is_scale_memory};
-ghost use Rattle.stream_input.specs.Answer.{input_of_bytes};
-ghost use Rattle.stream_input.specs.Answer.{is_memory as is_input_memory};
+ghost use Rattle.input_texts.specs.Answer.{input_of_bytes};
+ghost use Rattle.input_texts.specs.Answer.{is_memory as is_input_memory};
 ghost use Rattle.fault_places.specs.Answer.{AnswersCheck};
 
 use crate::telling::{Notes, write_places};

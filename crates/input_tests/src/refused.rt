@@ -51,7 +51,7 @@ fn texts_that_are_no_json(rt: HostRuntime) -> Result<(), Fail> {
     check_all(&rt, &NO_JSON, Some(InputFault::NotJson))
 }
 
-const OF_ANOTHER_FORM: [&str; 18] = [
+const OF_ANOTHER_FORM: [&str; 21] = [
     "7",
     "[]",
     r#"{"s":5,"a":[[]]}"#,
@@ -70,6 +70,9 @@ const OF_ANOTHER_FORM: [&str; 18] = [
     r#"{"s":[[],[]],"a":[[]],"s":7}"#,
     r#"{"t":5,"t":[],"u":5}"#,
     r#"{"\u0073":[[{"rows":[[1]]},null],[]],"a":[[]]}"#,
+    r#"{"b":7,"c":7,"d":7,"e":7,"f":7,"g":7,"h":7,"i":7,"j":7,"b":[],"c":[],"d":[],"e":[],"f":[],"g":[],"h":[],"i":[]}"#,
+    r#"{"s":[[{"rows":[[1,1,1]],"watermark":5,"watermark":5}],[]],"a":[[]]}"#,
+    r#"{"s":[[{"row":7,"row":7}],[]],"a":[[]]}"#,
 ];
 
 #[test]
@@ -77,13 +80,15 @@ fn texts_of_another_form(rt: HostRuntime) -> Result<(), Fail> {
     check_all(&rt, &OF_ANOTHER_FORM, Some(InputFault::Member))
 }
 
-const OF_OTHER_SOURCES: [&str; 6] = [
+const OF_OTHER_SOURCES: [&str; 8] = [
     "{}",
     r#"{"s":[[],[]]}"#,
     r#"{"s":[[],[]],"a":[[]],"t":[]}"#,
     r#"{"s":[[{"rows":[[1]]}]],"\u0074":[]}"#,
     r#"{"t":[],"s":[],"t":[[]],"a":[]}"#,
     r#"{"t":7,"t":[]}"#,
+    r#"{"b":7,"c":7,"d":7,"e":7,"f":7,"g":7,"h":7,"i":7,"j":7,"b":[],"c":[],"d":[],"e":[],"f":[],"g":[],"h":[],"i":[],"j":[]}"#,
+    r#"{"t":7,"s":[[],[]],"a":[[]],"t":[]}"#,
 ];
 
 #[test]
@@ -158,10 +163,12 @@ fn texts_out_of_time(rt: HostRuntime) -> Result<(), Fail> {
     check_all(&rt, &OUT_OF_TIME, Some(InputFault::TimeRange))
 }
 
-const LATE: [&str; 3] = [
+const LATE: [&str; 5] = [
     r#"{"s":[[],[{"watermark":9},{"rows":[[10,1,1],[9,1,1]]}]],"a":[[]]}"#,
     r#"{"\u0073":[[],[{"watermark":9},{"rows":[[10,1,1],[9,1,1]]}]],"a":[[]]}"#,
     r#"{"s":7,"s":[[],[{"watermark":9},{"ro\u0077s":[[10,1,1],[9,1,1]]}]],"a":[[]]}"#,
+    r#"{"\u0061":[[{"watermark":9},{"rows":[[9,1,1]]}]],"s":[[],[{"watermark":9},{"rows":[[9,1,1]]}]]}"#,
+    r#"{"s":[[{"watermark":9},{"rows":[[9,1,1]]}],[]],"a":[[]],"s":[[],[{"watermark":7,"watermark":9},{"rows":[[9,1,1]]},{"rows":[[8,1,1]]}]]}"#,
 ];
 
 #[test]
@@ -174,13 +181,16 @@ fn texts_with_late_rows(rt: HostRuntime) -> Result<(), Fail> {
     check_all(&rt, &LATE, Some(late))
 }
 
-const RIGHT: [&str; 6] = [
+const RIGHT: [&str; 9] = [
     r#"{"s":[[],[]],"a":[[]]}"#,
     r#"{"s":[[{"rows":[[1]]}],[]],"s":[[],[]],"a":[[]]}"#,
     r#"{"s":5,"a":[[]],"s":[[],[]]}"#,
     r#"{"\u0073":[[{"ro\u0077s":[[1,1,1]]}],[]],"a":[[{"watermark":4611686018427387903}]]}"#,
     r#"{"s":[[{"rows":[[1]],"rows":[[1,1,1]]}],[]],"a":[[]]}"#,
     r#"{"s":[[{"rows":[[-4611686018427387904,-9223372036854775808,9223372036854775807]]}],[]],"a":[[]]}"#,
+    r#"{"s":[[{"rows":7,"rows":[[1,1,1]],"rows":[[2,1,1]]}],[]],"a":[[]]}"#,
+    r#"{"s":[[],[{"watermark":9},{"rows":[[9,1,1]],"rows":[[10,1,1]]}]],"a":[[]]}"#,
+    r#"{"s":[[],[{"watermark":99,"watermark":9},{"rows":[[10,1,1]]}]],"a":[[]]}"#,
 ];
 
 #[test]

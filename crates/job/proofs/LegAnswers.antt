@@ -6,10 +6,10 @@ use Rattle.logical_plan.specs.Answer.{plan_of_bytes}
 use Rattle.logical_plan.specs.Answer as plans
 use Rattle.logical_plan.specs.declared.fault.PlanFault.{PlanFault}
 use Rattle.logical_plan.specs.declared.fault.PlanFault.TheVariants as plan
-use Rattle.stream_input.specs.Answer.{input_of_bytes}
-use Rattle.stream_input.specs.Answer as inputs
-use Rattle.stream_input.specs.declared.fault.InputFault.{InputFault}
-use Rattle.stream_input.specs.declared.fault.InputFault.TheVariants as input
+use Rattle.input_texts.specs.Answer.{input_of_bytes}
+use Rattle.input_texts.specs.Answer as inputs
+use Rattle.input_texts.specs.declared.fault.InputFault.{InputFault}
+use Rattle.input_texts.specs.declared.fault.InputFault.TheVariants as input
 use Rattle.plan_scale.specs.Answer.{scale_of_bytes}
 use Rattle.plan_scale.specs.Answer as scales
 use Rattle.plan_scale.specs.declared.fault.ScaleFault.{ScaleFault}

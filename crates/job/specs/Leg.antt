@@ -9,7 +9,7 @@ use Rattle.plan_model.specs.Rows.{AreRowsOf}
 use Rattle.logical_plan.specs.Answer.{plan_of_bytes}
 use Rattle.stream_model.specs.InputData.{InputData}
 use Rattle.stream_model.specs.Watermarks.{empty_cut}
-use Rattle.stream_input.specs.Answer.{input_of_bytes}
+use Rattle.input_texts.specs.Answer.{input_of_bytes}
 use Rattle.dataflow_laws.specs.Inputs.{due_between}
 use Rattle.dataflow_laws.specs.Compiled.{cut_to}
 use Rattle.plan_scale.specs.Answer.{scale_of_bytes}

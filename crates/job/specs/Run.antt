@@ -8,7 +8,7 @@ use Rattle.logical_plan.specs.Answer.{plan_of_bytes}
 use Rattle.stream_model.specs.InputData.{InputData}
 use Rattle.stream_model.specs.PlanRows.{plan_rows}
 use Rattle.stream_model.specs.Watermarks.{empty_cut}
-use Rattle.stream_input.specs.Answer.{input_of_bytes}
+use Rattle.input_texts.specs.Answer.{input_of_bytes}
 use Rattle.leg_lists.specs.Answer.{legs_of_bytes}
 use Rattle.leg_lists.specs.ChoicesText.{choices_of_bytes}
 use Rattle.leg_lists.specs.declared.leg.LegSpec.{LegSpec}

@@ -2,7 +2,7 @@
 
 ghost use Rattle.std.specs.Prelude.{IfOk};
 ghost use Rattle.json_parts.specs.Answer.{Gives};
-ghost use Rattle.stream_input.specs.Answer.{input_of_bytes, is_memory};
+ghost use Rattle.input_texts.specs.Answer.{input_of_bytes, is_memory};
 ghost use Rattle.stream_model.specs.InputData.{BelongsTo};
 
 use logical_plan::Plan;

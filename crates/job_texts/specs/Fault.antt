@@ -2,8 +2,8 @@
 use Rattle.std.specs.Prelude.{Bool, true, false}
 use Rattle.logical_plan.specs.declared.fault.PlanFault.{PlanFault}
 use Rattle.logical_plan.specs.declared.fault.PlanFault.TheVariants as plan
-use Rattle.stream_input.specs.declared.fault.InputFault.{InputFault}
-use Rattle.stream_input.specs.declared.fault.InputFault.TheVariants as input
+use Rattle.input_texts.specs.declared.fault.InputFault.{InputFault}
+use Rattle.input_texts.specs.declared.fault.InputFault.TheVariants as input
 use Rattle.plan_scale.specs.declared.fault.ScaleFault.{ScaleFault}
 use Rattle.plan_scale.specs.declared.fault.ScaleFault.TheVariants as scale
 use Rattle.savepoint_codec.specs.declared.fault.SaveFault.{SaveFault}

@@ -19,7 +19,7 @@ with_item j d e None = refl
 with_item j d e (Some p) = rw e (twice (item d) p.1 (of_items p.0))
 
 -- with what was read before
-abbrev behind : {X : Type 0} → List X → Option (List X × List Token) → Option (List X × List Token)
+abbrev pub behind : {X : Type 0} → List X → Option (List X × List Token) → Option (List X × List Token)
 behind front o = parse_map (λ xs. front ++ xs) o
 
 behind_none : {X : Type 0} (o : Option (List X × List Token)) → o ≡ behind [] o
@@ -31,7 +31,7 @@ behind_one front x None = refl
 behind_one front x (Some p) = ap (λ xs. Some (xs, p.1)) (simp append_assoc)
 
 module _ {X : Type 0} (f : Data → Option X) where
-  abbrev all : Items → Option (List X)
+  abbrev pub all : Items → Option (List X)
   all ds = each f (list_of ds)
 
   of_list : (o : Option (Items × List Token)) → converted (list_text f) (parse_map array o) ≡ converted all o

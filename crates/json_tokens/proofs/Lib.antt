@@ -10,4 +10,5 @@ mod NumberTexts
 mod RowLists
 mod Starts
 mod Passed
+mod Refusals
 mod FirstTokens

@@ -1,15 +1,18 @@
 -- What is passed of a text, and what a token begins.
-use Rattle.std.specs.Prelude.{◌≡◌, ℕ, ◌≤◌, Bool, true, false, List, length, Option, Some, is_some}
+use Rattle.std.specs.Prelude.{◌≡◌, ℕ, ◌≤◌, Bool, true, false, List, length, Option, Some, None}
 use Rattle.json.specs.Token as token
 use Rattle.json.specs.Token.{Token}
 use Rattle.json.specs.Json.{members, value}
 use Rattle.serde_json.specs.Data.{Data, Members, no_members}
-use Rattle.serde_json.specs.Find.{get_member}
 use Rattle.serde_json.specs.Read.{of_json, of_members, converted}
 
 -- the next value, with the tokens behind it
 abbrev pub Passes : ℕ → List Token → Data → List Token → Type 0
 Passes depth old d new = converted of_json (value depth old) ≡ Some (d, new)
+
+-- no value comes next
+abbrev pub IsNoValue : ℕ → List Token → Type 0
+IsNoValue depth ts = converted of_json (value depth ts) ≡ None
 
 -- what the members up to the closing brace make of those before, in at most n turns
 abbrev pub after : ℕ → Members → ℕ → List Token → Option (Members × List Token)
@@ -21,10 +24,6 @@ pub record MembersRead (depth : ℕ) (start : List Token) (ms : Members) (rest :
   pub enough : length rest ≤ turns
   pub shorter : length rest ≤ length start
   pub so_far : after depth no_members (length start) start ≡ after depth ms turns rest
-
--- each name of some members is one of others too
-abbrev pub HasNamesOf : Members → Members → Type 0
-HasNamesOf ms all = (k : List ℕ) → is_some (get_member k ms) ≡ true → is_some (get_member k all) ≡ true
 
 -- the token that begins a list, an object or a number
 abbrev pub opens_list : Token → Bool

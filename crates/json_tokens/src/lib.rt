@@ -20,6 +20,6 @@ mod scanner;
 
 pub use miss::Miss;
 pub use opening::{next_cell, open_list, open_object};
-pub use passing::{MOST_DEPTH, is_json, pass_others, pass_value};
+pub use passing::{MOST_DEPTH, pass_value};
 pub use rows::scan_rows;
 pub use scanner::Scanner;

@@ -1,6 +1,7 @@
 ghost use Rattle.std.specs.Prelude.{◌≡◌};
 ghost use Rattle.json_tokens.specs.declared.miss.Miss.TheVariants.{Other, Memory};
 
+use json::Invalid;
 use json_parts::OtherForm;
 use std::alloc::{AllocError, AllocFailed};
 
@@ -17,6 +18,14 @@ impl From<OtherForm> for Miss {
     ghost from_gives = { λ _ e. e ≡ Other };
 
     fn from(_e: OtherForm) -> Miss {
+        Miss::Other
+    }
+}
+
+impl From<Invalid> for Miss {
+    ghost from_gives = { λ _ e. e ≡ Other };
+
+    fn from(_e: Invalid) -> Miss {
         Miss::Other
     }
 }

@@ -1,6 +1,6 @@
 //! The next value of a text that is no tree: a list or an object that opens, or a cell.
 
-ghost use Rattle.std.specs.Prelude.{◌≡◌, ◌<◌, ◌∷◌, Some, None, length, IfOk, OnOk};
+ghost use Rattle.std.specs.Prelude.{◌≡◌, ◌<◌, ◌∷◌, Some, None, length, IfOk, IfErr, OnOk};
 ghost use Rattle.std.specs.Bool.{MatchBool};
 ghost use Rattle.json.specs.Token.{begin_array, begin_object};
 ghost use Rattle.json.specs.Reads.{token_of};
@@ -8,7 +8,7 @@ ghost use Rattle.serde_json.specs.Data.{Data};
 ghost use Rattle.serde_json.specs.Find.{as_array, as_object};
 ghost use Rattle.json_parts.specs.Parts.{cell_text};
 ghost use Rattle.json_tokens.specs.Ahead.{part};
-ghost use Rattle.json_tokens.specs.Passed.{Passes, is_number, opens_list, opens_object};
+ghost use Rattle.json_tokens.specs.Passed.{IsNoValue, Passes, is_number, opens_list, opens_object};
 
 use crate::numerals::number_of;
 use crate::passing::pass_rest;
@@ -39,6 +39,7 @@ fn is_number(token: &Token<'_>) -> bool
 /// [`Invalid`] where no value comes next, it nests deeper, or a number in it is too large.
 pub fn open_list(reader: &mut Reader<'_>, depth: usize) -> Result<bool, Invalid>
     ensures opened { IfOk result (λ is_open. MatchBool is_open ((reader.old ≡ begin_array ∷ reader.new) × (0 < depth)) ((d : Data) × Passes depth reader.old d reader.new × (as_array d ≡ None))) }
+    ensures refused { IfErr result (λ _. IsNoValue depth reader.old) }
     ensures shorter { OnOk result (length reader.new < length reader.old) }
 {
     let token = reader.next().ok_or(Invalid)?;
@@ -59,6 +60,7 @@ pub fn open_list(reader: &mut Reader<'_>, depth: usize) -> Result<bool, Invalid>
 /// [`Invalid`] where no value comes next, it nests deeper, or a number in it is too large.
 pub fn open_object(reader: &mut Reader<'_>, depth: usize) -> Result<bool, Invalid>
     ensures opened { IfOk result (λ is_open. MatchBool is_open ((reader.old ≡ begin_object ∷ reader.new) × (0 < depth)) ((d : Data) × Passes depth reader.old d reader.new × (as_object d ≡ None))) }
+    ensures refused { IfErr result (λ _. IsNoValue depth reader.old) }
     ensures shorter { OnOk result (length reader.new < length reader.old) }
 {
     let token = reader.next().ok_or(Invalid)?;
@@ -79,6 +81,7 @@ pub fn open_object(reader: &mut Reader<'_>, depth: usize) -> Result<bool, Invali
 /// [`Invalid`] where none comes next, it nests deeper, or a number in it is too large.
 pub fn next_cell(reader: &mut Reader<'_>, depth: usize) -> Result<Option<i64>, Invalid>
     ensures said { IfOk result (λ cell. part cell_text depth reader.old ≡ Some (cell, reader.new)) }
+    ensures refused { IfErr result (λ _. IsNoValue depth reader.old) }
     ensures shorter { OnOk result (length reader.new < length reader.old) }
 {
     let token = reader.next().ok_or(Invalid)?;

@@ -1,32 +1,17 @@
 //! Values of a text that are passed over: nothing of them is kept.
 
-ghost use Rattle.std.specs.Prelude.{◌≡◌, ◌<◌, ◌≤◌, ◌∷◌, true, false, List, None, Some, length, IfOk, OnOk, MatchResult, is_some};
+ghost use Rattle.std.specs.Prelude.{◌≡◌, ◌<◌, ◌≤◌, ◌∷◌, true, false, List, None, Some, length, OnOk, MatchResult};
 ghost use Rattle.json.specs.Json.{value, items, members, read_key};
 ghost use Rattle.json.specs.Reads.{token_of};
-ghost use Rattle.json.specs.Token.{Token as SpecToken};
 ghost use Rattle.serde_json.specs.Data.{Data, Items, Members, no_members};
-ghost use Rattle.serde_json.specs.Find.{get_member};
-ghost use Rattle.serde_json.specs.Read.{of_json, of_items, of_members, converted, read};
-ghost use Rattle.json_tokens.specs.Passed.{HasNamesOf, MembersRead, Passes};
+ghost use Rattle.serde_json.specs.Read.{of_json, of_items, of_members, converted};
+ghost use Rattle.json_tokens.specs.Passed.{Passes};
 
 use crate::numerals::number_of;
-use json::{Invalid, Reader, Scratch, Token};
-use std::alloc::{AllocError, Global};
+use json::{Invalid, Reader, Token};
 
 /// The deepest that lists and objects nest in a text.
 pub const MOST_DEPTH: usize = 127;
-
-/// Whether the text is a JSON value.
-pub fn is_json(alloc: Global, text: &str) -> Result<bool, AllocError>
-    ensures { IfOk result (λ found. found ≡ is_some (read text.now)) }
-{
-    let mut scratch = Scratch::new(alloc);
-    let mut reader = Reader::new(text, &mut scratch)?;
-    if pass_value(&mut reader, MOST_DEPTH).is_err() {
-        return Ok(false);
-    }
-    Ok(reader.next().is_none())
-}
 
 /// Passes the next value.
 ///
@@ -98,26 +83,6 @@ fn pass_members(reader: &mut Reader<'_>, depth: usize) -> Result<(), Invalid>
     ensures shorter { OnOk result (length reader.new < length reader.old) }
 {
     'members: while let Some(_) = reader.next_key()? {
-        pass_value(reader, depth)?;
-    }
-    Ok(())
-}
-
-/// Passes the other members of an object up to the closing brace. None may have this name, under which a
-/// member of another form stands.
-///
-/// # Errors
-///
-/// [`Invalid`] where another member has the name, or [`pass_value`] refuses one.
-pub fn pass_others<'a>(reader: &mut Reader<'a>, name: &'a str, depth: usize) -> Result<(), Invalid>
-    ensures said { OnOk result ((start : List SpecToken) → (ms : Members) → (d : Data) → MembersRead depth start ms reader.old → get_member name.now ms ≡ Some d
-        → (all : Members) × (rest : List SpecToken) × MembersRead depth start all rest × (read_key rest ≡ Some (None, reader.new)) × (get_member name.now all ≡ Some d) × HasNamesOf ms all) }
-    ensures shorter { OnOk result (length reader.new < length reader.old) }
-{
-    'others: while let Some(other) = reader.next_key()? {
-        if other == name {
-            return Err(Invalid);
-        }
         pass_value(reader, depth)?;
     }
     Ok(())

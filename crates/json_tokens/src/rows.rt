@@ -12,10 +12,15 @@ use crate::miss::Miss;
 use crate::numbers::whole_at;
 use crate::scanner::Scanner;
 
-/// Reads one number or more up to the closing bracket, puts them behind what `cells` holds, and
-/// gives what follows the bracket.
+/// Reads one number or more up to the closing bracket, puts them behind what `cells` holds, which is to
+/// be no more than `most`, and gives what follows the bracket.
 #[inline(always)]
-fn cells_at<'a>(text: &'a [u8], cells: &mut Vec<i64>, depth: usize) -> Result<&'a [u8], Miss>
+fn cells_at<'a>(
+    text: &'a [u8],
+    cells: &mut Vec<i64>,
+    most: usize,
+    depth: usize,
+) -> Result<&'a [u8], Miss>
     ensures said { IfOk result (λ rest. (row : List ℤ) × (parts whole depth (tokens_from false text.now) ≡ Some (row, tokens_from true rest.now))
         × (cells.new.items ≡ cells.old.items ++ row)) }
     ensures shorter { IfOk result (λ rest. length (tokens_from true rest.now) < length (tokens_from false text.now)) }
@@ -26,6 +31,9 @@ fn cells_at<'a>(text: &'a [u8], cells: &mut Vec<i64>, depth: usize) -> Result<&'
         let Some((cell, rest)) = whole_at(item) else {
             return Err(Miss::Other);
         };
+        if most <= cells.len() {
+            return Err(Miss::Other);
+        }
         cells.push(cell)?;
         let spaced = behind_spaces(rest);
         let Some(next) = behind(spaced, b',') else {
@@ -44,6 +52,7 @@ fn row_at<'a>(
     text: &'a [u8],
     cells: &mut Vec<i64>,
     width: usize,
+    most: usize,
     depth: usize,
 ) -> Result<&'a [u8], Miss>
     ensures said { IfOk result (λ rest. (row : List ℤ) × ((ts : List SpecToken) → Begins ts text.now → part (row_text width) depth ts ≡ Some (row, tokens_from true rest.now))
@@ -58,7 +67,7 @@ fn row_at<'a>(
         return Err(Miss::Other);
     };
     let before = cells.len();
-    let rest = cells_at(inner, cells, depth - 1)?;
+    let rest = cells_at(inner, cells, most, depth - 1)?;
     let after = cells.len();
     if after < before || after - before != width {
         return Err(Miss::Other);
@@ -72,6 +81,7 @@ fn rows_at<'a>(
     text: &'a [u8],
     cells: &mut Vec<i64>,
     width: usize,
+    most: usize,
     depth: usize,
 ) -> Result<&'a [u8], Miss>
     ensures said { IfOk result (λ rest. (rows : List (List ℤ)) × (parts (row_text width) depth (tokens_from false text.now) ≡ Some (rows, tokens_from true rest.now))
@@ -83,7 +93,7 @@ fn rows_at<'a>(
         return Ok(over);
     }
     'rows: loop {
-        let rest = row_at(item, cells, width, depth)?;
+        let rest = row_at(item, cells, width, most, depth)?;
         let spaced = behind_spaces(rest);
         let Some(next) = behind(spaced, b',') else {
             let Some(over) = behind(spaced, b']') else {
@@ -96,15 +106,16 @@ fn rows_at<'a>(
 }
 
 /// The next value, a list of rows of `width` whole numbers each. Their numbers, row after row, are put
-/// behind what `cells` holds.
+/// behind what `cells` holds, which is to be no more than `most`.
 ///
 /// # Errors
 ///
-/// `Other` where the next value is written otherwise, or is none; `Memory`.
+/// `Other` where the next value is written otherwise, or is none, or has more numbers; `Memory`.
 pub fn scan_rows(
     reader: &mut Scanner<'_>,
     cells: &mut Vec<i64>,
     width: usize,
+    most: usize,
     depth: usize,
 ) -> Result<(), Miss>
     ensures said { OnOk result ((rows : List (List ℤ)) × (part (list_text (row_text width)) depth reader.old ≡ Some (rows, reader.new))
@@ -117,7 +128,7 @@ pub fn scan_rows(
     let Some(inner) = reader.list_start() else {
         return Err(Miss::Other);
     };
-    let rest = rows_at(inner, cells, width, depth - 1)?;
+    let rest = rows_at(inner, cells, width, most, depth - 1)?;
     reader.stand_behind(rest);
     Ok(())
 }

@@ -8,7 +8,7 @@ use Rattle.plan_model.specs.declared.spec.Row.{Row}
 use Rattle.logical_plan.specs.Answer.{plan_of_bytes}
 use Rattle.stream_model.specs.InputData.{InputData, IsInput, BelongsTo}
 use Rattle.stream_model.specs.Watermarks.{IsOrderly}
-use Rattle.stream_input.specs.Answer.{input_of_bytes}
+use Rattle.input_texts.specs.Answer.{input_of_bytes}
 use Rattle.leg_lists.specs.declared.stop.Stop.{Stop}
 use Rattle.leg_lists.specs.declared.stop.Stop.TheVariants.{Never, At}
 use Rattle.savepoint_codec.specs.Layout.{IsSavepoint, savepoint_bytes}

@@ -1,5 +1,5 @@
 -- What is answered of sources that meet the requirements up to the range of times.
-use Rattle.std.proofs.Common.{◌≡◌, ℕ, ◌^◌, Bool, true, false, cond, List, Option, Some, None, Ok, Err, option_and_then, is_some, length, refl, sym, ap, ◌∙◌}
+use Rattle.std.proofs.Common.{◌≡◌, ℕ, ◌^◌, Bool, true, false, cond, List, Option, Some, None, Ok, Err, option_and_then, length, refl, ap, ◌∙◌}
 use Rattle.std.specs.Prelude.{nat_le, IsUtf8}
 use Rattle.std.specs.Str.{is_utf8}
 use Rattle.std.proofs.lemmas.Str.{IsUtf8-from_is_utf8, is_utf8-from_IsUtf8}
@@ -8,16 +8,15 @@ use Rattle.serde_json.specs.Read.{read}
 use Rattle.json_parts.specs.Parts.{json_of}
 use Rattle.plan_model.specs.PlanData.{PlanData}
 use Rattle.stream_model.specs.declared.entry.Entry.{Entry}
-use Rattle.stream_input.specs.declared.fault.InputFault.{InputFault}
-use Rattle.stream_input.specs.declared.fault.InputFault.TheVariants.{NotJson, Member, TooMany}
+use Rattle.input_texts.specs.declared.fault.InputFault.TheVariants.{NotJson, Member, TooMany}
 use Rattle.stream_model.specs.InputData.{input_data_of, all_records}
-use Rattle.stream_input.specs.InputText.{InputText, input_text}
+use Rattle.input_texts.specs.InputText.{InputText, input_text}
 use Rattle.stream_model.specs.Late.{first_late}
-use Rattle.stream_input.specs.Fault.{late_fault}
-use Rattle.stream_input.specs.Requirements.{requirements, late_record, is_few}
-use Rattle.stream_input.specs.Answer.{if_ok, text_of_bytes, input_or_fault, input_of_bytes}
-use Rattle.stream_input.specs.Seen.{IsFaultOf}
-use Rattle.std.specs.Option.{ok_or}
+use Rattle.input_texts.specs.Fault.{late_fault}
+use Rattle.input_texts.specs.Requirements.{requirements, late_record, is_few}
+use Rattle.input_texts.specs.Answer.{if_ok, text_of_bytes, input_or_fault, input_of_bytes}
+use Rattle.input_texts.specs.Document.{said_by, said_in}
+use Rattle.std.specs.Option.{ok_or, option_map_or}
 use Rattle.stream_input.specs.Fit.{AreOf}
 
 pub late_said : (plan : PlanData) (sources : List (List (List Entry))) (text : InputText) (place : ℕ × (ℕ × ℕ)) → AreOf plan sources text → first_late plan.window.time sources ≡ Some place
@@ -53,10 +52,6 @@ pub json_of_other : (bytes : List ℕ) → (IsUtf8 bytes → ⊥) → json_of by
 unfolding json_of
 json_of_other bytes other = none_unless (is_utf8 bytes) (read bytes) (λ e. other (IsUtf8-from_is_utf8 bytes e))
 
-no_value : (o : Option Data) → is_some o ≡ false → o ≡ None
-no_value None h = refl
-no_value (Some d) h = absurd (cc)
-
 of_data : (o : Option Data) (text : InputText) → option_and_then input_text o ≡ Some text → (d : Data) × (o ≡ Some d) × (input_text d ≡ Some text)
 of_data None text h = absurd (cc)
 of_data (Some d) text h = (d, refl, h)
@@ -65,17 +60,14 @@ pub text_said : (bytes : List ℕ) (text : InputText) → option_and_then input_
 unfolding text_of_bytes
 text_said bytes text h = let d = of_data (json_of bytes) text h in rw (d.1, d.2) refl
 
-fault_by : (plan : PlanData) (fault : InputFault) (o : Option InputText) → IsFaultOf plan fault o → if_ok (ok_or o Member) (input_or_fault plan) ≡ Err fault
-fault_by plan fault None h = ap Err (sym h)
-fault_by plan fault (Some text) h = h
+said_of : (plan : PlanData) (o : Option Data) → if_ok (option_map_or (λ d. ok_or (input_text d) Member) o (Err NotJson)) (input_or_fault plan) ≡ option_map_or (said_by plan) o (Err NotJson)
+said_of plan None = refl
+said_of plan (Some d) = refl
 
-pub fault_told : (plan : PlanData) (bytes : List ℕ) (d : Data) (fault : InputFault) → json_of bytes ≡ Some d → IsFaultOf plan fault (input_text d) → input_of_bytes plan bytes ≡ Err fault
+pub text_read : (plan : PlanData) (bytes : List ℕ) → IsUtf8 bytes → input_of_bytes plan bytes ≡ said_in plan bytes
 unfolding input_of_bytes text_of_bytes
-fault_told plan bytes d fault is h = rw is (fault_by plan fault (input_text d) h)
+text_read plan bytes utf8 = ap (λ o. if_ok (option_map_or (λ d. ok_or (input_text d) Member) o (Err NotJson)) (input_or_fault plan)) (json_of_text bytes utf8) ∙ said_of plan (read bytes)
 
 pub none_told : (plan : PlanData) (bytes : List ℕ) → json_of bytes ≡ None → input_of_bytes plan bytes ≡ Err NotJson
 unfolding input_of_bytes text_of_bytes
 none_told plan bytes none = rw none refl
-
-pub no_text : (bytes : List ℕ) → IsUtf8 bytes → false ≡ is_some (read bytes) → json_of bytes ≡ None
-no_text bytes utf8 h = json_of_text bytes utf8 ∙ no_value (read bytes) (sym h)

@@ -1,5 +1,5 @@
 -- What an object with one member is as an entry.
-use Rattle.std.proofs.Common.{◌≡◌, ◌==◌, ℕ, ℤ, Bool, true, List, [], ◌∷◌, length, map, Option, Some, option_and_then, is_some, bytes_eq, codes, refl, ap, ◌∙◌}
+use Rattle.std.proofs.Common.{◌≡◌, ◌==◌, ℕ, ℤ, true, List, length, map, Option, Some, option_and_then, is_some, bytes_eq, codes, refl, ap, ◌∙◌}
 use Rattle.std.proofs.lemmas.Bool.{and_parts}
 use Rattle.std.proofs.lemmas.Slice.Eq.{bytes_eq-Decides}
 use Rattle.std.specs.List.{list_all}
@@ -9,15 +9,13 @@ use Rattle.json_tokens.specs.Rows.{row_text}
 use Rattle.plain_data.specs.Record.{Record}
 use Rattle.stream_model.specs.declared.entry.Entry.{Entry}
 use Rattle.stream_model.specs.declared.entry.Entry.TheVariants.{Watermark}
-use Rattle.stream_input.specs.InputText.{rows, watermark, rows_text, watermark_text, entry_text}
-use Rattle.stream_input.specs.Said.{record_of}
-use Rattle.stream_input.specs.Requirements.{is_wide, is_whole, is_time}
+use Rattle.input_texts.specs.declared.text.EntryText.TheVariants.{Rows as rows, Watermark as watermark}
+use Rattle.input_texts.specs.InputText.{rows_text, watermark_text, entry_text}
+use Rattle.input_texts.specs.Said.{record_of}
+use Rattle.input_texts.specs.Requirements.{is_wide, is_whole, is_time}
 use Rattle.stream_input.specs.Fit.{if_fit, fit_entry}
+use Rattle.input_texts.proofs.Facts.{all_weaker}
 use Rattle.stream_input.proofs.Refines.{is_row, list_refines, row_refines}
-
-pub all_weaker : {A : Type 0} (p q : A → Bool) → ((x : A) → p x ≡ true → q x ≡ true) → (xs : List A) → list_all p xs ≡ true → list_all q xs ≡ true
-all_weaker p q implies [] h = refl
-all_weaker p q implies (x ∷ xs) h = let parts = and_parts (p x) (list_all p xs) h in rw (implies x parts.0, all_weaker p q implies xs parts.1) refl
 
 rows_member : (d : Data) (found : List (List (Option ℤ))) → list_text (list_text cell_text) d ≡ Some found → entry_text (object (member (codes "rows") d no_members)) ≡ Some (rows found)
 unfolding entry_text has_only rows_text each_at list_text

@@ -13,11 +13,11 @@ use Rattle.columns.proofs.Facts.{rows_of-column_of, length-flat_map, columns_in-
 use Rattle.columns.specs.declared.TheConstants.{MOST_ROWS}
 use Rattle.json_tokens.specs.Rows.{joined}
 use Rattle.stream_model.specs.declared.entry.Entry.TheVariants.{Rows}
-use Rattle.stream_input.specs.InputText.{rows}
-use Rattle.stream_input.specs.Said.{number_of, record_of}
-use Rattle.stream_input.specs.Requirements.{is_wide, is_whole, is_time, is_timely}
+use Rattle.input_texts.specs.declared.text.EntryText.TheVariants.{Rows as rows}
+use Rattle.input_texts.specs.Said.{number_of, record_of}
+use Rattle.input_texts.specs.Requirements.{is_wide, is_whole, is_time, is_timely}
 use Rattle.stream_input.specs.Fit.{column_in_cells, is_fit, if_fit}
-use Rattle.stream_input.proofs.Rows.{list_all_map}
+use Rattle.input_texts.proofs.Facts.{list_all_map}
 
 abbrev IsEven : ℕ → List Record → Type 0
 IsEven width records = All (λ r. length r ≡ width) records

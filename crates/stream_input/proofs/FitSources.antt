@@ -1,33 +1,24 @@
 -- The sources of an object that was read member by member.
-use Rattle.std.proofs.Common.{◌≡◌, ℕ, Bool, true, false, ◌==◌, ◌&&◌, ◌||◌, List, [], ◌∷◌, ◌++◌, map, set, length, Option, Some, None, option_map, option_and_then, cond, bytes_eq, refl, sym, ap, ◌∙◌}
+use Rattle.std.proofs.Common.{◌≡◌, ℕ, Bool, true, ◌==◌, ◌&&◌, List, [], ◌∷◌, map, set, length, Option, Some, None, option_and_then, bytes_eq, refl, sym, ap, ◌∙◌}
 use Rattle.std.proofs.lemmas.Bool.{and_parts}
 use Rattle.std.proofs.lemmas.List.{length-map}
 use Rattle.std.proofs.lemmas.List.Folds.{list_any_at}
 use Rattle.std.proofs.lemmas.List.Quantifiers.{position-Some}
 use Rattle.std.specs.List.{list_all, list_any, find, position, zip}
-use Rattle.std.specs.Option.{option_map_or}
 use Rattle.serde_json.specs.Data.{Data, Members, no_members, object, put}
 use Rattle.serde_json.specs.Read.{read}
 use Rattle.json_parts.specs.Parts.{list_text}
 use Rattle.json_parts.specs.Members.{members_text}
 use Rattle.plan_model.specs.declared.spec.SourceSpec.{SourceSpec}
-use Rattle.plan_model.specs.declared.spec.FilterSpec.{FilterSpec}
 use Rattle.plan_model.specs.PlanData.{PlanData, IsPlan}
-use Rattle.plan_model.specs.Uids.{are_distinct}
 use Rattle.stream_model.specs.declared.entry.Entry.{Entry}
-use Rattle.stream_input.specs.InputText.{EntryText, entry_text, InputText, input_text}
-use Rattle.stream_input.specs.Said.{entry_of, partitions_under}
-use Rattle.stream_input.specs.Requirements.{is_wide, is_whole, is_sized, is_timely, every_entry, has_sources, has_partitions, has_width, has_numbers, has_rows, has_times}
+use Rattle.input_texts.specs.declared.text.EntryText.{EntryText}
+use Rattle.input_texts.specs.InputText.{entry_text, InputText, input_text}
+use Rattle.input_texts.specs.Said.{entry_of, partitions_under}
+use Rattle.input_texts.specs.Requirements.{is_wide, is_whole, is_sized, is_timely, every_entry, has_sources, has_partitions, has_width, has_numbers, has_rows, has_times}
 use Rattle.stream_input.specs.Fit.{is_fit, fit_entry, partitions_at, IsSlots, IsFit, IsRead}
 use Rattle.stream_input.proofs.Refines.{list_refines, entry_refines}
-use Rattle.stream_input.proofs.FitEntries.{all_weaker}
-use Rattle.stream_input.proofs.Slots.{put_pair, each_member-put, list_all-put_pair, one_replaced, distinct_front}
-
-pub distinct_sources : (plan : PlanData) → IsPlan plan → are_distinct (map (λ (s : SourceSpec). s.uid) plan.sources) ≡ true
-distinct_sources plan p =
-    let sources = map (λ (s : SourceSpec). s.uid) plan.sources in
-    let filters = map (λ (f : FilterSpec). f.uid) plan.filters in
-    distinct_front sources filters (distinct_front (sources ++ filters) (plan.window.uid ∷ []) p.distinct)
+use Rattle.input_texts.proofs.Facts.{all_weaker, distinct_sources, each_member-put, find_any, found_at, list_all-put_pair, one_replaced, put_pair}
 
 some_of : {A : Type 0} (test : A → Bool) (xs : List A) (place : ℕ) → position test xs ≡ Some place → A
 some_of test [] place found = absurd (cc)
@@ -58,18 +49,6 @@ pub no_members_yet : (plan : PlanData) (slots : List (Option (List (List Entry))
 no_members_yet plan slots are = record { text = []; says = refl; planned = refl; fit = refl; filled = are }
 
 -- ---- where there is a member for each source
-
-any_by : {A : Type 0} (b : Bool) (x m : A) (o : Option A) (others : Bool) → (o ≡ Some m → others ≡ true) → cond b (Some x) o ≡ Some m → (b || others) ≡ true
-any_by true x m o others later h = refl
-any_by false x m o others later h = later h
-
-find_any : {A : Type 0} (test : A → Bool) (xs : List A) (m : A) → find test xs ≡ Some m → list_any test xs ≡ true
-find_any test [] m h = absurd (cc)
-find_any test (x ∷ xs) m h = any_by (test x) x m (find test xs) (list_any test xs) (find_any test xs m) h
-
-found_at : {A B C : Type 0} (f : A → List B) (g : List B → C) (o : Option A) (y : C) → option_map g (option_map f o) ≡ Some y → (m : A) × (o ≡ Some m) × (y ≡ g (option_map_or f o []))
-found_at f g None y h = absurd (cc)
-found_at f g (Some m) y h = let same : g (f m) ≡ y = cc in (m, refl, sym same)
 
 abbrev built : ℕ → InputText → SourceSpec → List (List Entry)
 built columns text s = map (map (entry_of columns)) (partitions_under s.uid text)

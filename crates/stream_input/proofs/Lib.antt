@@ -1,16 +1,7 @@
-mod Rows
-mod Counted
-mod Notings
-mod EntryNotings
-mod SourceNotings
-mod NotedSources
-mod FirstFaults
-mod OtherForms
 mod Tables
 mod Sound
 mod Refines
 mod FitRows
 mod FitEntries
-mod Slots
 mod FitSources
 mod FitAnswers

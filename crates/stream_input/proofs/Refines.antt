@@ -8,10 +8,11 @@ use Rattle.serde_json.specs.Find.{as_array}
 use Rattle.json_parts.specs.Parts.{whole, list_of, each, list_text, cell_text}
 use Rattle.json_tokens.specs.Rows.{of_width, row_text}
 use Rattle.stream_model.specs.declared.entry.Entry.{Entry}
-use Rattle.stream_input.specs.InputText.{EntryText, entry_text}
-use Rattle.stream_input.specs.Said.{number_of, record_of, entry_of}
+use Rattle.input_texts.specs.declared.text.EntryText.{EntryText}
+use Rattle.input_texts.specs.InputText.{entry_text}
+use Rattle.input_texts.specs.Said.{number_of, record_of, entry_of}
 use Rattle.stream_input.specs.Fit.{is_fit, if_fit, fit_entry}
-use Rattle.stream_input.proofs.Slots.{and_then_parts, same_some}
+use Rattle.input_texts.proofs.Facts.{and_then_parts, same_some}
 
 -- where `strict` says x, `wide` says what x is built of, and that is good
 abbrev pub Refines : {X T : Type 0} → (Data → Option X) → (Data → Option T) → (T → Bool) → (T → X) → Type 0

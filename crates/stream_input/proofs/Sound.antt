@@ -1,5 +1,5 @@
 -- What is read of a text that meets every requirement is an input of the plan.
-use Rattle.std.proofs.Common.{option_map, ◌≡◌, ℕ, ◌^◌, ◌≤◌, ℤ, pos, neg_ℤ, ◌≤ℤ◌, ◌<ℤ◌, true, ◌==◌, map, length, get_or, List, [], ◌∷◌, Option, Some, None, Result, Ok, Err, subst, refl, ◌∙◌, arith}
+use Rattle.std.proofs.Common.{option_map, ◌≡◌, ℕ, ◌^◌, ◌≤◌, ℤ, pos, neg_ℤ, ◌≤ℤ◌, ◌<ℤ◌, true, ◌==◌, map, length, get_or, List, [], ◌∷◌, Option, Some, None, Result, Ok, Err, IsOk, subst, refl, ◌∙◌, arith}
 use Rattle.std.proofs.lemmas.Bool.{and_parts, eqb-true, leb-true}
 use Rattle.std.proofs.lemmas.Int.{ints}
 use Rattle.std.proofs.lemmas.List.{length-map}
@@ -7,22 +7,24 @@ use Rattle.std.proofs.lemmas.List.Elements.{All-map}
 use Rattle.std.proofs.lemmas.List.Sums.{AllPass-from_list_all}
 use Rattle.std.specs.Prelude.{int_le, int_lt}
 use Rattle.std.specs.List.{All, list_all}
-use Rattle.std.specs.Option.{option_or}
+use Rattle.std.specs.Option.{option_map_or, option_or}
 use Rattle.plain_data.specs.Record.{at}
 use Rattle.plan_model.specs.declared.spec.SourceSpec.{SourceSpec}
 use Rattle.plan_model.specs.PlanData.{PlanData, IsPlan}
 use Rattle.stream_model.specs.declared.entry.Entry.{Entry}
-use Rattle.stream_input.specs.declared.fault.InputFault.{InputFault}
+use Rattle.input_texts.specs.declared.fault.InputFault.{InputFault}
 use Rattle.json_parts.specs.Answer.{first_unmet}
 use Rattle.json_parts.proofs.Facts.{met_first, no_fault}
 use Rattle.stream_model.specs.InputData.{InputData, IsTime, IsEntry, IsInput, BelongsTo, all_records}
-use Rattle.stream_input.specs.InputText.{EntryText, rows, watermark, InputText}
-use Rattle.stream_input.specs.Said.{record_of, number_of, entry_of, partitions_under, sources_of, input_of}
-use Rattle.stream_input.specs.Requirements.{is_time, is_timely, requirements, has_sources, has_partitions, has_width, has_numbers, has_rows, has_times, late_record, is_few}
+use Rattle.input_texts.specs.declared.text.EntryText.{EntryText}
+use Rattle.input_texts.specs.declared.text.EntryText.TheVariants.{Rows as rows, Watermark as watermark}
+use Rattle.input_texts.specs.InputText.{InputText}
+use Rattle.input_texts.specs.Said.{record_of, number_of, entry_of, partitions_under, sources_of, input_of}
+use Rattle.input_texts.specs.Requirements.{is_time, is_timely, requirements, has_sources, has_partitions, has_width, has_numbers, has_rows, has_times, late_record, is_few}
 use Rattle.stream_model.specs.Watermarks.{IsOrderly}
 use Rattle.stream_model.specs.Late.{first_late}
-use Rattle.stream_input.specs.Fault.{late_fault}
-use Rattle.stream_input.specs.Answer.{if_ok, text_of_bytes, input_or_fault, input_of_bytes}
+use Rattle.input_texts.specs.Fault.{late_fault}
+use Rattle.input_texts.specs.Answer.{if_ok, text_of_bytes, input_or_fault, input_of_bytes}
 use Rattle.stream_model.proofs.Facts.{orderly}
 use Rattle.stream_input.proofs.Tables.{passes_under}
 
@@ -96,6 +98,8 @@ unfolding late_record
 orderly_sources plan text h = orderly plan.window.time (sources_of plan text) (no_map late_fault (first_late plan.window.time (sources_of plan text)) h)
 
 record Met (plan : PlanData) (text : InputText) : Type 0 where
+  wide : has_width plan text ≡ true
+  sized : has_rows plan text ≡ true
   partitions : has_partitions plan text ≡ true
   times : has_times plan text ≡ true
   late : late_record plan text ≡ None
@@ -112,7 +116,7 @@ met plan text h =
     let times = met_first _ (has_times plan text) _ sized.1 in
     let late = none_first (late_record plan text) _ times.1 in
     let few = met_first _ (is_few plan text) _ late.1 in
-    record { partitions = partitions.0; times = times.0; late = late.0; few = few.0 }
+    record { wide = width.0; sized = sized.0; partitions = partitions.0; times = times.0; late = late.0; few = few.0 }
 
 is_input : (plan : PlanData) (text : InputText) → Met plan text → IsInput (input_of plan text)
 is_input plan text m = record { entries = sources_sound plan text m.times; few = few_from plan text m.few }
@@ -142,3 +146,23 @@ said_ok plan (Err fault) i h = absurd cc
 pub read_sound : (plan : PlanData) (bytes : List ℕ) (i : InputData) → input_of_bytes plan bytes ≡ Ok i → IsRead plan i
 unfolding input_of_bytes
 read_sound plan bytes i h = let text = said_ok plan (text_of_bytes bytes) i h in sound plan text.0 i text.1
+
+-- ---- what is built of a text without a fault
+
+no_err : (o : Option InputFault) (i : InputData) → IsOk (option_map_or Err o (Ok i)) → o ≡ None
+no_err None i h = refl
+no_err (Some fault) i h = absurd (cc)
+
+-- a text without a fault, which the bytes say
+pub record Faultless (plan : PlanData) (bytes : List ℕ) (text : InputText) : Type 0 where
+  pub wide : has_width plan text ≡ true
+  pub sized : has_rows plan text ≡ true
+  pub said : input_of_bytes plan bytes ≡ Ok (input_of plan text)
+
+pub faultless : (plan : PlanData) (bytes : List ℕ) (text : InputText) → IsOk (input_of_bytes plan bytes) → text_of_bytes bytes ≡ Ok text → Faultless plan bytes text
+unfolding input_of_bytes
+faultless plan bytes text h said =
+    let of_text : IsOk (input_or_fault plan text) = rw said at h in
+    let none = no_err (first_unmet (requirements plan) text) (input_of plan text) of_text in
+    let m = met plan text none in
+    record { wide = m.wide; sized = m.sized; said = rw (said, none) refl }

@@ -9,9 +9,10 @@ use Rattle.std.specs.List.{All, list_all, find}
 use Rattle.std.specs.Option.{option_map_or}
 use Rattle.plain_data.specs.Record.{Record}
 use Rattle.columns.specs.declared.TheConstants.{MOST_ROWS}
-use Rattle.stream_input.specs.InputText.{EntryText, InputText}
-use Rattle.stream_input.specs.Said.{number_of, record_of, partitions_under}
-use Rattle.stream_input.specs.Requirements.{every_entry}
+use Rattle.input_texts.specs.declared.text.EntryText.{EntryText}
+use Rattle.input_texts.specs.InputText.{InputText}
+use Rattle.input_texts.specs.Said.{number_of, record_of, partitions_under}
+use Rattle.input_texts.specs.Requirements.{every_entry}
 
 -- what the test of the width says of rows
 pub wide_all : (columns : ℕ) (rows : List (List (Option ℤ))) → list_all (λ row. length row == columns) rows ≡ true → All (λ row. length row ≡ columns) rows

@@ -7,9 +7,10 @@ use Rattle.json_parts.specs.Parts.{list_text}
 use Rattle.json_parts.specs.Members.{each_member}
 use Rattle.plan_model.specs.PlanData.{PlanData}
 use Rattle.stream_model.specs.declared.entry.Entry.{Entry}
-use Rattle.stream_input.specs.InputText.{EntryText, entry_text, InputText}
-use Rattle.stream_input.specs.Said.{entry_of, sources_of}
-use Rattle.stream_input.specs.Requirements.{is_wide, is_whole, is_sized, is_timely, every_entry, has_sources, has_partitions, has_width, has_numbers, has_rows, has_times}
+use Rattle.input_texts.specs.declared.text.EntryText.{EntryText}
+use Rattle.input_texts.specs.InputText.{entry_text, InputText}
+use Rattle.input_texts.specs.Said.{entry_of, sources_of}
+use Rattle.input_texts.specs.Requirements.{is_wide, is_whole, is_sized, is_timely, every_entry, has_sources, has_partitions, has_width, has_numbers, has_rows, has_times}
 
 -- column c of `count` rows whose numbers stand one after another
 abbrev pub column_in_cells : ℕ → ℕ → List ℤ → ℕ → List ℤ

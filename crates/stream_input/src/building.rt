@@ -5,12 +5,11 @@ ghost use Rattle.std.specs.List.{All};
 ghost use Rattle.plain_data.specs.Record.{column_of as column_in};
 ghost use Rattle.columns.specs.Table.{IsWidth, by_columns};
 ghost use Rattle.columns.specs.declared.TheConstants.{MOST_ROWS};
-ghost use Rattle.stream_input.specs.Said as said;
-ghost use Rattle.stream_input.specs.Requirements.{is_wide, is_sized, has_width, has_rows};
+ghost use Rattle.input_texts.specs.Said as said;
+ghost use Rattle.input_texts.specs.Requirements.{is_wide, is_sized, has_width, has_rows};
 
-use crate::requirements::{number_at, number_of, partitions_of};
-use crate::text::{EntryText, SourceText};
 use columns::Batch;
+use input_texts::{EntryText, SourceText, number_at, number_of, partitions_of};
 use logical_plan::Plan;
 use plain_data::Items;
 use std::alloc::{AllocError, Global};

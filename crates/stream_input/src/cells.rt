@@ -5,13 +5,13 @@ ghost use Rattle.std.specs.List.{flat_map, range_with_len};
 ghost use Rattle.columns.specs.Table.{IsWidth};
 ghost use Rattle.json_tokens.specs.Rows.{joined};
 ghost use Rattle.stream_input.specs.Fit.{column_in_cells, if_fit};
-ghost use Rattle.stream_input.specs.InputText.{rows};
-ghost use Rattle.stream_input.specs.Said.{record_of};
-ghost use Rattle.stream_input.specs.Requirements.{is_wide, is_whole};
+ghost use Rattle.input_texts.specs.declared.text.EntryText.TheVariants.{Rows as rows};
+ghost use Rattle.input_texts.specs.Said.{record_of};
+ghost use Rattle.input_texts.specs.Requirements.{is_wide, is_whole};
 ghost use Rattle.stream_model.specs.declared.entry.Entry.TheVariants.{Rows};
 
-use crate::requirements::are_times;
 use columns::{Batch, MOST_ROWS};
+use input_texts::are_times;
 use json_tokens::Miss;
 use std::alloc::{AllocError, Global};
 

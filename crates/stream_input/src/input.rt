@@ -1,10 +1,10 @@
 ghost use Rattle.std.specs.Prelude.{IfOk, [], ◌≡◌, ◌<◌, ◌≤◌, length, option_copied, slice_get, slice_index_or};
 ghost use Rattle.stream_model.specs.InputData.{IsInput, BelongsTo, partition_at};
 ghost use Rattle.stream_model.specs.Watermarks.{IsOrderly, partition_watermark};
-ghost use Rattle.stream_input.specs.Answer.{Gives, is_memory, input_of_bytes};
+ghost use Rattle.input_texts.specs.Answer.{Gives, is_memory, input_of_bytes};
 
-use crate::fault::InputFault;
 use crate::reading::sources_read;
+use input_texts::InputFault;
 use logical_plan::Plan;
 use plain_data::Items;
 use std::alloc::Global;

@@ -1,20 +1,17 @@
 //! From bytes to the sources of an input.
 
-ghost use Rattle.std.specs.Prelude.{◌≡◌, option_and_then, Err, IfOk, IfErr};
+ghost use Rattle.std.specs.Prelude.{◌≡◌, option_and_then, Err, IfOk, IfErr, IsErr, IsOk, MatchResult};
 ghost use Rattle.json_parts.specs.Parts.{json_of};
 ghost use Rattle.stream_model.specs.InputData.{input_data_of};
-ghost use Rattle.stream_input.specs.InputText.{InputText, input_text};
+ghost use Rattle.input_texts.specs.InputText.{InputText, input_text};
 ghost use Rattle.stream_input.specs.Fit.{AreOf, IsRead};
-ghost use Rattle.stream_input.specs.Answer.{Gives, is_memory, text_of_bytes, input_or_fault, input_of_bytes};
+ghost use Rattle.input_texts.specs.Answer.{Fails, Gives, is_memory, text_of_bytes, input_or_fault, input_of_bytes};
 
 use crate::building::sources_of;
-use crate::fault::InputFault;
-use crate::finding::fault_in;
-use crate::requirements;
-use crate::text::{SourceText, text_of_input};
 use crate::tokens::sources_in;
+use input_texts::{InputFault, SourceText, check_text, text_of_input};
 use json_parts::{PartError, value_of};
-use json_tokens::{Miss, is_json};
+use json_tokens::Miss;
 use logical_plan::Plan;
 use plain_data::Items;
 use std::alloc::Global;
@@ -28,9 +25,9 @@ pub fn sources_read(alloc: Global, plan: &Plan, bytes: &[u8]) -> Result<Items<So
     sources_after(alloc, plan, bytes, quick)
 }
 
-/// The same, once the bytes were read token by token: want of memory there ends the reading, and any other
-/// miss is left to the reading by value.
-#[tactic(auto, unfolding(crate::specs::Answer::input_of_bytes))]
+/// The same, once the bytes were read token by token: want of memory there ends the reading, with their own
+/// fault where they have one, and any other miss is left to the reading by value.
+#[tactic(auto, unfolding(input_texts::specs::Answer::input_of_bytes))]
 fn sources_after(
     alloc: Global,
     plan: &Plan,
@@ -38,42 +35,44 @@ fn sources_after(
     quick: Result<Items<Source>, Miss>,
 ) -> Result<Items<Source>, InputFault>
     requires { IfOk quick (λ sources. IsRead plan.now (option_and_then input_text (json_of bytes.now)) sources) }
-    ensures ends { IfErr quick (λ miss. miss ≡ Miss.Memory → result ≡ Err InputFault.Memory) }
+    ensures ends { IfErr quick (λ miss. miss ≡ Miss.Memory → IsErr result) }
     ensures reads { Gives is_memory (λ sources. input_data_of plan.now.columns plan.now.window.time sources) result (input_of_bytes plan.now bytes.now) }
 {
     match quick {
         Ok(sources) => orderly(plan, sources),
-        Err(Miss::Memory) => Err(InputFault::Memory),
+        Err(Miss::Memory) => Err(fault_or_memory(alloc, plan, bytes)),
         Err(Miss::Other) => sources_by_value(alloc, plan, bytes),
     }
 }
 
-/// The same of bytes that were missed: a fault is found without a tree of the whole text, if it can be.
-#[tactic(auto, unfolding(crate::specs::Answer::input_of_bytes))]
+/// The same of bytes that were missed. A tree of the text is made once it is known to have no fault.
+#[tactic(auto, unfolding(input_texts::specs::Answer::input_of_bytes))]
 fn sources_by_value(alloc: Global, plan: &Plan, bytes: &[u8]) -> Result<Items<Source>, InputFault>
     ensures { Gives is_memory (λ sources. input_data_of plan.now.columns plan.now.window.time sources) result (input_of_bytes plan.now bytes.now) }
 {
-    match fault_of(alloc, plan, bytes) {
-        Ok(fault) => return Err(fault),
-        Err(Miss::Memory) => return Err(InputFault::Memory),
-        Err(Miss::Other) => {}
-    }
+    check_bytes(alloc, plan, bytes)?;
     let text = text_of(alloc, bytes)?;
-    sources_from(alloc, plan, text.as_slice())
+    Ok(sources_of(alloc, plan, text.as_slice())?)
 }
 
-/// The fault of the bytes, where it is found without a tree of the whole text.
-#[tactic(auto, unfolding(crate::specs::Answer::input_of_bytes))]
-fn fault_of(alloc: Global, plan: &Plan, bytes: &[u8]) -> Result<InputFault, Miss>
-    ensures { IfOk result (λ fault. input_of_bytes plan.now bytes.now ≡ Err fault) }
+/// The fault of bytes that there was no memory to read: their own, and want of memory where they have none.
+fn fault_or_memory(alloc: Global, plan: &Plan, bytes: &[u8]) -> InputFault
+    ensures { Fails is_memory result (input_of_bytes plan.now bytes.now) }
 {
-    let Ok(text) = str::from_utf8(bytes) else {
-        return Ok(InputFault::NotJson);
-    };
-    if !is_json(alloc, text)? {
-        return Ok(InputFault::NotJson);
+    match check_bytes(alloc, plan, bytes) {
+        Ok(()) => InputFault::Memory,
+        Err(fault) => fault,
     }
-    fault_in(alloc, plan, text)
+}
+
+/// Whether the bytes are an input of the plan.
+fn check_bytes(alloc: Global, plan: &Plan, bytes: &[u8]) -> Result<(), InputFault>
+    ensures { MatchResult result (λ _. IsOk (input_of_bytes plan.now bytes.now)) (λ fault. Fails is_memory fault (input_of_bytes plan.now bytes.now)) }
+{
+    match str::from_utf8(bytes) {
+        Ok(text) => check_text(alloc, plan, text),
+        Err(_) => Err(InputFault::NotJson),
+    }
 }
 
 /// The sources that the bytes say, read token by token, where all requirements up to the range of the
@@ -88,7 +87,7 @@ fn read_by_tokens(alloc: Global, plan: &Plan, bytes: &[u8]) -> Result<Items<Sour
 }
 
 /// What the bytes say.
-#[tactic(auto, unfolding(crate::specs::Answer::text_of_bytes))]
+#[tactic(auto, unfolding(input_texts::specs::Answer::text_of_bytes))]
 fn text_of(alloc: Global, bytes: &[u8]) -> Result<Items<SourceText>, InputFault>
     ensures { Gives is_memory (λ text. text) result (text_of_bytes bytes.now) }
 {
@@ -97,37 +96,6 @@ fn text_of(alloc: Global, bytes: &[u8]) -> Result<Items<SourceText>, InputFault>
         Err(PartError::Form) => Err(InputFault::NotJson),
         Err(PartError::Memory) => Err(InputFault::Memory),
     }
-}
-
-/// The partitions of each source, in the order of the plan, where every requirement is met.
-#[tactic(auto, unfolding(crate::specs::Requirements::requirements))]
-fn sources_from(
-    alloc: Global,
-    plan: &Plan,
-    text: &[SourceText],
-) -> Result<Items<Source>, InputFault>
-    ensures { Gives is_memory (λ sources. input_data_of plan.now.columns plan.now.window.time sources) result (input_or_fault plan.now text.now) }
-{
-    if !requirements::has_sources(plan, text) {
-        return Err(InputFault::Source);
-    }
-    if !requirements::has_partitions(plan, text) {
-        return Err(InputFault::Partitions);
-    }
-    if !requirements::has_width(plan, text) {
-        return Err(InputFault::Width);
-    }
-    if !requirements::has_numbers(plan, text) {
-        return Err(InputFault::Number);
-    }
-    if !requirements::has_rows(plan, text) {
-        return Err(InputFault::Rows);
-    }
-    if !requirements::has_times(plan, text) {
-        return Err(InputFault::TimeRange);
-    }
-    let sources = sources_of(alloc, plan, text)?;
-    orderly(plan, sources)
 }
 
 /// The same sources, where no record comes too late and there are not too many.

@@ -1,22 +1,23 @@
 //! An input read token by token, straight into batches. What is not read so is a [`Miss`]: a text with a
 //! fault, above all.
 
-ghost use Rattle.std.specs.Prelude.{◌≡◌, ◌<◌, ◌==◌, Some, None, length, map, position, bytes_eq, slice_set, option_and_then, IfOk, OnOk};
+ghost use Rattle.std.specs.Prelude.{◌≡◌, ◌<◌, ◌==◌, Some, None, length, map, position, bytes_eq, slice_set, option_and_then, IfOk, IfErr, OnOk};
 ghost use Rattle.std.specs.List.{list_all, zip};
 ghost use Rattle.serde_json.specs.Data.{Members, object};
 ghost use Rattle.serde_json.specs.Read.{of_json, converted, read};
 ghost use Rattle.json.specs.Json.{value};
 ghost use Rattle.json_parts.specs.Parts.{list_text};
 ghost use Rattle.json_tokens.specs.Ahead.{part};
-ghost use Rattle.stream_input.specs.InputText.{input_text};
+ghost use Rattle.input_texts.specs.InputText.{input_text};
 ghost use Rattle.stream_input.specs.Fit.{fit_entry, IsSlots, IsRead};
 
 use crate::cells::batch_at;
-use crate::requirements::is_time;
+use columns::MOST_ROWS;
+use input_texts::{empty_slots, is_time, place_of, put};
 use json_tokens::{MOST_DEPTH, Miss, Scanner, scan_rows};
 use logical_plan::Plan;
 use plain_data::Items;
-use plan_model::SourceSpec;
+use plan_model::{MOST_PARTITIONS, SourceSpec};
 use std::alloc::Global;
 use stream_model::{Entry, Partition, Source};
 
@@ -38,7 +39,7 @@ fn next_entry(
     if name == "rows".as_bytes() {
         let width = plan.columns() as usize;
         cells.clear();
-        scan_rows(reader, cells, width, depth - 1)?;
+        scan_rows(reader, cells, width, width * MOST_ROWS, depth - 1)?;
         reader.close_object()?;
         let batch = batch_at(alloc, cells, width, plan.window().time as usize)?;
         return Ok(Entry::Rows(batch));
@@ -92,37 +93,13 @@ fn next_source(
     reader.open_list()?;
     let mut partitions = Vec::new(alloc);
     'partitions: while !reader.take_end_array() {
+        if MOST_PARTITIONS as usize <= partitions.len() {
+            return Err(Miss::Other);
+        }
         let partition = next_partition(alloc, plan, reader, cells, depth - 1)?;
         partitions.push(partition)?;
     }
     Ok(Items::from_vec(partitions))
-}
-
-/// The place of the source with a name.
-pub fn place_of(specs: &[SourceSpec], name: &[u8]) -> Option<usize>
-    ensures { result ≡ position (λ s. bytes_eq s.uid name.now) specs.now }
-{
-    specs
-        .iter()
-        .position(|spec| spec.uid.as_str().as_bytes() == name)
-}
-
-/// A place for something of each source.
-pub fn empty_slots<T: Drop>(alloc: Global, specs: &[SourceSpec]) -> Result<Vec<Option<T>>, Miss>
-    ensures { IfOk result (λ slots. slots.items ≡ map (λ s. None) specs.now) }
-{
-    let mut slots = Vec::new(alloc);
-    for _spec in specs {
-        slots.push(None)?;
-    }
-    Ok(slots)
-}
-
-pub fn put<T: Drop>(slots: &mut Vec<Option<T>>, place: usize, part: T)
-    requires { place < length slots.old.items }
-    ensures { slots.new.items ≡ slice_set slots.old.items place (Some part) }
-{
-    slots[place] = Some(part);
 }
 
 /// For each source of the plan its partitions, where the object has its uid, and no other name.

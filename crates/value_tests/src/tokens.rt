@@ -33,10 +33,11 @@ fn whole_numbers(rt: HostRuntime) {
     }
 }
 
+/// The numbers of rows of two, of which there are to be no more than four.
 fn rows_of(rt: &impl AllocGlobal, text: &str, depth: usize) -> Result<Vec<i64>, Miss> {
     let mut reader = Scanner::new(text.as_bytes());
     let mut cells = Vec::new(rt.alloc());
-    scan_rows(&mut reader, &mut cells, 2, depth)?;
+    scan_rows(&mut reader, &mut cells, 2, 4, depth)?;
     reader.end()?;
     Ok(cells)
 }
@@ -56,6 +57,7 @@ fn rows(rt: HostRuntime) -> Result<(), Fail> {
         ("[[1,2.5]]", 2),
         ("[1,2]", 2),
         ("[[1,2],", 2),
+        ("[[1,2],[3,4],[5,6]]", 2),
         ("{}", 2),
     ] {
         assert_eq!(rt;

@@ -1,5 +1,5 @@
 use Rattle.std.proofs.Common.{option_map, string_bytes, ap}
-use Rattle.stream_input.specs.Answer.{input_of_bytes}
+use Rattle.input_texts.specs.Answer.{input_of_bytes}
 use Rattle.job_texts.specs.declared.fault.JobFault.TheVariants.{Input}
 use Rattle.job_texts.specs.Fault.{input_fault}
 use Rattle.job.specs.Ends.{as_job}

@@ -1,7 +1,7 @@
 use Rattle.std.proofs.Common.{length, map, ◌∙◌}
 use Rattle.std.proofs.lemmas.List.{length-map}
 use Rattle.columns.proofs.Facts.{by_columns_whole, table_is}
-use Rattle.stream_input.specs.Said.{record_of}
+use Rattle.input_texts.specs.Said.{record_of}
 use Rattle.stream_input.proofs.Tables.{even_records}
 use Rattle.stream_input.proofs.building.batch_of.Goals as goal
 

@@ -1,7 +1,7 @@
 use Rattle.std.proofs.Common.{ℤ, List, ◌++◌, map, ap, ◌∙◌}
 use Rattle.plain_data.specs.Record.{column_of}
 use Rattle.columns.proofs.Facts.{by_columns-more}
-use Rattle.stream_input.specs.Said.{record_of}
+use Rattle.input_texts.specs.Said.{record_of}
 use Rattle.stream_input.proofs.building.numbers_of.Goals as goal
 
 pub loop-column-preserved : goal.loop-column-preserved

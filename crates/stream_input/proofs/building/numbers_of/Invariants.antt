@@ -1,6 +1,6 @@
 use Rattle.std.proofs.Common.{◌≡◌, map}
 use Rattle.columns.specs.Table.{by_columns}
-use Rattle.stream_input.specs.Said.{record_of}
+use Rattle.input_texts.specs.Said.{record_of}
 use Rattle.stream_input.proofs.building.numbers_of.Given as goal
 
 abbrev pub invariant-loop-column : goal.invariant-loop-column

@@ -3,7 +3,7 @@ use Rattle.std.specs.Int.{w64}
 use Rattle.std.proofs.lemmas.Int.{to_z-of_z}
 use Rattle.std.proofs.lemmas.List.{append_assoc, take_more, map-append}
 use Rattle.plain_data.specs.Record.{at, column_of}
-use Rattle.stream_input.specs.Said.{record_of}
+use Rattle.input_texts.specs.Said.{record_of}
 use Rattle.stream_input.proofs.building.put_column.Goals as goal
 
 -- the number of one row more

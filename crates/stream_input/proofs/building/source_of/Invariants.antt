@@ -1,5 +1,5 @@
 use Rattle.std.proofs.Common.{◌≡◌, map, take}
-use Rattle.stream_input.specs.Said.{entry_of}
+use Rattle.input_texts.specs.Said.{entry_of}
 use Rattle.stream_input.proofs.building.source_of.Given as goal
 
 abbrev pub invariant-loop-text : goal.invariant-loop-text

@@ -1,7 +1,7 @@
 use Rattle.std.proofs.Common.{◌≡◌, take, length, ap, ◌∙◌, arith}
 use Rattle.std.proofs.lemmas.List.{take_all}
 use Rattle.plan_model.specs.declared.spec.SourceSpec.{SourceSpec}
-use Rattle.stream_input.specs.Requirements.{is_wide, is_sized, has_width, has_rows}
+use Rattle.input_texts.specs.Requirements.{is_wide, is_sized, has_width, has_rows}
 use Rattle.stream_input.proofs.Tables.{each_passes}
 use Rattle.stream_input.proofs.building.sources_of.Goals as goal
 

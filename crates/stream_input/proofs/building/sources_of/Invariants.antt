@@ -1,5 +1,5 @@
 use Rattle.std.proofs.Common.{◌≡◌, map, take}
-use Rattle.stream_input.specs.Said.{entry_of, partitions_under}
+use Rattle.input_texts.specs.Said.{entry_of, partitions_under}
 use Rattle.stream_input.proofs.building.sources_of.Given as goal
 
 abbrev pub invariant-loop-spec : goal.invariant-loop-spec

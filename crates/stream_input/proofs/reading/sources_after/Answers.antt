@@ -1,4 +1,4 @@
-use Rattle.stream_input.specs.Answer.{input_of_bytes}
+use Rattle.input_texts.specs.Answer.{input_of_bytes}
 use Rattle.stream_input.proofs.FitAnswers.{text_said}
 use Rattle.stream_input.proofs.reading.sources_after.Goals as goal
 

@@ -4,9 +4,9 @@ use Rattle.json_tokens.specs.Rows.{row_text, joined}
 use Rattle.json_tokens.specs.Ahead.{part}
 use Rattle.json_tokens.proofs.Facts.{one_member}
 use Rattle.stream_model.specs.declared.entry.Entry.TheVariants.{Rows, Watermark}
-use Rattle.stream_input.specs.InputText.{rows}
-use Rattle.stream_input.specs.Said.{record_of}
-use Rattle.stream_input.specs.Requirements.{is_wide, is_whole, is_time}
+use Rattle.input_texts.specs.declared.text.EntryText.TheVariants.{Rows as rows}
+use Rattle.input_texts.specs.Said.{record_of}
+use Rattle.input_texts.specs.Requirements.{is_wide, is_whole, is_time}
 use Rattle.stream_input.specs.Fit.{if_fit, fit_entry}
 use Rattle.stream_input.proofs.FitEntries.{rows_fit, watermark_fit}
 use Rattle.stream_input.proofs.tokens.next_entry.Goals as goal

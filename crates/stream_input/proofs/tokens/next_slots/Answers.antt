@@ -14,7 +14,7 @@ pub members-init : goal.members-init
 members-init c = (
   no_members,
   members_begin (c.args.depth - 1) c.open_object.new.self,
-  no_members_yet c.args.plan.now c.in_ok-slots.slots.items (rw (← c.sources-specs.ensures.says) c.in_ok-slots.ensures),
+  no_members_yet c.args.plan.now c.in_ok-slots.slots.items (rw (← c.sources-specs.ensures.says) c.in_ok-slots.ensures.said),
 )
 
 pub members-preserved : goal.members-preserved

@@ -1,0 +1,13 @@
+pub mod Facts
+mod Rows
+mod Pairs
+mod Sources
+mod Replaced
+mod OrderedMembers
+mod NotedMembers
+mod NotedTexts
+mod Notings
+mod LateEntries
+mod EntryNotings
+mod SourceNotings
+mod FirstFaults
