@@ -3,7 +3,7 @@
 use crate::entries::{Test, check_entries, check_forms};
 use crate::forms::tell_other;
 use crate::owner::Owner;
-use crate::telling::Notes;
+use crate::telling::{Notes, behind};
 use json::Token;
 use logical_plan::Plan;
 use plan_model::SourceSpec;
@@ -141,13 +141,12 @@ pub(crate) fn check(
     fault: InputFault,
 ) -> Result<(), AllocError> {
     check_one(notes, plan, input, fault)?;
-    let mut is_later = false;
-    for next in &FAULTS {
-        if is_later && !notes.is_full() {
-            notes.go_on(*next)?;
-            check_one(notes, plan, input, *next)?;
+    for next in behind(&FAULTS, fault) {
+        if notes.is_full() {
+            break;
         }
-        is_later = is_later || *next == fault;
+        notes.go_on(*next)?;
+        check_one(notes, plan, input, *next)?;
     }
     Ok(())
 }

@@ -7,7 +7,7 @@ mod shape;
 mod uids;
 mod window;
 
-use crate::telling::Notes;
+use crate::telling::{Notes, behind};
 use logical_plan::PlanFault;
 use std::alloc::AllocError;
 use text_places::Placed;
@@ -38,13 +38,12 @@ pub(crate) fn check(
     fault: PlanFault,
 ) -> Result<(), AllocError> {
     check_one(notes, plan, fault)?;
-    let mut is_later = false;
-    for next in &FAULTS {
-        if is_later && !notes.is_full() {
-            notes.go_on(*next)?;
-            check_one(notes, plan, *next)?;
+    for next in behind(&FAULTS, fault) {
+        if notes.is_full() {
+            break;
         }
-        is_later = is_later || *next == fault;
+        notes.go_on(*next)?;
+        check_one(notes, plan, *next)?;
     }
     Ok(())
 }

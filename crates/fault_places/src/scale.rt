@@ -3,7 +3,7 @@
 use crate::forms::{Form, Rule, Shape, check_object, tell_other};
 use crate::owner::{Member, Owner};
 use crate::seeing::member_of;
-use crate::telling::{Notes, Range, check_range};
+use crate::telling::{Notes, Range, behind, check_range};
 use json::Token;
 use key_groups::MOST_SUBTASKS;
 use layout_rules::MOST_CAPACITY;
@@ -219,13 +219,12 @@ pub(crate) fn check(
     fault: ScaleFault,
 ) -> Result<(), AllocError> {
     check_one(notes, plan, scale, fault)?;
-    let mut is_later = false;
-    for next in &FAULTS {
-        if is_later && !notes.is_full() {
-            notes.go_on(*next)?;
-            check_one(notes, plan, scale, *next)?;
+    for next in behind(&FAULTS, fault) {
+        if notes.is_full() {
+            break;
         }
-        is_later = is_later || *next == fault;
+        notes.go_on(*next)?;
+        check_one(notes, plan, scale, *next)?;
     }
     Ok(())
 }

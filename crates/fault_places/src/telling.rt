@@ -67,6 +67,14 @@ impl Notes {
     }
 }
 
+/// The faults that come behind one in their order; none where it is not among them.
+pub(crate) fn behind<F: Copy + PartialEq>(faults: &[F], fault: F) -> &[F] {
+    match faults.iter().position(|it| *it == fault) {
+        Some(place) => &faults[place + 1..],
+        None => &[],
+    }
+}
+
 /// Tells of the value of a member, and what is wanted of it.
 pub(crate) fn tell_value<D: fmt::Display + Drop>(
     notes: &mut Notes,
