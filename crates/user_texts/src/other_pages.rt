@@ -8,8 +8,8 @@ pub const OTHER_PAGES: [FaultPage<'static>; 33] = [
         "C1",
         r#"C1 Cut (status 2)
 
-The word after `--stop` is no cut: counts of 1 to 20 digits, each below 2^64, with commas between the partitions of a source, and slashes
-between sources. A sign, a space, a point or an empty count is none.
+The word after `--stop` is no cut: counts of 1 to 20 digits, each below 2^64, with commas between the partitions of a
+source, and slashes between sources. A sign, a space, a point or an empty count is none.
 
 ```console
 $ streamjob leg plan.json input.json scale.json --stop 1,x
@@ -23,9 +23,9 @@ Write it as `2,2/5`, for two partitions of the first source and one of the secon
         "C2",
         r#"C2 Number (status 2)
 
-A word of `group` is no number in its range: KEY is a hyphen or none and 1 to 19 digits, of 64 bits; MAX has 1 to 5 digits, from 1 to 32768;
-PAR has 1 to 5 digits, from 1 to 64 and at most MAX. A `+`, a space, a point or an empty word is none. `import` says it of `--bound`, digits alone,
-below 2^64, and of `--rows`, from 1 to 4096, with the word.
+A word of `group` is no number in its range: KEY is a hyphen or none and 1 to 19 digits, of 64 bits; MAX has 1 to 5
+digits, from 1 to 32768; PAR has 1 to 5 digits, from 1 to 64 and at most MAX. A `+`, a space, a point or an empty word
+is none. `import` says it of `--bound`, digits alone, below 2^64, and of `--rows`, from 1 to 4096, with the word.
 
 ```console
 $ streamjob group 7 128 65
@@ -41,9 +41,9 @@ Take a number in the range.
         "F1",
         r#"F1 Read (status 3)
 
-A file is missing, is a folder, or may not be read; `-` is a file of that name and not standard input. All files are read first, so this
-comes before any fault of a plan. `run`, `leg` and `simulate` also say it where the system gives no random bytes. `import` reads one file after
-the other, and names the one that is missing.
+A file is missing, is a folder, or may not be read; `-` is a file of that name and not standard input. All files are
+read first, so this comes before any fault of a plan. `run`, `leg` and `simulate` also say it where the system gives no
+random bytes. `import` reads one file after the other, and names the one that is missing.
 
 ```console
 $ streamjob run plan.json no-such-file.json
@@ -59,10 +59,11 @@ F1 Read no-such-file.csv
         "F2",
         r#"F2 Write (status 3)
 
-Standard output took no more: the disk is full, or the other end of a pipe is closed. How much of the answer was taken is not known.
-`leg --save` also says it where the file cannot be written: a folder stands there, its folder is missing or takes no files of yours, or the disk
-is full. Then no row was printed, and the file is as it was. So does `import`, of INPUT and of the files of `--names` and `--late`; and where
-one of them is named twice, or is a file of a source too, since one would be written over the other. Two names of one file are not told apart.
+Standard output took no more: the disk is full, or the other end of a pipe is closed. How much of the answer was taken
+is not known. `leg --save` also says it where the file cannot be written: a folder stands there, its folder is missing
+or takes no files of yours, or the disk is full. Then no row was printed, and the file is as it was. So does `import`,
+of INPUT and of the files of `--names` and `--late`; and where one of them is named twice, or is a file of a source too,
+since one would be written over the other. Two names of one file are not told apart.
 
 ```console
 $ streamjob import plan.json no-such-folder/new.json at,key calls=calls.csv
@@ -75,9 +76,9 @@ $ streamjob leg plan.json input.json scale.json --stop 1 --save no-such-folder/s
 F2 Write
 ```
 
-Throw away what was written, make room and run again. After `| head` it may be ignored. Where the rows of a leg were cut off its savepoint
-is there all the same. Run the same leg again, from what it began with, since the next leg does not print them; so give `--save` another
-file than `--from`.
+Throw away what was written, make room and run again. After `| head` it may be ignored. Where the rows of a leg were cut
+off its savepoint is there all the same. Run the same leg again, from what it began with, since the next leg does not
+print them; so give `--save` another file than `--from`.
 "#,
     ),
     (
@@ -97,8 +98,8 @@ The scale is no JSON text, as under `P1 NotJson`.
         "S2",
         r#"S2 Member (status 3)
 
-A member is missing, unknown or of another type: `ring`, `operators`, and for each operator `parallelism` and, where it stands, `chain`,
-which is `true` or `false`.
+A member is missing, unknown or of another type: `ring`, `operators`, and for each operator `parallelism` and, where it
+stands, `chain`, which is `true` or `false`.
 
 ```json scale.json
 {"ring": 16, "operators": {"calls": 1, "usage": 2}}
@@ -137,7 +138,8 @@ Give each operator of the plan its parallelism.
         "S5",
         r#"S5 Parallelism (status 3)
 
-A `parallelism` is not from 1 to 64, or is above the plan's `maxParallelism`; this holds of each operator, the sources too.
+A `parallelism` is not from 1 to 64, or is above the plan's `maxParallelism`; this holds of each operator, the sources
+too.
 
 ```json scale.json
 {"ring": 16, "operators": {"calls": {"parallelism": 1}, "usage": {"parallelism": 65}}}
@@ -196,7 +198,8 @@ Look at the name of the file.
         "V2",
         r#"V2 Truncated (status 3)
 
-A field passes the end of the bytes: the file breaks off. A file of fewer than four bytes is one, and so is an empty one.
+A field passes the end of the bytes: the file breaks off. A file of fewer than four bytes is one, and so is an empty
+one.
 
 ```hex savepoint
 57 53 50                   # WSP
@@ -233,7 +236,8 @@ Copy the file again; it may have been joined with another.
         "V4",
         r#"V4 Order (status 3)
 
-The uid of a source, a key group, or the start and key of an entry is not above the one before, or a key group has no entry.
+The uid of a source, a key group, or the start and key of an entry is not above the one before, or a key group has no
+entry.
 
 ```hex savepoint
 57 53 50 31                # WSP1
@@ -254,7 +258,8 @@ The file was not written by a job, or it was damaged.
         "V5",
         r#"V5 Range (status 3)
 
-A field has a value that it cannot have, as a number of 0, a character that no uid has, or a least value of over 64 bits.
+A field has a value that it cannot have, as a number of 0, a character that no uid has, or a least value of over 64
+bits.
 
 ```hex savepoint
 57 53 50 31                # WSP1
@@ -323,8 +328,9 @@ A source cannot be added while a job goes on. Begin from nothing, or run the new
         "Q4",
         r#"Q4 PlanChanged (status 3)
 
-The plan counts otherwise than the one that the savepoint is of: another column of time or key, window, filter condition, aggregate or having
-condition. [FORMATS.md](FORMATS.md#savepoint) has what a plan record has, and what it has not.
+The plan counts otherwise than the one that the savepoint is of: another column of time or key, window, filter
+condition, aggregate or having condition. [FORMATS.md](FORMATS.md#savepoint) has what a plan record has, and what it has
+not.
 
 ```json plan.json
 {"columns": 2, "maxParallelism": 128, "time": 0, "key": 1, "sources": [{"uid": "calls", "partitions": 1}],
@@ -362,22 +368,23 @@ The savepoint has read more entries of a partition than the input has.
 {"calls": [[]]}
 ```
 
-Go on with the same input, or with one that has the same entries and more after them. The entries that were read have to be there, too.
+Go on with the same input, or with one that has the same entries and more after them. The entries that were read have to
+be there, too.
 "#,
     ),
     (
         "Q7",
         r#"Q7 Watermark (status 3)
 
-A partition's watermark in the savepoint is not the one that the input has after as many entries: the input is another one, or entries were
-added to a partition that had been read to its end.
+A partition's watermark in the savepoint is not the one that the input has after as many entries: the input is another
+one, or entries were added to a partition that had been read to its end.
 
 ```json input.json
 {"calls": [[{"watermark": 0}, {"rows": [[2, 7]]}]]}
 ```
 
-Go on with the input that the job began with. `streamjob show savepoint` prints each offset and watermark. A partition that is to get more
-entries later must not be read to its end before: stop an entry before it.
+Go on with the input that the job began with. `streamjob show savepoint` prints each offset and watermark. A partition
+that is to get more entries later must not be read to its end before: stop an entry before it.
 "#,
     ),
     (
@@ -440,8 +447,8 @@ The file was not written by a job, or it was damaged: take a whole copy.
         "L1",
         r#"L1 StopRange (status 3)
 
-A leg cannot stop at the cut of `--stop`: it has another number of sources or of partitions than the plan, a count is over the number of
-entries of its partition, or it is below what the savepoint of `--from` has read.
+A leg cannot stop at the cut of `--stop`: it has another number of sources or of partitions than the plan, a count is
+over the number of entries of its partition, or it is below what the savepoint of `--from` has read.
 
 ```console
 $ streamjob leg plan.json input.json scale.json --stop 3
@@ -450,8 +457,9 @@ $ streamjob leg plan.json input.json scale.json --from savepoint --stop 0
 L1 StopRange
 ```
 
-`streamjob show savepoint` prints what was read of each partition. Without `--stop` a leg goes to the end of the input. In a list of legs the
-`stop` of a leg is such a cut, and is below that of a leg before it where it counts fewer entries of a partition.
+`streamjob show savepoint` prints what was read of each partition. Without `--stop` a leg goes to the end of the input.
+In a list of legs the `stop` of a leg is such a cut, and is below that of a leg before it where it counts fewer entries
+of a partition.
 "#,
     ),
     (
@@ -484,22 +492,23 @@ The list of legs is no JSON text, as for `P1`.
         "L5",
         r#"L5 Member (status 3)
 
-The list of legs is no list of objects with a `scale` and perhaps a `stop`, a member is unknown, or a `stop` is no list of lists of whole numbers
-from 0 to 2^64 - 1.
+The list of legs is no list of objects with a `scale` and perhaps a `stop`, a member is unknown, or a `stop` is no list
+of lists of whole numbers from 0 to 2^64 - 1.
 
 ```json legs.json
 [{"scale": {"ring": 16, "operators": {"calls": {"parallelism": 1}, "usage": {"parallelism": 1}}}, "stop": "2,2"}]
 ```
 
-A cut has another form here than on the command line: `[[2, 2]]` is `2,2`. docs/FORMATS.md has the form under List of legs. A scale of a leg that
-is refused has its own code, `S2` to `S7`.
+A cut has another form here than on the command line: `[[2, 2]]` is `2,2`. docs/FORMATS.md has the form under List of
+legs. A scale of a leg that is refused has its own code, `S2` to `S7`.
 "#,
     ),
     (
         "L6",
         r#"L6 Choices (status 3)
 
-The file of choices is no JSON text, or no list that has a list for each leg, or a choice is no whole number from 0 to 2^32 - 1.
+The file of choices is no JSON text, or no list that has a list for each leg, or a choice is no whole number from 0 to
+2^32 - 1.
 
 ```json legs.json
 [{"scale": {"ring": 16, "operators": {"calls": {"parallelism": 1}, "usage": {"parallelism": 2}}}, "stop": [[1]]},
@@ -515,18 +524,19 @@ $ streamjob simulate plan.json input.json legs.json choices.json
 L6 Choices
 ```
 
-Here are two legs, so two lists: `[[1], []]`. A leg without choices has an empty one. docs/FORMATS.md has the form under Choices.
+Here are two legs, so two lists: `[[1], []]`. A leg without choices has an empty one. docs/FORMATS.md has the form under
+Choices.
 "#,
     ),
     (
         "memory",
         r#"memory (status 4)
 
-The system gave no memory, because of a limit (`ulimit -v`, a container's) or a full machine. It says nothing of the files. Where Linux
-promises more memory than it has, it may end the program by a signal instead.
+The system gave no memory, because of a limit (`ulimit -v`, a container's) or a full machine. It says nothing of the
+files. Where Linux promises more memory than it has, it may end the program by a signal instead.
 
-[PERFORMANCE.md](PERFORMANCE.md) has what a run takes by its number of records. Split the input by keys and run the parts one by one: the
-rows of all parts together, sorted, are those of the whole.
+[PERFORMANCE.md](PERFORMANCE.md) has what a run takes by its number of records. Split the input by keys and run the
+parts one by one: the rows of all parts together, sorted, are those of the whole.
 "#,
     ),
 ];

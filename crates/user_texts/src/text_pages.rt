@@ -8,7 +8,8 @@ pub const TEXT_PAGES: [FaultPage<'static>; 34] = [
         "D1",
         r#"D1 Columns (status 2)
 
-The word COLUMNS of `import` says no columns, has another number of them than the plan, or has a column of names without `--names`.
+The word COLUMNS of `import` says no columns, has another number of them than the plan, or has a column of names without
+`--names`.
 
 ```console
 $ streamjob import plan.json new.json at:sec,key calls=calls.csv
@@ -37,15 +38,17 @@ $ streamjob import plan.json new.json at,key calls.csv
 D2 Sources "calls.csv": a source and its files are SOURCE=FILE[,FILE..]
 ```
 
-Name each source once, and its files with commas between; or change `partitions` in the plan. A file's name can have no comma.
+Name each source once, and its files with commas between; or change `partitions` in the plan. A file's name can have no
+comma.
 "#,
     ),
     (
         "P1",
         r#"P1 NotJson (status 3)
 
-The plan is no JSON text. Mostly a comma too many or too few, a comment, single quotes, a byte order mark, UTF-16, two texts in one file, or
-a file that breaks off. So is a text whose lists and objects are nested over 127 deep, or with a number that is too large for a double.
+The plan is no JSON text. Mostly a comma too many or too few, a comment, single quotes, a byte order mark, UTF-16, two
+texts in one file, or a file that breaks off. So is a text whose lists and objects are nested over 127 deep, or with a
+number that is too large for a double.
 
 ```json plan.json
 {
@@ -58,14 +61,16 @@ a file that breaks off. So is a text whose lists and objects are nested over 127
         "P2",
         r#"P2 Member (status 3)
 
-A member is missing, unknown or of another type. Often it is a typing error in a name, a name where a number is to stand, a number with a
-point or in quotes, `null` for an absent member, `min` for `least`, `max` for `greatest`, `>` for `gt`, or a `column` in a `count`.
+A member is missing, unknown or of another type. Often it is a typing error in a name, a name where a number is to
+stand, a number with a point or in quotes, `null` for an absent member, `min` for `least`, `max` for `greatest`, `>` for
+`gt`, or a `column` in a `count`.
 
 ```json plan.json
 {}
 ```
 
-`streamjob check plan.json` tells each place and what has to stand there, by the [plan](FORMATS.md#plan)'s members. No other member may stand in a plan, so there is no place for remarks.
+`streamjob check plan.json` tells each place and what has to stand there, by the [plan](FORMATS.md#plan)'s members. No
+other member may stand in a plan, so there is no place for remarks.
 "#,
     ),
     (
@@ -265,24 +270,24 @@ Places count from 0. More than 8 numbers take two plans, run on the same input.
         "I1",
         r#"I1 NotJson (status 3)
 
-The input is no JSON text, as under `P1 NotJson`. An empty file, CSV, and one JSON value to a line are none, and so are `NaN`, `007` and a
-number that is too large for a double.
+The input is no JSON text, as under `P1 NotJson`. An empty file, CSV, and one JSON value to a line are none, and so are
+`NaN`, `007` and a number that is too large for a double.
 
 ```json input.json
 {
 ```
 
-`jq . input.json > /dev/null` names the line and the column of most. Do not put what jq 1.6 prints in place of an input: it changes numbers
-above 2^53.
+`jq . input.json > /dev/null` names the line and the column of most. Do not put what jq 1.6 prints in place of an input:
+it changes numbers above 2^53.
 "#,
     ),
     (
         "I2",
         r#"I2 Member (status 3)
 
-The text has another shape than an input: an object from uids to lists of partitions; a partition is a list of entries; an entry has just
-one member, `rows`, a list of lists, or `watermark`. Often an entry is a row, a row is an object, an entry has both members, or a list is
-missing.
+The text has another shape than an input: an object from uids to lists of partitions; a partition is a list of entries;
+an entry has just one member, `rows`, a list of lists, or `watermark`. Often an entry is a row, a row is an object, an
+entry has both members, or a list is missing.
 
 ```json input.json
 {"calls": [[[1, 7]]]}
@@ -301,7 +306,8 @@ The input has a uid that is none of the plan's sources, or lacks one of them.
 {"call": [[{"rows": [[1, 7]]}]]}
 ```
 
-Each source of the plan stands once, a source without records too. Of two members with one uid the last counts, and only `check` tells of it.
+Each source of the plan stands once, a source without records too. Of two members with one uid the last counts, and only
+`check` tells of it.
 "#,
     ),
     (
@@ -338,14 +344,15 @@ jq -c 'paths(arrays) as $p | select(($p | length) == 5) | [$p, getpath($p)] | se
         "I6",
         r#"I6 Number (status 3)
 
-An element of a row, or a watermark, is no whole number of 64 bits: `2.5`, `3.0`, `1e3`, `"5"`, `null`, `true`, `-0`, 2^63.
+An element of a row, or a watermark, is no whole number of 64 bits: `2.5`, `3.0`, `1e3`, `"5"`, `null`, `true`, `-0`,
+2^63.
 
 ```json input.json
 {"calls": [[{"rows": [[1, 2.5]]}]]}
 ```
 
-Scale decimals to whole numbers before (kWh to Wh), and turn names into numbers. Leave a record without a value out, or write 0 where 0 is
-meant.
+Scale decimals to whole numbers before (kWh to Wh), and turn names into numbers. Leave a record without a value out, or
+write 0 where 0 is meant.
 "#,
     ),
     (
@@ -371,17 +378,17 @@ A row's time or a watermark is not from -2^62 to 2^62 - 1 = 4611686018427387903.
 {"calls": [[{"rows": [[4611686018427387904, 7]]}]]}
 ```
 
-Nanoseconds since 1970 fit until 2116. The greatest number of 64 bits is no watermark for the end: leave it out, as the end of a partition
-is known.
+Nanoseconds since 1970 fit until 2116. The greatest number of 64 bits is no watermark for the end: leave it out, as the
+end of a partition is known.
 "#,
     ),
     (
         "I9",
         r#"I9 LateRecord (status 3)
 
-A record comes too late: its time is not above a watermark before it in its partition. The three numbers are its source, by its place in the
-plan, its partition and its entry, all from 0. It is the first such entry by these. The whole input is refused, since to drop the record
-would make a wrong sum.
+A record comes too late: its time is not above a watermark before it in its partition. The three numbers are its source,
+by its place in the plan, its partition and its entry, all from 0. It is the first such entry by these. The whole input
+is refused, since to drop the record would make a wrong sum.
 
 ```json input.json
 {"calls": [[{"watermark": 5}, {"rows": [[5, 7]]}]]}
@@ -392,15 +399,16 @@ $ streamjob run plan.json input.json
 I9 LateRecord 0 0 1
 ```
 
-A watermark of 5 says that no time of 5 or less comes after it. Lower the watermarks or leave them out (`run` prints the same rows without),
-or take the record out.
+A watermark of 5 says that no time of 5 or less comes after it. Lower the watermarks or leave them out (`run` prints the
+same rows without), or take the record out.
 "#,
     ),
     (
         "I10",
         r#"I10 TooMany (status 3)
 
-The input has over 2^40 records, all sources together. Such a text has more than 4 terabytes, so most machines say `memory` first.
+The input has over 2^40 records, all sources together. Such a text has more than 4 terabytes, so most machines say
+`memory` first.
 
 Split the input by keys, as under `memory`.
 "#,
@@ -421,7 +429,8 @@ $ streamjob import plan.json new.json at,key calls=calls.csv
 D3 Header calls.csv:1: the header has no field "key"
 ```
 
-Spell the column as the header does, in the same case and with the same spaces. Fields are divided by commas; a file with semicolons or tabs has one field.
+Spell the column as the header does, in the same case and with the same spaces. Fields are divided by commas; a file
+with semicolons or tabs has one field.
 "#,
     ),
     (
@@ -448,9 +457,10 @@ Put a text with a comma between double quotes, and double a quote within.
         "D5",
         r#"D5 Value (status 3)
 
-The text of a field, or of a member, is not what its column says: it is no number, has more decimal places than the column keeps, does not fit 64 bits, is no time
-in ISO 8601 with its zone, is finer than milliseconds or in no calendar, or is a name that is no UTF-8. Nothing is rounded, and an empty field is no number. Of an
-NDJSON file a member that a column asks for may also be null, a list or an object, which have no text.
+The text of a field, or of a member, is not what its column says: it is no number, has more decimal places than the
+column keeps, does not fit 64 bits, is no time in ISO 8601 with its zone, is finer than milliseconds or in no calendar,
+or is a name that is no UTF-8. Nothing is rounded, and an empty field is no number. Of an NDJSON file a member that a
+column asks for may also be null, a list or an object, which have no text.
 
 ```csv calls.csv
 at,key
@@ -471,8 +481,9 @@ $ streamjob import plan.json new.json at,key calls=calls.ndjson
 D5 Value calls.ndjson:1: key: null, a list or an object is no string, number, true or false
 ```
 
-Ask for more places (`key:3`), or mend the field. A time in ISO 8601 is asked for by `at:ms`, a text as a number of a table by `key:name`, and whether a
-field is just some text by `key:eq:TEXT`. [Import](FORMATS.md#import) has the form of each kind.
+Ask for more places (`key:3`), or mend the field. A time in ISO 8601 is asked for by `at:ms`, a text as a number of a
+table by `key:name`, and whether a field is just some text by `key:eq:TEXT`. [Import](FORMATS.md#import) has the form of
+each kind.
 "#,
     ),
     (
@@ -512,15 +523,16 @@ $ streamjob import plan.json new.json at,key calls=calls.csv --bound 2 --rows 1
 D7 LateRow calls.csv:4: at: the time 6 is not above the watermark 7
 ```
 
-Take a greater bound, by the watermark less the time and 1 (here 2 more, 4), leave it out, or have late records written to a file of their own by
-`--late FILE`.
+Take a greater bound, by the watermark less the time and 1 (here 2 more, 4), leave it out, or have late records written
+to a file of their own by `--late FILE`.
 "#,
     ),
     (
         "D8",
         r#"D8 Names (status 3)
 
-The file of `--names` is no table of names: CSV without a header, each line a number and a name, with the numbers from 1 on and each name once.
+The file of `--names` is no table of names: CSV without a header, each line a number and a name, with the numbers from 1
+on and each name once.
 
 ```csv names.csv
 1,anna
@@ -532,14 +544,16 @@ $ streamjob import plan.json new.json at,user:name calls=calls.csv --names names
 D8 Names names.csv:2: a record is NUMBER,NAME, with the numbers from 1 on and each name once, in UTF-8
 ```
 
-Name a file that `import` wrote, or one that is not there yet. A table whose lines changed gives other numbers than before.
+Name a file that `import` wrote, or one that is not there yet. A table whose lines changed gives other numbers than
+before.
 "#,
     ),
     (
         "D9",
         r#"D9 Object (status 3)
 
-A line of an NDJSON file, whose name ends in `.ndjson` or `.jsonl`, is no JSON object of UTF-8, or its object lacks the member of a column, or has it twice.
+A line of an NDJSON file, whose name ends in `.ndjson` or `.jsonl`, is no JSON object of UTF-8, or its object lacks the
+member of a column, or has it twice.
 
 ```ndjson calls.ndjson
 {"at":5,"key":1,"note":{"any":["thing",null]}}
@@ -557,8 +571,9 @@ $ streamjob import plan.json new.json at,key calls=cut.jsonl
 D9 Object cut.jsonl:1: the line is no JSON object
 ```
 
-Each line is one object: a list of them is split by `jq -c '.[]'`, and an object over several lines is joined by `jq -c .`. Spell the column as the member, in the
-same case; give a member that may be absent a value of its own before, as by `jq -c '.key = (.key // 0)'`.
+Each line is one object: a list of them is split by `jq -c '.[]'`, and an object over several lines is joined by
+`jq -c .`. Spell the column as the member, in the same case; give a member that may be absent a value of its own before,
+as by `jq -c '.key = (.key // 0)'`.
 "#,
     ),
 ];
