@@ -355,7 +355,8 @@ A source has another number of partitions in the plan than in the savepoint.
 {"calls": [[{"rows": [[1, 7]]}, {"rows": [[2, 7]]}], []]}
 ```
 
-The number of partitions cannot be changed while a job goes on; a scale can.
+The number of partitions cannot be changed while a job goes on; a scale can. So a new file is no new partition: put its
+lines behind those of an old one, as in section 14 of [GUIDE.md](GUIDE.md#14-stopping-a-job-and-going-on).
 "#,
     ),
     (
@@ -369,7 +370,7 @@ The savepoint has read more entries of a partition than the input has.
 ```
 
 Go on with the same input, or with one that has the same entries and more after them. The entries that were read have to
-be there, too.
+be there, too: an input of what is new alone is refused, and so is one that was imported with more `--rows` in an entry.
 "#,
     ),
     (
@@ -383,8 +384,10 @@ one, or entries were added to a partition that had been read to its end.
 {"calls": [[{"watermark": 0}, {"rows": [[2, 7]]}]]}
 ```
 
-Go on with the input that the job began with. `streamjob show savepoint` prints each offset and watermark. A partition
-that is to get more entries later must not be read to its end before: stop an entry before it.
+Go on with the input that the job began with, imported with the same `--rows` and `--bound`: others say other entries
+and watermarks. `streamjob show savepoint` prints each offset and watermark; that of a partition which was read to its
+end is 2^63 - 1. A job that is to go on with more entries later stops before its input's end: an entry before the end of
+each partition that is to get more.
 "#,
     ),
     (
