@@ -7,3 +7,4 @@ pub mod Answers
 pub mod RingSteps
 pub mod Finishing
 pub mod Ending
+pub mod Laws

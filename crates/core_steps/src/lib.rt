@@ -6,6 +6,7 @@
 
 mod finish;
 mod given;
+pub mod laws;
 mod rings;
 mod world;
 

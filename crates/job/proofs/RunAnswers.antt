@@ -34,6 +34,7 @@ legs_told said leg.Legs is = ap (as_job leg_fault) is
 legs_told said leg.NotJson is = ap (as_job leg_fault) is
 legs_told said leg.Member is = ap (as_job leg_fault) is
 legs_told said leg.Choices is = ap (as_job leg_fault) is
+legs_told said leg.Threads is = ap (as_job leg_fault) is
 legs_told said (leg.Scale place fault) is = given (is_memory (leg_fault (leg.Scale place fault))) (ap (as_job leg_fault) is)
 
 -- what is read as a list of legs is one
@@ -87,6 +88,7 @@ module _ {X : Type 0} (view : X → List ℕ) (p : PlanData) (i : InputData) (le
   legs_fail leg.Legs why = absurd (neither (sym why ∙ list))
   legs_fail leg.Choices why = absurd (why.1 each)
   legs_fail leg.NotJson why = absurd why
+  legs_fail leg.Threads why = absurd why
   legs_fail leg.Member why = absurd why
   legs_fail (leg.Scale place fault) why = absurd why
 

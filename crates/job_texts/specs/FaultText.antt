@@ -85,6 +85,7 @@ leg_text leg.Legs = codes "L3 Legs"
 leg_text leg.NotJson = codes "L4 NotJson"
 leg_text leg.Member = codes "L5 Member"
 leg_text leg.Choices = codes "L6 Choices"
+leg_text leg.Threads = codes "L7 Threads"
 leg_text (leg.Scale place fault) = scale_text fault
 leg_text leg.Memory = codes "memory"
 
@@ -123,10 +124,11 @@ restore_status fault = 3
 
 abbrev pub leg_status : LegFault → ℕ
 leg_status leg.Memory = 4
+leg_status leg.Threads = 4
 leg_status (leg.Scale place fault) = scale_status fault
 leg_status fault = 3
 
--- 4 for want of memory, 2 for a word of the command line that is no cut or no number, and else 3
+-- 4 for want of memory or of a thread, 2 for a word of the command line that is no cut or no number, and else 3
 abbrev pub status : JobFault → ℕ
 status (job.Plan fault) = plan_status fault
 status (job.Input fault) = input_status fault

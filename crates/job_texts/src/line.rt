@@ -26,7 +26,9 @@ pub fn status_of(fault: &JobFault) -> u8
         | JobFault::Scale(ScaleFault::Memory)
         | JobFault::Save(SaveFault::Memory)
         | JobFault::Restore(RestoreFault::Memory)
-        | JobFault::Leg(LegFault::Memory | LegFault::Scale(_, ScaleFault::Memory)) => 4,
+        | JobFault::Leg(
+            LegFault::Memory | LegFault::Threads | LegFault::Scale(_, ScaleFault::Memory),
+        ) => 4,
         _ => 3,
     }
 }
@@ -165,6 +167,7 @@ fn leg_name(fault: &LegFault) -> &'static str
         LegFault::NotJson => "L4 NotJson",
         LegFault::Member => "L5 Member",
         LegFault::Choices => "L6 Choices",
+        LegFault::Threads => "L7 Threads",
         LegFault::Scale(_, scale) => scale_name(scale),
         LegFault::Memory => "memory",
     }

@@ -31,6 +31,9 @@ pub enum LegFault {
     /// The choices of steps are no list that has for each leg a list of whole numbers of 32 bits.
     #[error("L6 Choices")]
     Choices,
+    /// The system refused a thread. A leg in one thread asks for none.
+    #[error("L7 Threads")]
+    Threads,
     /// The scale of the leg at this place, from 0, is refused.
     #[error("{1}")]
     Scale(usize, ScaleFault),

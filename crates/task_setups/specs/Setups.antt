@@ -42,6 +42,7 @@ setup_of p leg stages t =
     let x = source_of s.operators in
     let mine = partitions_of (partition_counts p) stages t in
     record {
+      number = t;
       role = role_of s.operators;
       inputs = if is_source (role_of s.operators) then length mine else length (inputs_of stages t);
       outputs = length (outputs_of stages t);

@@ -107,6 +107,7 @@ pub fn setup_of(
     let partitions = layout.partitions_of(task);
     let window = plan.window();
     Ok(Setup {
+        number: task,
         role: stage.role(),
         inputs: input_count(plan, layout, task),
         outputs: output_count(layout, task),

@@ -15,6 +15,8 @@ pub struct Split {
 /// What a task was told when it was made: its place in the layout, and the leg.
 #[derive(Debug, Drop)]
 pub struct Setup {
+    /// The task's number in the layout.
+    pub number: u32,
     pub role: Role,
     pub inputs: u32,
     pub outputs: u32,

@@ -77,7 +77,7 @@ impl Task {
     ghost use Rattle.task_steps.specs.Reading.{HasPartitions, ReadsFrom, IsReadable, IsMine, HasMine};
     ghost use Rattle.task_steps.specs.Running.{IsOpenable, IsRunning, HasCome, IsStoppable, IsClosable};
     ghost use Rattle.task_steps.specs.Taking.{IsReady, AreAdmitted};
-    ghost use Rattle.std.specs.Prelude.{length, Some};
+    ghost use Rattle.std.specs.Prelude.{length, Some, ℕ};
     ghost use Rattle.std.specs.FinMap.{entries};
     ghost use Rattle.plan_model.specs.declared.spec.WindowSpec.{WindowSpec};
     ghost use Rattle.dataflow_model.specs.declared.role.Role.TheVariants as role;
@@ -119,6 +119,13 @@ impl Task {
             next: 0,
             has_failed: false,
         })
+    }
+
+    /// The task's number in the layout.
+    pub fn number(&self) -> u32
+        ensures { result ≡ self.now.setup.number }
+    {
+        self.setup.number
     }
 
     /// The output of the first pending message.
@@ -510,6 +517,24 @@ impl Task {
         for q in 0..inputs {
             if self.is_mine(number, q) {
                 return Some(q);
+            }
+        }
+        None
+    }
+
+    /// The number of a partition that a source could read: of those that are not at their limit, the next one after the
+    /// one that it read last, in turn.
+    pub fn next_partition(&self) -> Option<u32>
+        ensures { MatchOption result ((q : ℕ) → IsReadable self.now q → ⊥) (λ n. HasMine self.now n) }
+    {
+        for q in self.reads.saturating_add(1)..self.setup.inputs {
+            if self.is_readable(q) {
+                return Some(self.setup.partition(q));
+            }
+        }
+        for q in 0..self.setup.inputs {
+            if self.is_readable(q) {
+                return Some(self.setup.partition(q));
             }
         }
         None

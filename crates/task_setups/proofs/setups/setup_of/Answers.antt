@@ -35,6 +35,7 @@ returns c =
     let ends = c.in_ok-limits_of.ensures ∙ ap (λ x. told.limits_at leg x c.partitions_of-partitions.result.now 0) source ∙ ap (λ qs. told.limits_at leg (rule.source_of (rule.task_stage stages t).operators) qs 0) mine in
     let first : c.args.leg.now.number + 1 ≡ suc c.args.leg.now.number = omega arith in
     λ i. record {
+      number = c.args.task;
       role = role i;
       inputs = inputs i;
       outputs = c.output_count.ensures i;

@@ -1,0 +1,14 @@
+//! Laws of the definitions, each the contract of a function that does nothing.
+
+ghost use Rattle.core_steps.specs.Laws.{EachLegIsSound, TasksBeginNew};
+
+/// A plan with its compiled layout, an input that was read by it, a start of the input and a stop that the start allows are
+/// sound: the layout wires every ring, the tasks open, and the input is admitted.
+pub fn each_leg_is_sound()
+    ensures { EachLegIsSound }
+{}
+
+/// Tasks that begin a leg of a sound layout are new ones: they stand for its tasks, and have done nothing.
+pub fn tasks_begin_new()
+    ensures { TasksBeginNew }
+{}
