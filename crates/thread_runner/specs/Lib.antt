@@ -1,0 +1,7 @@
+pub mod Rings
+pub mod Works
+pub mod Jobs
+pub mod Edges
+pub mod Legs
+pub mod Refusal
+pub mod Laws

@@ -1,0 +1,115 @@
+//! What a leg comes to, out of what its workers have done.
+
+ghost use Rattle.std.specs.Prelude.{◌≡◌, ◌↔◌, List, map, length, IsFalse, IfOk};
+ghost use Rattle.stream_model.specs.InputData.{BelongsTo};
+ghost use Rattle.layout_rules.specs.Stages.{task_count};
+ghost use Rattle.leg_lists.specs.declared.stop.Stop.TheVariants.{Never};
+ghost use Rattle.redistribute.specs.StartData.{offsets_of};
+ghost use Rattle.redistribute.specs.Begins.{IsStartIn, IsFromNothing};
+ghost use Rattle.redistribute.specs.Stopping.{CanStop};
+ghost use Rattle.task_setups.specs.Legs.{IsLayoutOf};
+ghost use Rattle.core_steps.specs.Given.{given_data};
+ghost use Rattle.core_steps.specs.World.{IsSound};
+ghost use Rattle.core_steps.specs.Ending.{IsEndOf, IsWholeRun};
+ghost use Rattle.thread_runner.specs.Edges.{SameDones, HasEdges, AreJoined, AreLeft, out_names, in_names, put_tables, taken_tables, done_task};
+ghost use Rattle.thread_runner.specs.Legs.{NoFaults, AreWorked};
+
+use crate::edges::settle_all;
+use crate::jobs::Done;
+use crate::laws::layouts_have_edges;
+use core_steps::{Finish, Given, finish_of};
+use leg_lists::Stop;
+use plan_compiler::Layout;
+use std::alloc::{AllocError, Global};
+use task_steps::Task;
+
+/// Whether a worker ended early.
+pub fn has_fault(dones: &[Done]) -> bool
+    ensures { IsFalse result ↔ NoFaults dones.now }
+{
+    for done in dones {
+        if done.fault.is_some() {
+            return true;
+        }
+    }
+    false
+}
+
+/// The tasks that workers hand back, in their order.
+///
+/// # Errors
+///
+/// Only where memory runs out.
+pub fn tasks_of(alloc: Global, dones: Vec<Done>) -> Result<Vec<Task>, AllocError>
+    ensures { IfOk result (λ v. v.items ≡ map done_task dones.items) }
+{
+    let mut tasks = Vec::new(alloc);
+    for done in dones {
+        let Done {
+            task,
+            inputs: _,
+            outputs: _,
+            fault: _,
+        } = done;
+        tasks.push(task)?;
+    }
+    Ok(tasks)
+}
+
+/// What workers hand back, with all edges settled.
+fn settled(layout: &Layout, dones: Vec<Done>) -> Vec<Done>
+    requires count { length dones.items ≡ task_count layout.now.stages }
+    requires edges { HasEdges layout.now.stages }
+    requires joined { AreJoined layout.now.stages (out_names dones.items) (in_names dones.items) }
+    ensures same { SameDones dones.items result.items }
+    ensures left { AreLeft layout.now.stages (put_tables result.items) (taken_tables result.items) }
+{
+    let mut dones = dones;
+    let _left = settle_all(layout, dones.as_mut_slice());
+    dones
+}
+
+/// What a leg comes to whose workers have ended without a fault.
+fn finished(
+    alloc: Global,
+    given: Given<'_>,
+    stop: &Stop,
+    dones: Vec<Done>,
+) -> Result<Finish, AllocError>
+    requires sound { IsSound (given_data given stop.now) }
+    requires laid_out { IsLayoutOf given.plan.now given.layout.now }
+    requires belongs { BelongsTo given.plan.now given.input.now }
+    requires starts { IsStartIn given.plan.now given.input.now given.start.now }
+    requires stops { CanStop given.input.now.sources (offsets_of given.start.now) stop.now }
+    requires worked { AreWorked (given_data given stop.now) dones.items }
+    requires fine { NoFaults dones.items }
+    ensures ends { IfOk result (λ finish. IsEndOf given.entry.plan.now given.entry.input.now given.entry.start.now stop.now finish) }
+    ensures whole { IfOk result (λ finish. IsFromNothing given.entry.input.now given.entry.start.now → stop.now ≡ Never → IsWholeRun given.entry.plan.now given.entry.input.now finish) }
+{
+    let _edges = layouts_have_edges();
+    let dones = settled(given.layout, dones);
+    let tasks = tasks_of(alloc, dones)?;
+    finish_of(alloc, given, stop, tasks)
+}
+
+/// What a leg comes to, out of what its workers have done.
+pub(crate) fn conclude(
+    alloc: Global,
+    given: Given<'_>,
+    stop: &Stop,
+    dones: Vec<Done>,
+) -> Result<Finish, AllocError>
+    requires sound { IsSound (given_data given stop.now) }
+    requires laid_out { IsLayoutOf given.plan.now given.layout.now }
+    requires belongs { BelongsTo given.plan.now given.input.now }
+    requires starts { IsStartIn given.plan.now given.input.now given.start.now }
+    requires stops { CanStop given.input.now.sources (offsets_of given.start.now) stop.now }
+    requires worked { AreWorked (given_data given stop.now) dones.items }
+    ensures ends { IfOk result (λ finish. IsEndOf given.entry.plan.now given.entry.input.now given.entry.start.now stop.now finish) }
+    ensures whole { IfOk result (λ finish. IsFromNothing given.entry.input.now given.entry.start.now → stop.now ≡ Never → IsWholeRun given.entry.plan.now given.entry.input.now finish) }
+{
+    if has_fault(dones.as_slice()) {
+        return Err(AllocError);
+    }
+    finished(alloc, given, stop, dones)
+}

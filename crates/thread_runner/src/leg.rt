@@ -1,0 +1,114 @@
+//! A leg of a job, run in a thread for each task.
+
+ghost use Rattle.std.specs.Prelude.{◌≡◌, IfOk, IfErr, OnOk};
+ghost use Rattle.stream_model.specs.InputData.{BelongsTo};
+ghost use Rattle.layout_rules.specs.Scale.{IsScale};
+ghost use Rattle.leg_lists.specs.declared.stop.Stop.TheVariants.{Never};
+ghost use Rattle.redistribute.specs.StartData.{offsets_of};
+ghost use Rattle.redistribute.specs.Begins.{IsStartIn, IsFromNothing};
+ghost use Rattle.redistribute.specs.Stopping.{CanStop, IsRefusal};
+ghost use Rattle.task_setups.specs.Legs.{IsLayoutOf};
+ghost use Rattle.core_steps.specs.Given.{given_data};
+ghost use Rattle.core_steps.specs.World.{IsSound};
+ghost use Rattle.core_steps.specs.Ending.{IsEndOf, IsWholeRun};
+ghost use Rattle.thread_runner.specs.Legs.{AreWired};
+ghost use Rattle.thread_runner.specs.Refusal.{IsThreadRefusal};
+
+use crate::ending::conclude;
+use crate::gate::Gate;
+use crate::jobs::Job;
+use crate::laws::layouts_have_edges;
+use crate::run::run_all;
+use crate::wiring::{jobs_of, wire};
+use core_steps::laws::{each_leg_is_sound, tasks_begin_new};
+use core_steps::{Finish, Given};
+use leg_lists::{LegFault, Stop};
+use leg_tasks::tasks;
+use logical_plan::Plan;
+use plan_compiler::compile;
+use plan_scale::Scale;
+use redistribute::Start;
+use std::alloc::Global;
+use std::sync::Wait;
+use std::sync::atomic::AtomicBool;
+use std::thread::Threads;
+use std::time::Clock;
+use stream_input::Input;
+use task_setups::Leg;
+use window_state::HashKeys;
+
+/// The jobs of a leg: its tasks as they begin, with a new ring for each edge.
+fn prepared(
+    alloc: Global,
+    keys: HashKeys,
+    given: Given<'_>,
+    leg: &Leg,
+) -> Result<Vec<Job>, LegFault>
+    requires laid_out { IsLayoutOf given.plan.now given.layout.now }
+    requires belongs { BelongsTo given.plan.now given.input.now }
+    requires starts { IsStartIn given.plan.now given.input.now given.start.now }
+    requires number { leg.now.number ≡ given.start.now.number }
+    ensures stops { OnOk result (CanStop given.entry.input.now.sources (offsets_of given.entry.start.now) leg.now.stop) }
+    ensures sound { OnOk result (IsSound (given_data given.entry leg.now.stop)) }
+    ensures refused { IfErr result (λ fault. IsRefusal given.entry.input.now.sources (offsets_of given.entry.start.now) leg.now.stop fault) }
+    ensures wired { IfOk result (λ jobs. AreWired (given_data given.entry leg.now.stop) jobs.items) }
+{
+    let _sound = each_leg_is_sound();
+    let _new = tasks_begin_new();
+    let _edges = layouts_have_edges();
+    let plan = given.plan;
+    let input = given.input;
+    let _columns = plan.columns();
+    let _sources = input.sources();
+    let tasks = tasks(alloc, keys, plan, input, given.start, given.layout, leg)?;
+    let mut jobs = jobs_of(alloc, tasks)?;
+    wire(alloc, given.layout, jobs.as_mut_slice())?;
+    Ok(jobs)
+}
+
+/// Runs a leg that begins at a start, on the layout of the plan at a scale, in a thread for each task, to the end of its input or
+/// to the cut where it stops and leaves a savepoint. The panes of the windows are hashed by the keys, and each worker passes
+/// the gate before each of its steps.
+///
+/// The input and the scale were read by the plan, and the start is one of the input.
+///
+/// # Errors
+///
+/// `StopRange` where a leg from the start cannot stop so, else `Threads` where a thread was refused, and `Memory` where
+/// memory runs out.
+pub fn run_leg<R: Threads + Wait + Clock + Sync, G: Gate>(
+    rt: &R,
+    alloc: Global,
+    keys: HashKeys,
+    plan: &Plan,
+    input: &Input,
+    start: &Start,
+    scale: &Scale,
+    stop: Stop,
+    gate: &G,
+) -> Result<Finish, LegFault>
+    requires belongs { BelongsTo plan.now input.now }
+    requires scale { IsScale plan.now scale.now }
+    requires starts { IsStartIn plan.now input.now start.now }
+    ensures stops { OnOk result (CanStop input.now.sources (offsets_of start.now) stop) }
+    ensures ends { IfOk result (λ finish. IsEndOf plan.now input.now start.now stop finish) }
+    ensures whole { IfOk result (λ finish. IsFromNothing input.now start.now → stop ≡ Never → IsWholeRun plan.now input.now finish) }
+    ensures refused { IfErr result (λ fault. IsThreadRefusal input.now.sources (offsets_of start.now) stop fault) }
+{
+    start.check_stop(input, &stop)?;
+    let layout = compile(alloc, plan, scale)?;
+    let given = Given {
+        plan,
+        input,
+        start,
+        layout: &layout,
+    };
+    let leg = Leg {
+        number: start.number(),
+        stop,
+    };
+    let jobs = prepared(alloc, keys, given, &leg)?;
+    let failed = AtomicBool::new(false);
+    let dones = run_all(rt, alloc, input, jobs, gate, &failed)?;
+    Ok(conclude(alloc, given, &leg.stop, dones)?)
+}
