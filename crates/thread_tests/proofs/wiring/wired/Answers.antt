@@ -1,0 +1,49 @@
+use Rattle.std.proofs.Common.{◌≡◌, List, map, length, take, drop, sym, ap, subst, arith, ◌∙◌}
+use Rattle.std.proofs.lemmas.List.{take_at, length-map}
+use Rattle.leg_lists.specs.Stops.{until_of}
+use Rattle.dataflow_laws.specs.Compiled.{layout_to}
+use Rattle.leg_tasks.specs.Beginning.{BeginLeg}
+use Rattle.core_steps.specs.Given.{given_data, layout_in}
+use Rattle.core_steps.specs.World.{IsSound}
+use Rattle.core_steps.specs.Beginning.{AreNewTasks}
+use Rattle.thread_runner.specs.declared.jobs.Job.{Job}
+use Rattle.thread_runner.specs.Legs.{Wired, AreWired}
+use Rattle.thread_runner.specs.Edges.{job_task}
+use Rattle.task_steps.specs.TaskData.{TaskData}
+use Rattle.thread_tests.proofs.wiring.wired.Goals as goal
+
+pub wire-requires-clause-edges : goal.wire-requires-clause-edges
+wire-requires-clause-edges c = (c.layouts_have_edges-edges.ensures c.args.given.plan.now c.args.given.layout.now c.columns-columns.ensures.sound c.requires.laid_out).0
+
+pub wire-requires-clause-rings : goal.wire-requires-clause-rings
+wire-requires-clause-rings c = (c.layouts_have_edges-edges.ensures c.args.given.plan.now c.args.given.layout.now c.columns-columns.ensures.sound c.requires.laid_out).1
+
+pub wire-requires-clause-count : goal.wire-requires-clause-count
+wire-requires-clause-count c =
+    let g = given_data c.args.given c.args.leg.now.stop in
+    let s : IsSound g = c.each_leg_is_sound-sound.ensures g (record { plan = c.columns-columns.ensures.sound; input = c.sources-sources.ensures.sound; orderly = c.sources-sources.ensures.orderly; belongs = c.requires.belongs; laid_out = c.requires.laid_out; starts = c.requires.starts; stops = c.in_ok-tasks.ensures.stops }) in
+    let tasks = c.in_ok-tasks.tasks.items in
+    let begin : BeginLeg g.plan g.input g.start g.layout.stages (layout_in g) tasks = subst (λ n. BeginLeg g.plan g.input g.start g.layout.stages (layout_to g.plan g.input n (until_of g.stop) g.layout.stages) tasks) c.requires.number c.in_ok-tasks.ensures.begin in
+    let new : AreNewTasks g tasks = c.tasks_begin_new-new.ensures g tasks s c.requires.belongs begin in
+    let many = new.count in
+    let made = ap (λ (l : List TaskData). length l) c.in_ok-jobs.ensures.0 in
+    let long = length-map c.in_ok-jobs.jobs.items job_task in
+    let here = ap (λ (l : List Job). length l) c.as_mut_slice.ensures.value in
+    omega (arith, many, made, long, here)
+
+pub returns-clause-sound : goal.returns-clause-sound
+returns-clause-sound c =
+    let g = given_data c.args.given c.args.leg.now.stop in
+    c.each_leg_is_sound-sound.ensures g (record { plan = c.columns-columns.ensures.sound; input = c.sources-sources.ensures.sound; orderly = c.sources-sources.ensures.orderly; belongs = c.requires.belongs; laid_out = c.requires.laid_out; starts = c.requires.starts; stops = c.in_ok-tasks.ensures.stops })
+
+pub returns-clause-wired : goal.returns-clause-wired
+returns-clause-wired c =
+    let g = given_data c.args.given c.args.leg.now.stop in
+    let s : IsSound g = c.each_leg_is_sound-sound.ensures g (record { plan = c.columns-columns.ensures.sound; input = c.sources-sources.ensures.sound; orderly = c.sources-sources.ensures.orderly; belongs = c.requires.belongs; laid_out = c.requires.laid_out; starts = c.requires.starts; stops = c.in_ok-tasks.ensures.stops }) in
+    let tasks = c.in_ok-tasks.tasks.items in
+    let begin : BeginLeg g.plan g.input g.start g.layout.stages (layout_in g) tasks = subst (λ n. BeginLeg g.plan g.input g.start g.layout.stages (layout_to g.plan g.input n (until_of g.stop) g.layout.stages) tasks) c.requires.number c.in_ok-tasks.ensures.begin in
+    let new : AreNewTasks g tasks = c.tasks_begin_new-new.ensures g tasks s c.requires.belongs begin in
+    let made : AreNewTasks g (map job_task c.in_ok-jobs.jobs.items) = subst (AreNewTasks g) (sym c.in_ok-jobs.ensures.0) new in
+    let len : length c.wire.new.jobs ≡ c.in_ok-jobs.jobs.len = c.wire.auto.jobs ∙ c.as_mut_slice.ensures.len in
+    let w : Wired g.layout.stages c.in_ok-jobs.jobs.items c.wire.new.jobs = subst (λ (l : List Job). Wired g.layout.stages l c.wire.new.jobs) c.as_mut_slice.ensures.value c.in_ok-wire.ensures in
+    subst (AreWired g) (sym (take_at c.wire.new.jobs (drop (length c.wire.new.jobs) c.in_ok-jobs.jobs.items) c.in_ok-jobs.jobs.len len)) (c.jobs_are_wired-wired.ensures g c.in_ok-jobs.jobs.items c.wire.new.jobs made w)

@@ -1,0 +1,309 @@
+//! A leg whose rings are made, and settled, by hand, and what workers do where one has failed.
+
+ghost use Rattle.std.specs.Prelude.{◌≡◌, IfOk, IfSome, OnOk, length};
+ghost use Rattle.stream_model.specs.InputData.{BelongsTo};
+ghost use Rattle.redistribute.specs.Begins.{IsStartIn};
+ghost use Rattle.redistribute.specs.StartData.{offsets_of};
+ghost use Rattle.redistribute.specs.Stopping.{CanStop};
+ghost use Rattle.layout_rules.specs.Stages.{task_count};
+ghost use Rattle.task_setups.specs.Legs.{IsLayoutOf};
+ghost use Rattle.core_steps.specs.Given.{given_data};
+ghost use Rattle.core_steps.specs.World.{IsSound};
+ghost use Rattle.thread_runner.specs.Edges.{AreJoined, AreLeft, HasEdges, SameDones, in_names, out_names, put_tables, taken_tables};
+ghost use Rattle.thread_runner.specs.Legs.{AreWired, AreWorked, NoFaults};
+
+use crate::making::{
+    FOUR_EIGHT_SHORT, ONE_ONE, ROWS, THREE_AND_THREE, TWO_THREE, USAGE, layout_at, outcome_of,
+};
+use core_steps::laws::{each_leg_is_sound, tasks_begin_new};
+use core_steps::{Finish, Given, finish_of};
+use leg_lists::{LegFault, Stop};
+use leg_tasks::tasks;
+use logical_plan::Plan;
+use plan_compiler::Layout;
+use redistribute::Start;
+use std::alloc::{AllocError, Global};
+use std::process::Abort;
+use std::random::RandomSource;
+use std::sync::Wait;
+use std::sync::atomic::{AtomicBool, Ordering};
+use std::test::Fail;
+use std::thread::Threads;
+use std::time::Clock;
+use stream_input::Input;
+use task_setups::Leg;
+use thread_runner::laws::{
+    jobs_are_wired, layouts_have_edges, workers_are_at_end, workers_hand_back_rings,
+};
+use thread_runner::{Done, Job, OpenGate, has_fault, jobs_of, run_all, settle_all, tasks_of, wire};
+use window_state::HashKeys;
+
+/// The jobs of a leg's tasks, with a ring for each edge.
+fn wired(alloc: Global, keys: HashKeys, given: Given<'_>, leg: &Leg) -> Result<Vec<Job>, LegFault>
+    requires laid_out { IsLayoutOf given.plan.now given.layout.now }
+    requires belongs { BelongsTo given.plan.now given.input.now }
+    requires starts { IsStartIn given.plan.now given.input.now given.start.now }
+    requires number { leg.now.number ≡ given.start.now.number }
+    ensures stops { OnOk result (CanStop given.entry.input.now.sources (offsets_of given.entry.start.now) leg.now.stop) }
+    ensures sound { OnOk result (IsSound (given_data given.entry leg.now.stop)) }
+    ensures wired { IfOk result (λ jobs. AreWired (given_data given.entry leg.now.stop) jobs.items) }
+{
+    let _sound = each_leg_is_sound();
+    let _new = tasks_begin_new();
+    let _edges = layouts_have_edges();
+    let _wired = jobs_are_wired();
+    let plan = given.plan;
+    let input = given.input;
+    let _columns = plan.columns();
+    let _sources = input.sources();
+    let tasks = tasks(alloc, keys, plan, input, given.start, given.layout, leg)?;
+    let mut jobs = jobs_of(alloc, tasks)?;
+    wire(alloc, given.layout, jobs.as_mut_slice())?;
+    Ok(jobs)
+}
+
+/// What workers hand back, with all edges settled, and how many messages lie on them.
+fn settled(layout: &Layout, dones: Vec<Done>) -> (Vec<Done>, u64)
+    requires count { length dones.items ≡ task_count layout.now.stages }
+    requires edges { HasEdges layout.now.stages }
+    requires joined { AreJoined layout.now.stages (out_names dones.items) (in_names dones.items) }
+    ensures same { SameDones dones.items result.0.items }
+    ensures left { AreLeft layout.now.stages (put_tables result.0.items) (taken_tables result.0.items) }
+{
+    let mut dones = dones;
+    let left = settle_all(layout, dones.as_mut_slice());
+    (dones, left)
+}
+
+/// How a leg ended whose workers had no fault, and how many messages are left on its rings.
+fn settle(
+    alloc: Global,
+    given: Given<'_>,
+    stop: &Stop,
+    dones: Vec<Done>,
+) -> Result<(Finish, u64), AllocError>
+    requires sound { IsSound (given_data given stop.now) }
+    requires laid_out { IsLayoutOf given.plan.now given.layout.now }
+    requires belongs { BelongsTo given.plan.now given.input.now }
+    requires starts { IsStartIn given.plan.now given.input.now given.start.now }
+    requires stops { CanStop given.input.now.sources (offsets_of given.start.now) stop.now }
+    requires worked { AreWorked (given_data given stop.now) dones.items }
+    requires fine { NoFaults dones.items }
+{
+    let _edges = layouts_have_edges();
+    let _rings = workers_hand_back_rings();
+    let _end = workers_are_at_end();
+    let (dones, left) = settled(given.layout, dones);
+    let tasks = tasks_of(alloc, dones)?;
+    Ok((finish_of(alloc, given, stop, tasks)?, left))
+}
+
+/// What the workers of a wired leg hand back, if none of them had a fault.
+fn run_wired<R: AllocGlobal + Threads + Wait + Clock + Sync>(
+    rt: &R,
+    keys: HashKeys,
+    given: Given<'_>,
+    leg: &Leg,
+) -> Result<Option<Vec<Done>>, LegFault>
+    requires laid_out { IsLayoutOf given.plan.now given.layout.now }
+    requires belongs { BelongsTo given.plan.now given.input.now }
+    requires starts { IsStartIn given.plan.now given.input.now given.start.now }
+    requires number { leg.now.number ≡ given.start.now.number }
+    ensures stops { OnOk result (CanStop given.entry.input.now.sources (offsets_of given.entry.start.now) leg.now.stop) }
+    ensures sound { OnOk result (IsSound (given_data given.entry leg.now.stop)) }
+    ensures worked { IfOk result (λ dones. IfSome dones (λ v. AreWorked (given_data given.entry leg.now.stop) v.items)) }
+    ensures fine { IfOk result (λ dones. IfSome dones (λ v. NoFaults v.items)) }
+{
+    let jobs = wired(rt.alloc(), keys, given, leg)?;
+    let failed = AtomicBool::new(false);
+    let dones = run_all(rt, rt.alloc(), given.input, jobs, &OpenGate, &failed)?;
+    if has_fault(dones.as_slice()) {
+        return Ok(None);
+    }
+    Ok(Some(dones))
+}
+
+/// The leg has all rows, and no message is left on its rings.
+fn check_whole<R: AllocGlobal + Abort + Threads + Wait + Clock + Sync>(
+    rt: &R,
+    keys: HashKeys,
+    given: Given<'_>,
+    leg: &Leg,
+) -> Result<(), LegFault>
+    requires laid_out { IsLayoutOf given.plan.now given.layout.now }
+    requires belongs { BelongsTo given.plan.now given.input.now }
+    requires starts { IsStartIn given.plan.now given.input.now given.start.now }
+    requires number { leg.now.number ≡ given.start.now.number }
+{
+    let Some(dones) = run_wired(rt, keys, given, leg)? else {
+        return Err(LegFault::Memory);
+    };
+    let (finish, left) = settle(rt.alloc(), given, &leg.stop, dones)?;
+    assert_eq!(rt; left, 0);
+    let outcome = outcome_of(rt.alloc(), finish, true)?;
+    assert_eq!(rt; outcome.rows.as_str(), ROWS);
+    assert!(rt; outcome.savepoint.is_none());
+    Ok(())
+}
+
+/// Each of so many workers has ended early, and none has made a step.
+fn check_early<R: Abort>(rt: &R, dones: &[Done], tasks: usize) {
+    assert_eq!(rt; dones.len(), tasks);
+    assert!(rt; has_fault(dones));
+    for done in dones {
+        assert_eq!(rt; done.fault, Some(LegFault::Memory));
+        assert!(rt; !done.task.is_done());
+        assert!(rt; !done.inputs.is_empty() || done.task.can_open());
+    }
+}
+
+/// Workers that see the failure word set end at once, and hand back their tasks.
+fn check_failed<R: AllocGlobal + Abort + Threads + Wait + Clock + Sync>(
+    rt: &R,
+    keys: HashKeys,
+    given: Given<'_>,
+    leg: &Leg,
+    tasks: usize,
+) -> Result<(), LegFault>
+    requires laid_out { IsLayoutOf given.plan.now given.layout.now }
+    requires belongs { BelongsTo given.plan.now given.input.now }
+    requires starts { IsStartIn given.plan.now given.input.now given.start.now }
+    requires number { leg.now.number ≡ given.start.now.number }
+{
+    let jobs = wired(rt.alloc(), keys, given, leg)?;
+    let failed = AtomicBool::new(true);
+    let dones = run_all(rt, rt.alloc(), given.input, jobs, &OpenGate, &failed)?;
+    check_early(rt, dones.as_slice(), tasks);
+    assert!(rt; failed.load(Ordering::SeqCst));
+    Ok(())
+}
+
+/// No job has no worker, and none that has a fault.
+fn check_none<R: AllocGlobal + Abort + Threads + Wait + Clock + Sync>(
+    rt: &R,
+    input: &Input,
+) -> Result<(), LegFault> {
+    let failed = AtomicBool::new(false);
+    let jobs = Vec::new(rt.alloc());
+    let dones = run_all(rt, rt.alloc(), input, jobs, &OpenGate, &failed)?;
+    assert!(rt; dones.is_empty());
+    assert!(rt; !has_fault(dones.as_slice()));
+    assert!(rt; !failed.load(Ordering::SeqCst));
+    Ok(())
+}
+
+/// What is tried at a scale.
+#[derive(Clone, Copy)]
+enum Trial {
+    Whole,
+    /// With so many tasks.
+    Failed(usize),
+    None,
+}
+
+fn check_leg<R: AllocGlobal + Abort + Threads + Wait + Clock + Sync>(
+    rt: &R,
+    keys: HashKeys,
+    given: Given<'_>,
+    leg: &Leg,
+    trial: Trial,
+) -> Result<(), LegFault>
+    requires laid_out { IsLayoutOf given.plan.now given.layout.now }
+    requires belongs { BelongsTo given.plan.now given.input.now }
+    requires starts { IsStartIn given.plan.now given.input.now given.start.now }
+    requires number { leg.now.number ≡ given.start.now.number }
+{
+    match trial {
+        Trial::Whole => check_whole(rt, keys, given, leg),
+        Trial::Failed(tasks) => check_failed(rt, keys, given, leg, tasks),
+        Trial::None => check_none(rt, given.input),
+    }
+}
+
+fn check_given<R: AllocGlobal + Abort + RandomSource + Threads + Wait + Clock + Sync>(
+    rt: &R,
+    given: Given<'_>,
+    trial: Trial,
+) -> Result<(), Fail>
+    requires laid_out { IsLayoutOf given.plan.now given.layout.now }
+    requires belongs { BelongsTo given.plan.now given.input.now }
+    requires starts { IsStartIn given.plan.now given.input.now given.start.now }
+{
+    let keys = HashKeys::random(rt)?;
+    let leg = Leg {
+        number: given.start.number(),
+        stop: Stop::Never,
+    };
+    Ok(check_leg(rt, keys, given, &leg, trial)?)
+}
+
+fn check_started<R: AllocGlobal + Abort + RandomSource + Threads + Wait + Clock + Sync>(
+    rt: &R,
+    plan: &Plan,
+    input: &Input,
+    start: &Start,
+    scale: &str,
+    trial: Trial,
+) -> Result<(), Fail>
+    requires belongs { BelongsTo plan.now input.now }
+    requires starts { IsStartIn plan.now input.now start.now }
+{
+    let layout = layout_at(rt.alloc(), plan, scale)?;
+    let given = Given {
+        plan,
+        input,
+        start,
+        layout: &layout,
+    };
+    check_given(rt, given, trial)
+}
+
+fn check_input<R: AllocGlobal + Abort + RandomSource + Threads + Wait + Clock + Sync>(
+    rt: &R,
+    plan: &Plan,
+    input: &Input,
+    scale: &str,
+    trial: Trial,
+) -> Result<(), Fail>
+    requires { BelongsTo plan.now input.now }
+{
+    let start = Start::empty(rt.alloc(), plan, input)?;
+    check_started(rt, plan, input, &start, scale, trial)
+}
+
+fn check_plan<R: AllocGlobal + Abort + RandomSource + Threads + Wait + Clock + Sync>(
+    rt: &R,
+    plan: &Plan,
+    scale: &str,
+    trial: Trial,
+) -> Result<(), Fail> {
+    let input = Input::read(rt.alloc(), plan, THREE_AND_THREE.as_bytes())?;
+    check_input(rt, plan, &input, scale, trial)
+}
+
+fn check<R: AllocGlobal + Abort + RandomSource + Threads + Wait + Clock + Sync>(
+    rt: &R,
+    scale: &str,
+    trial: Trial,
+) -> Result<(), Fail> {
+    let plan = Plan::read(rt.alloc(), USAGE.as_bytes())?;
+    check_plan(rt, &plan, scale, trial)
+}
+
+#[test]
+fn a_leg_that_is_wired_by_hand_has_all_rows(rt: HostRuntime) -> Result<(), Fail> {
+    check(&rt, ONE_ONE, Trial::Whole)?;
+    check(&rt, TWO_THREE, Trial::Whole)?;
+    check(&rt, FOUR_EIGHT_SHORT, Trial::Whole)
+}
+
+#[test]
+fn workers_end_where_one_has_failed(rt: HostRuntime) -> Result<(), Fail> {
+    check(&rt, ONE_ONE, Trial::Failed(3))?;
+    check(&rt, TWO_THREE, Trial::Failed(6))
+}
+
+#[test]
+fn no_job_has_no_worker(rt: HostRuntime) -> Result<(), Fail> {
+    check(&rt, ONE_ONE, Trial::None)
+}
