@@ -6,7 +6,7 @@ ghost use Rattle.commands.specs.Answers as answers;
 ghost use Rattle.commands.specs.Answers.{AnswersRun, AnswersSimulate, AnswersLeg, ComesOfLeg, AnswersLayout, AnswersShow, AnswersGroup, AnswersExplain};
 
 use crate::files::{file, optional_file};
-use crate::saving::save;
+use crate::saving::{check_apart, save};
 use job::{HashKeys, JobFault, job_group, job_layout, job_leg, job_run, job_show, job_simulate};
 use std::io::{Write, writer};
 use std::random::RandomSource;
@@ -73,7 +73,7 @@ fn print<R: Print>(rt: &R, bytes: &[u8]) -> Result<(), JobFault>
 }
 
 /// Writes the savepoint that a leg left, if it left one and a file is named for it.
-fn keep<R: Files + RandomSource + AllocGlobal>(
+fn keep<R: Files + Print + RandomSource + AllocGlobal>(
     rt: &R,
     path: Option<&str>,
     saved: Option<&[u8]>,
@@ -86,6 +86,7 @@ fn keep<R: Files + RandomSource + AllocGlobal>(
     let Some(bytes) = saved else {
         return Ok(());
     };
+    check_apart(rt, path)?;
     save(rt, path, bytes)
 }
 

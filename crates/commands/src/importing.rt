@@ -46,7 +46,7 @@ fn after_import(answer: Result<(), ImportFault>) -> Result<(), CommandFault>
 /// # Errors
 ///
 /// `Read` where the plan's file cannot be read, else the fault of the plan, else that of the import.
-pub fn import<R: Files + RandomSource + AllocGlobal>(
+pub fn import<R: Files + Print + RandomSource + AllocGlobal>(
     rt: &R,
     plan: &str,
     words: &ImportWords<'_>,

@@ -5,7 +5,7 @@ ghost use Rattle.std.specs.IoError.{error_kind};
 ghost use Rattle.commands.specs.Answers as answers;
 
 use job::JobFault;
-use new_files::write_whole;
+use new_files::{is_standard_output, write_whole};
 use std::io;
 use std::io::ErrorKind;
 use std::random::RandomSource;
@@ -20,12 +20,27 @@ fn write_fault(error: &io::Error) -> JobFault
     }
 }
 
+/// Refuses to write to the file that the standard output goes to, where what is printed would be lost.
+///
+/// # Errors
+///
+/// `Write` where the path is one of that file; `Memory`.
+pub fn check_apart<R: Files + AllocGlobal>(rt: &R, path: &str) -> Result<(), JobFault>
+    ensures { IfErr result (λ fault. (fault ≡ JobFault.Write) ⊎ (fault ≡ JobFault.Memory)) }
+{
+    match is_standard_output(rt, path) {
+        Ok(false) => Ok(()),
+        Ok(true) => Err(JobFault::Write),
+        Err(error) => Err(write_fault(&error)),
+    }
+}
+
 /// Writes bytes as the whole of the file at a path: whatever happens meanwhile, it holds what it held or all of the bytes.
 ///
 /// # Errors
 ///
 /// `Write` where the file cannot be written, and then it holds what it held; `Memory`.
-pub fn save<R: Files + RandomSource + AllocGlobal>(
+pub fn save<R: Files + Print + RandomSource + AllocGlobal>(
     rt: &R,
     path: &str,
     bytes: &[u8],

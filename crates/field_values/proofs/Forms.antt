@@ -1,17 +1,23 @@
 -- What a form says of the parts of a text.
-use Rattle.std.proofs.Common.{◌≡◌, ℕ, ◌<◌, true, false, Bool, ◌&&◌, List, length, take, eqb, arith, rules, refl, length-take}
+use Rattle.std.proofs.Common.{◌≡◌, ℕ, ◌<◌, true, false, Bool, ◌&&◌, List, [], ◌∷◌, length, take, eqb, arith, rules, refl, length-take}
 use Rattle.std.specs.Char.{is_ascii_digit}
 use Rattle.std.specs.List.{list_all}
 use Rattle.std.specs.List.{slice_range}
 use Rattle.std.proofs.lemmas.Bool.{false≢true}
 use Rattle.std.proofs.lemmas.Bool.Decides.{nat_tests}
 use Rattle.field_values.specs.Digits.{are_digits}
-use Rattle.field_values.specs.Clocks.{is_clock, has_numbers}
+use Rattle.std.specs.Str.Parse.{digits_value}
+use Rattle.field_values.specs.Clocks.{is_clock, has_numbers, is_minutes, without_colon}
 use Rattle.field_values.specs.Instants.{is_time, clock_text}
 
 pub all_digits : (text : List ℕ) → are_digits text ≡ true → list_all is_ascii_digit text ≡ true
 unfolding are_digits
 all_digits text h = search rules
+
+pub no_minutes : (rest : List ℕ) → length rest ≡ 0 → (is_minutes rest ≡ true) × (0 ≡ digits_value 10 (without_colon rest))
+unfolding is_minutes without_colon
+no_minutes [] h = (refl, refl)
+no_minutes (b ∷ rest) h = absurd (omega (arith, h))
 
 short_is_no_clock : (text : List ℕ) → length text < 19 → is_clock (take 19 text) ≡ false
 unfolding is_clock

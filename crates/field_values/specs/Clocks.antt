@@ -1,5 +1,5 @@
 -- What a text says as a date with a time of day, and as a zone.
-use Rattle.std.specs.Prelude.{ℕ, ◌==◌, Bool, false, ◌&&◌, ◌||◌, List, length, slice_index, slice_range, if◌then◌else◌}
+use Rattle.std.specs.Prelude.{ℕ, ◌==◌, nat_le, Bool, false, ◌&&◌, ◌||◌, List, length, drop, slice_index, slice_range, if◌then◌else◌}
 use Rattle.std.specs.Str.Parse.{digits_value}
 use Rattle.field_values.specs.declared.clock.Clock.{Clock}
 use Rattle.field_values.specs.declared.zone.Zone.{Zone}
@@ -36,18 +36,30 @@ clock_said text = record {
 unfoldable pub is_utc : List ℕ → Bool
 is_utc text = (length text == 1) && (slice_index text 0 == 90)
 
--- +hh:mm or -hh:mm
+-- a plus or a hyphen
+abbrev pub is_sign : ℕ → Bool
+is_sign b = (b == 43) || (b == 45)
+
+-- what stands behind the hours, but for a colon
+unfoldable pub without_colon : List ℕ → List ℕ
+without_colon rest = if slice_index rest 0 == 58 then drop 1 rest else rest
+
+-- nothing, mm or :mm
+unfoldable pub is_minutes : List ℕ → Bool
+is_minutes rest = (length rest == 0) || ((length (without_colon rest) == 2) && are_digits (without_colon rest))
+
+-- a sign, and hh, hhmm or hh:mm
 unfoldable pub is_offset : List ℕ → Bool
 is_offset text =
-    (length text == 6) && ((slice_index text 0 == 43) || (slice_index text 0 == 45)) && (slice_index text 3 == 58)
-    && are_digits (slice_range text 1 3) && are_digits (slice_range text 4 6)
+    nat_le 3 (length text) && is_sign (slice_index text 0)
+    && are_digits (slice_range text 1 3) && is_minutes (drop 3 text)
 
 -- and what it says
 unfoldable pub offset_said : List ℕ → Zone
 offset_said text = record {
   is_behind = slice_index text 0 == 45;
   hours = digits_value 10 (slice_range text 1 3);
-  minutes = digits_value 10 (slice_range text 4 6);
+  minutes = digits_value 10 (without_colon (drop 3 text));
 }
 
 unfoldable pub utc : Zone

@@ -1,6 +1,7 @@
 -- What a text says as a time with a zone, and the milliseconds from 1970-01-01 00:00 UTC to it.
-use Rattle.std.specs.Prelude.{ℕ, ◌+◌, ◌-◌, ◌*◌, ◌^◌, ◌==◌, nat_lt, Bool, not, ◌&&◌, List, length, take, drop, slice_index, ℤ, pos, neg_ℤ, ◌+ℤ◌, ◌-ℤ◌, ◌*ℤ◌, Result, Ok, Err, if◌then◌else◌}
+use Rattle.std.specs.Prelude.{ℕ, ◌+◌, ◌-◌, ◌*◌, ◌^◌, ◌==◌, nat_lt, Bool, not, ◌&&◌, ◌||◌, List, length, take, drop, ℤ, pos, neg_ℤ, ◌+ℤ◌, ◌-ℤ◌, ◌*ℤ◌, Result, Ok, Err, if◌then◌else◌}
 use Rattle.std.specs.Int.{is_in_range}
+use Rattle.std.specs.List.{list_all, position_or_len}
 use Rattle.std.specs.Str.Parse.{digits_value}
 use Rattle.jiff_core.specs.Calendar.{days_in_month, days_from_civil}
 use Rattle.field_values.specs.declared.clock.Clock.{Clock}
@@ -10,9 +11,13 @@ use Rattle.field_values.specs.declared.fault.FieldFault.TheVariants.{NoTime, Too
 use Rattle.field_values.specs.Digits.{is_fraction}
 use Rattle.field_values.specs.Clocks.{is_clock, clock_said, is_zone, zone_said}
 
+-- Z, a plus or a hyphen
+abbrev pub begins_zone : ℕ → Bool
+begins_zone b = (b == 90) || (b == 43) || (b == 45)
+
 -- where the zone begins in what stands behind the seconds
 unfoldable pub zone_place : List ℕ → ℕ
-zone_place rest = length rest - (if slice_index rest (length rest - 1) == 90 then 1 else 6)
+zone_place rest = position_or_len begins_zone rest
 
 -- the date and the time of day, in whole seconds
 unfoldable pub clock_text : List ℕ → List ℕ
@@ -25,7 +30,7 @@ fraction_text text = take (zone_place (drop 19 text)) (drop 19 text)
 unfoldable pub zone_text : List ℕ → List ℕ
 zone_text text = drop (zone_place (drop 19 text)) (drop 19 text)
 
--- YYYY-MM-DDTHH:MM:SS, nothing or a point and digits, and Z, +hh:mm or -hh:mm
+-- YYYY-MM-DDTHH:MM:SS, nothing or a point and digits, and Z, or +hh:mm, +hhmm or +hh, where a hyphen may stand for the plus
 unfoldable pub is_time : List ℕ → Bool
 is_time text = is_clock (clock_text text) && is_fraction (fraction_text text) && is_zone (zone_text text)
 
@@ -61,6 +66,10 @@ second_of clock zone = (days_from_civil (pos clock.year) clock.month clock.day *
 unfoldable pub thousandths : List ℕ → ℕ
 thousandths digits = digits_value 10 digits * 10 ^ (3 - length digits)
 
+-- all digits behind the thousandths are 0
+unfoldable pub is_coarse : List ℕ → Bool
+is_coarse digits = list_all (λ b. b == 48) (drop 3 digits)
+
 -- there is such a time
 unfoldable pub is_moment : Clock → Zone → Bool
 is_moment clock zone = is_day clock && is_shown clock && is_near zone
@@ -69,6 +78,6 @@ is_moment clock zone = is_day clock && is_shown clock && is_near zone
 unfoldable pub milliseconds_said : List ℕ → Result ℤ FieldFault
 milliseconds_said text =
     if not (is_time text) then Err NoTime
-    else if nat_lt 3 (length (fraction_digits text)) then Err TooFine
+    else if not (is_coarse (fraction_digits text)) then Err TooFine
     else if not (is_moment (clock_said (clock_text text)) (zone_said (zone_text text))) then Err NoSuchTime
-    else Ok (second_of (clock_said (clock_text text)) (zone_said (zone_text text)) *ℤ pos 1000 +ℤ pos (thousandths (fraction_digits text)))
+    else Ok (second_of (clock_said (clock_text text)) (zone_said (zone_text text)) *ℤ pos 1000 +ℤ pos (thousandths (take 3 (fraction_digits text))))

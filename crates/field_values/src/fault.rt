@@ -11,8 +11,10 @@ pub enum FieldFault {
     TooLarge,
     /// The text is no time with a zone, as `2026-03-01T12:00:00.5Z`.
     NoTime,
-    /// The time is finer than milliseconds: it has more than 3 digits behind the point, be they zeros.
+    /// The time is finer than milliseconds: a digit behind the third of its fraction is not 0.
     TooFine,
     /// The calendar has no such day, or a clock shows no such time. So it is with a leap second.
     NoSuchTime,
+    /// The text is empty, where a name is wanted.
+    EmptyName,
 }

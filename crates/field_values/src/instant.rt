@@ -4,7 +4,7 @@ ghost use Rattle.std.specs.Prelude.{◌≡◌, ◌≤◌, ◌<◌, IsTrue, Match
 ghost use Rattle.std.specs.Char.{is_ascii_digit};
 ghost use Rattle.std.specs.List.{list_all};
 ghost use Rattle.field_values.specs.Clocks.{clock_said, zone_said};
-ghost use Rattle.field_values.specs.Instants.{zone_place, clock_text, fraction_digits, zone_text, is_time, thousandths, milliseconds_said};
+ghost use Rattle.field_values.specs.Instants.{begins_zone, zone_place, is_coarse, clock_text, fraction_digits, zone_text, is_time, thousandths, milliseconds_said};
 
 use crate::clock::{Clock, clock_of};
 use crate::digits::{fraction_of, number_of};
@@ -21,17 +21,22 @@ struct Parts<'t> {
     zone: Zone,
 }
 
+/// Whether a zone begins with this byte.
+fn begins_zone(byte: u8) -> bool
+    ensures { result ≡ begins_zone byte }
+{
+    matches!(byte, b'Z' | b'+' | b'-')
+}
+
 /// Where the zone begins in what stands behind the seconds.
 #[tactic(auto, unfolding(crate::specs::Instants::zone_place))]
 fn zone_place(rest: &[u8]) -> usize
     ensures place { result ≡ zone_place rest.now }
     ensures within { result ≤ length rest.now }
 {
-    let len = rest.len();
-    if len > 0 && rest[len - 1] == b'Z' {
-        return len - 1;
-    }
-    len.saturating_sub(6)
+    rest.iter()
+        .position(|b| begins_zone(*b))
+        .unwrap_or(rest.len())
 }
 
 /// The parts of a time, by their places, or `None` where the text is of another form.
@@ -70,9 +75,17 @@ fn thousandths(digits: &[u8]) -> u16
     }
 }
 
+/// Whether all digits behind the thousandths are 0.
+#[tactic(auto, unfolding(crate::specs::Instants::is_coarse))]
+fn is_coarse(digits: &[u8]) -> bool
+    ensures { result ≡ is_coarse digits.now }
+{
+    digits.iter().skip(3).all(|b| *b == b'0')
+}
+
 /// The milliseconds from 1970-01-01 00:00 UTC to a time, which is negative before it, in the proleptic Gregorian calendar. A
-/// text is `YYYY-MM-DDTHH:MM:SS`, with a `T` or a space, then nothing or a point and up to 3 digits, and then `Z`,
-/// `+hh:mm` or `-hh:mm`.
+/// text is `YYYY-MM-DDTHH:MM:SS`, with a `T` or a space, then nothing or a point and digits, and then `Z`, or `+hh:mm`,
+/// `+hhmm` or `+hh`, where a hyphen may stand for the plus. Of the digits behind the point those behind the third are 0.
 ///
 /// # Errors
 ///
@@ -82,9 +95,10 @@ pub fn milliseconds(text: &[u8]) -> Result<i64, FieldFault>
     ensures { result ≡ milliseconds_said text.now }
 {
     let parts = parts_of(text).ok_or(FieldFault::NoTime)?;
-    if parts.fraction.len() > 3 {
+    if !is_coarse(parts.fraction) {
         return Err(FieldFault::TooFine);
     }
     let second = second_of(parts.clock, parts.zone).ok_or(FieldFault::NoSuchTime)?;
-    Ok(second * 1000 + i64::from(thousandths(parts.fraction)))
+    let fraction = &parts.fraction[..parts.fraction.len().min(3)];
+    Ok(second * 1000 + i64::from(thousandths(fraction)))
 }

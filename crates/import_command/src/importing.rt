@@ -2,13 +2,13 @@
 
 use crate::apart::check_apart;
 use crate::keeping::{keep_late, late_file, late_rows, named, written};
-use crate::names::{keep_names, names_at};
+use crate::names::{NameFile, no_names};
 use crate::words::{ImportWords, entry_rule};
 use import_columns::Column;
 use imports::{ImportFault, ImportRule, check_columns, check_sources, import_files, read_columns};
 use logical_plan::Plan;
 use name_table::NameTable;
-use new_files::NewFile;
+use new_files::{NewFile, NewStream};
 use std::random::RandomSource;
 use std::rt::Files;
 
@@ -32,15 +32,15 @@ fn rule_of<'i, R: AllocGlobal>(
     })
 }
 
-/// Writes the input to a new file, late rows to another, and the table of names. The input's file takes its name last.
-fn write_files<R: Files + RandomSource + AllocGlobal>(
-    rt: &R,
+/// Writes the input to a new file, and late rows to another, which takes its name.
+fn write_files<'r, R: Files + Print + RandomSource + AllocGlobal>(
+    rt: &'r R,
     rule: ImportRule<'_>,
     words: &ImportWords<'_>,
     new: &NewFile,
     new_late: Option<&NewFile>,
     names: &mut NameTable,
-) -> Result<(), ImportFault> {
+) -> Result<NewStream<'r, R>, ImportFault> {
     let late_path = words.late.unwrap_or("");
     let mut late = late_rows(rt, late_path, new_late, rule.columns)?;
     let mut file = written(rt, words.input, new.open(rt))?;
@@ -50,20 +50,40 @@ fn write_files<R: Files + RandomSource + AllocGlobal>(
         import_files(rt, rule, names, &mut late, &mut file),
     )?;
     keep_late(rt, late_path, new_late, late)?;
-    keep_names(rt, words.names, names)?;
+    Ok(file)
+}
+
+/// The same, and the table of names where there is a file of one. The input's file takes its name last.
+fn write_all<R: Files + Print + RandomSource + AllocGlobal>(
+    rt: &R,
+    rule: ImportRule<'_>,
+    words: &ImportWords<'_>,
+    new: &NewFile,
+    new_late: Option<&NewFile>,
+    table: Option<&NameFile<'_>>,
+) -> Result<(), ImportFault> {
+    let Some(table) = table else {
+        let mut names = no_names(rt)?;
+        let file = write_files(rt, rule, words, new, new_late, &mut names)?;
+        return written(rt, words.input, new.keep(rt, &file));
+    };
+    let bytes = table.read(rt)?;
+    let mut names = table.table(rt, &bytes)?;
+    let file = write_files(rt, rule, words, new, new_late, &mut names)?;
+    table.keep(rt, &bytes, &names)?;
     written(rt, words.input, new.keep(rt, &file))
 }
 
 /// The same, and leaves no new file behind where it fails.
-fn import_by<R: Files + RandomSource + AllocGlobal>(
+fn import_by<R: Files + Print + RandomSource + AllocGlobal>(
     rt: &R,
     rule: ImportRule<'_>,
     words: &ImportWords<'_>,
+    table: Option<&NameFile<'_>>,
 ) -> Result<(), ImportFault> {
-    let mut names = names_at(rt, words.names)?;
     let new = written(rt, words.input, NewFile::at(rt, words.input))?;
     let late = late_file(rt, words.late)?;
-    let answer = write_files(rt, rule, words, &new, late.as_ref(), &mut names);
+    let answer = write_all(rt, rule, words, &new, late.as_ref(), table);
     if answer.is_err() {
         new.remove(rt);
         if let Some(late) = &late {
@@ -73,19 +93,34 @@ fn import_by<R: Files + RandomSource + AllocGlobal>(
     answer
 }
 
+/// The same, where no other import uses the table of names meanwhile.
+fn import_alone<R: Files + Print + RandomSource + AllocGlobal>(
+    rt: &R,
+    rule: ImportRule<'_>,
+    words: &ImportWords<'_>,
+) -> Result<(), ImportFault> {
+    let Some(path) = words.names else {
+        return import_by(rt, rule, words, None);
+    };
+    let table = NameFile::lock(rt, path)?;
+    let answer = import_by(rt, rule, words, Some(&table));
+    table.release(rt);
+    answer
+}
+
 /// Writes an input of a plan from the files that words name, and with it the table of names and the late rows, where words ask
 /// for these. Each file that is written holds what it held or all that is written.
 ///
 /// # Errors
 ///
-/// What is refused first, the words before the files; `Write` where a file cannot be written, is read too or would be written
-/// twice; `Memory`. The input's file then holds what it held.
-pub fn import<R: Files + RandomSource + AllocGlobal>(
+/// What is refused first, the words before the files; `Names` also where another import uses the table, or has changed it;
+/// `Write` where a file cannot be written, is read too or would be written twice; `Memory`. The input's file then holds what it held.
+pub fn import<R: Files + Print + RandomSource + AllocGlobal>(
     rt: &R,
     plan: &Plan,
     words: &ImportWords<'_>,
 ) -> Result<(), ImportFault> {
     let columns = read_columns(rt.alloc(), words.columns)?;
     let rule = rule_of(rt, plan, words, &columns)?;
-    import_by(rt, rule, words)
+    import_alone(rt, rule, words)
 }

@@ -3,7 +3,7 @@
 use crate::words::ImportWords;
 use import_columns::Column;
 use imports::{ImportCode, ImportFault, LateRows, RowFault, refused};
-use new_files::NewFile;
+use new_files::{NewFile, NewStream};
 use std::io;
 use std::io::ErrorKind;
 use std::random::RandomSource;
@@ -60,17 +60,17 @@ pub(crate) fn late_file<R: Files + RandomSource + AllocGlobal>(
 }
 
 /// What late rows are written to, if there is a place for them.
-pub(crate) fn late_rows<R: Files + AllocGlobal>(
-    rt: &R,
+pub(crate) fn late_rows<'r, R: Files + Print + AllocGlobal>(
+    rt: &'r R,
     path: &str,
     new: Option<&NewFile>,
     columns: &[Column<'_>],
-) -> Result<Option<LateRows<R::File>>, ImportFault> {
+) -> Result<Option<LateRows<NewStream<'r, R>>>, ImportFault> {
     let Some(new) = new else {
         return Ok(None);
     };
     let file = written(rt, path, new.open(rt))?;
-    match LateRows::new(file, columns) {
+    match LateRows::new(rt.alloc(), file, columns) {
         Ok(rows) => Ok(Some(rows)),
         Err(RowFault::Memory) => Err(ImportFault::Memory),
         Err(_) => Err(refused(ImportCode::Write, format!(in rt.alloc(); "{path}"))),
@@ -78,11 +78,11 @@ pub(crate) fn late_rows<R: Files + AllocGlobal>(
 }
 
 /// Has late rows in their file.
-pub(crate) fn keep_late<R: Files + AllocGlobal>(
+pub(crate) fn keep_late<R: Files + Print + AllocGlobal>(
     rt: &R,
     path: &str,
     new: Option<&NewFile>,
-    rows: Option<LateRows<R::File>>,
+    rows: Option<LateRows<NewStream<'_, R>>>,
 ) -> Result<(), ImportFault> {
     let Some(new) = new else {
         return Ok(());

@@ -1,73 +1,156 @@
 //! The table of names, from its file and back.
 
-use crate::keeping::written;
+use crate::keeping::{write_fault, written};
 use imports::{
-    CsvRows, ImportCode, ImportFault, RowFault, read_names, refused, refused_names, text_of_names,
+    CsvRows, ImportCode, ImportFault, read_names, refused, refused_names, text_of_names,
 };
 use name_table::NameTable;
-use new_files::write_whole;
-use std::fs::File;
+use new_files::{LockFile, write_whole};
+use std::fs;
 use std::hash::RandomState;
-use std::io;
 use std::io::ErrorKind;
 use std::random::RandomSource;
 use std::rt::Files;
 
-/// The table that an opened file tells.
-fn table_in<R: Files + AllocGlobal>(
-    rt: &R,
-    path: &str,
-    file: R::File,
-    state: RandomState,
-) -> Result<NameTable, ImportFault> {
-    let mut rows = CsvRows::new(rt.alloc(), file);
-    match read_names(rt.alloc(), state, &mut rows) {
-        Ok(names) => Ok(names),
-        Err(fault) => Err(refused_names(rt.alloc(), path, &rows, fault)),
-    }
+/// A file of a table of names, as an import has it from its reading to its writing.
+#[derive(Drop)]
+pub(crate) struct NameFile<'w> {
+    path: &'w str,
+    lock: LockFile,
 }
 
-/// The table of a file at a path, which is empty where there is no file, or no path.
-///
-/// # Errors
-///
-/// `Names` where the file is no table; `Read`; `Memory`.
-pub(crate) fn names_at<R: Files + RandomSource + AllocGlobal>(
-    rt: &R,
-    path: Option<&str>,
-) -> Result<NameTable, ImportFault> {
-    let path = path.unwrap_or("");
-    let Ok(state) = RandomState::new(rt) else {
-        return Err(refused(ImportCode::Read, format!(in rt.alloc(); "random numbers")));
-    };
-    if path.is_empty() {
-        return Ok(NameTable::new(rt.alloc(), state));
-    }
-    match File::open(rt, path) {
-        Ok(file) => table_in(rt, path, file, state),
+/// The refusal of a table that another import uses.
+fn refused_in_use<R: AllocGlobal>(rt: &R, path: &str, lock: &str) -> ImportFault {
+    refused(
+        ImportCode::Names,
+        format!(in rt.alloc();
+            "{path}: another import uses it; where none does, one was killed: remove {lock}"
+        ),
+    )
+}
+
+/// The refusal of a table that is no longer what was read.
+fn refused_changed<R: AllocGlobal>(rt: &R, path: &str) -> ImportFault {
+    refused(
+        ImportCode::Names,
+        format!(in rt.alloc(); "{path}: it changed while this import ran: import again"),
+    )
+}
+
+/// What a file at a path holds, which is nothing where there is none.
+fn bytes_at<R: Files + AllocGlobal>(rt: &R, path: &str) -> Result<Vec<u8>, ImportFault> {
+    match fs::read(rt, path) {
+        Ok(bytes) => Ok(bytes),
         Err(error) => match error.kind() {
-            ErrorKind::NotFound => Ok(NameTable::new(rt.alloc(), state)),
+            ErrorKind::NotFound => Ok(Vec::new(rt.alloc())),
             ErrorKind::OutOfMemory => Err(ImportFault::Memory),
             _ => Err(refused(ImportCode::Read, format!(in rt.alloc(); "{path}"))),
         },
     }
 }
 
-/// Writes the table to the file at a path, if there is one.
+/// The hashes of a table.
+fn random_state<R: RandomSource + AllocGlobal>(rt: &R) -> Result<RandomState, ImportFault> {
+    match RandomState::new(rt) {
+        Ok(state) => Ok(state),
+        Err(_) => Err(refused(ImportCode::Read, format!(in rt.alloc(); "random numbers"))),
+    }
+}
+
+/// The table of an import that has no file of one.
 ///
 /// # Errors
 ///
-/// `Write`; `Memory`.
-pub(crate) fn keep_names<R: Files + RandomSource + AllocGlobal>(
-    rt: &R,
-    path: Option<&str>,
-    names: &NameTable,
-) -> Result<(), ImportFault> {
-    let Some(path) = path else {
-        return Ok(());
-    };
-    match text_of_names(rt.alloc(), names) {
-        Ok(text) => written(rt, path, write_whole(rt, path, &text)),
-        Err(_) => Err(ImportFault::Memory),
+/// `Read` where the system gives no random numbers; `Memory`.
+pub(crate) fn no_names<R: RandomSource + AllocGlobal>(rt: &R) -> Result<NameTable, ImportFault> {
+    Ok(NameTable::new(rt.alloc(), random_state(rt)?))
+}
+
+impl<'w> NameFile<'w> {
+    /// The file at a path, which no other import uses from now on.
+    ///
+    /// # Errors
+    ///
+    /// `Names` where another one uses it; `Write`; `Memory`.
+    pub(crate) fn lock<R: Files + AllocGlobal>(
+        rt: &R,
+        path: &'w str,
+    ) -> Result<NameFile<'w>, ImportFault> {
+        let lock = written(rt, path, LockFile::of(rt, path))?;
+        match lock.take(rt) {
+            Ok(()) => Ok(NameFile { path, lock }),
+            Err(error) => Err(match error.kind() {
+                ErrorKind::AlreadyExists => {
+                    refused_in_use(rt, path, lock.path().unwrap_or(path))
+                }
+                _ => write_fault(rt, path, &error),
+            }),
+        }
+    }
+
+    /// Lets other imports use it.
+    pub(crate) fn release<R: Files>(&self, rt: &R) {
+        self.lock.release(rt);
+    }
+
+    /// What it holds: nothing where there is no file.
+    ///
+    /// # Errors
+    ///
+    /// `Read`; `Memory`.
+    pub(crate) fn read<R: Files + AllocGlobal>(&self, rt: &R) -> Result<Vec<u8>, ImportFault> {
+        bytes_at(rt, self.path)
+    }
+
+    /// The table that its bytes tell.
+    ///
+    /// # Errors
+    ///
+    /// `Names` where they are no table; `Read` where the system gives no random numbers; `Memory`.
+    pub(crate) fn table<R: RandomSource + AllocGlobal>(
+        &self,
+        rt: &R,
+        bytes: &[u8],
+    ) -> Result<NameTable, ImportFault> {
+        let state = random_state(rt)?;
+        let Ok(mut rows) = CsvRows::new(rt.alloc(), bytes) else {
+            return Err(ImportFault::Memory);
+        };
+        match read_names(rt.alloc(), state, &mut rows) {
+            Ok(names) => Ok(names),
+            Err(fault) => Err(refused_names(rt.alloc(), self.path, &rows, fault)),
+        }
+    }
+
+    /// Refuses to write over a file that no longer holds the bytes that were read.
+    fn check_unchanged<R: Files + AllocGlobal>(
+        &self,
+        rt: &R,
+        bytes: &[u8],
+    ) -> Result<(), ImportFault> {
+        if self.lock.path().is_none() || bytes_at(rt, self.path)?.as_slice() == bytes {
+            return Ok(());
+        }
+        Err(refused_changed(rt, self.path))
+    }
+
+    /// Writes the table in place of the bytes that were read.
+    ///
+    /// # Errors
+    ///
+    /// `Names` where it no longer holds them; `Read`; `Write`; `Memory`.
+    pub(crate) fn keep<R: Files + Print + RandomSource + AllocGlobal>(
+        &self,
+        rt: &R,
+        bytes: &[u8],
+        names: &NameTable,
+    ) -> Result<(), ImportFault> {
+        match text_of_names(rt.alloc(), names) {
+            Ok(text) => {
+                self.check_unchanged(rt, bytes)?;
+                written(rt, self.path, write_whole(rt, self.path, &text))
+            }
+            Err(_) => Err(ImportFault::Memory),
+        }
     }
 }

@@ -52,7 +52,7 @@ impl<R: Read + Drop> Records<R> {
     /// `Memory`.
     pub fn new(alloc: Global, path: &str, input: R) -> Result<Records<R>, RowFault> {
         if !is_ndjson(path) {
-            return Ok(Records::Rows(CsvRows::new(alloc, input)));
+            return Ok(Records::Rows(CsvRows::new(alloc, input)?));
         }
         match ObjectLines::new(alloc, input) {
             Ok(lines) => Ok(Records::Objects(lines)),
@@ -106,6 +106,14 @@ impl<R: Read + Drop> Records<R> {
     pub(crate) fn line(&self) -> u64 {
         match self {
             Records::Rows(rows) => rows.line(),
+            Records::Objects(lines) => lines.line(),
+        }
+    }
+
+    /// The line at which the record ends.
+    pub(crate) fn last_line(&self) -> u64 {
+        match self {
+            Records::Rows(rows) => rows.last_line(),
             Records::Objects(lines) => lines.line(),
         }
     }

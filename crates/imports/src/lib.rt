@@ -3,6 +3,7 @@
 
 mod fault;
 mod files;
+mod header;
 mod kinds;
 mod late;
 mod names;

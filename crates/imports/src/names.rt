@@ -31,7 +31,7 @@ fn add(names: &mut NameTable, record: &ByteRecord) -> Result<(), RowFault> {
 /// # Errors
 ///
 /// `Read`; `Memory`; any other where the record that `rows` has is none of these.
-pub fn read_names<R: Read>(
+pub fn read_names<R: Read + Drop>(
     alloc: Global,
     state: RandomState,
     rows: &mut CsvRows<R>,
@@ -58,6 +58,7 @@ fn write_name(out: &mut Writer<Vec<u8>>, number: u64, name: &str) -> Result<(), 
 /// # Errors
 ///
 /// `Memory`, and `Write` where memory ran out for the text.
+#[inline(never)]
 pub fn text_of_names(alloc: Global, names: &NameTable) -> Result<Vec<u8>, RowFault> {
     let mut out = WriterBuilder::new().from_writer(Vec::new(alloc));
     for (i, name) in names.names().iter().enumerate() {

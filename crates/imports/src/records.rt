@@ -9,11 +9,21 @@ use std::io::Read;
 /// The records of a CSV text, one after the other. The first is the header.
 #[derive(Drop)]
 pub struct CsvRows<R> {
-    reader: Reader<Watched<R>>,
+    /// On the heap, since it has room for what it reads.
+    reader: Box<Reader<Watched<R>>>,
     record: ByteRecord,
     width: Option<usize>,
-    /// Whether the reader has gone over the line feed behind a record, as it has not where a carriage return stands before it.
-    is_past_lines: bool,
+}
+
+/// A reader on the heap. What it takes on the stack until it is there is free again before it reads.
+#[inline(never)]
+fn boxed_reader<R: Read + Drop>(alloc: Global, input: R) -> Result<Box<Reader<R>>, RowFault> {
+    let mut builder = ReaderBuilder::new();
+    let builder = builder.has_headers(false).flexible(true);
+    match Box::new(alloc, builder.from_reader(alloc, input)) {
+        Ok(reader) => Ok(reader),
+        Err(_) => Err(RowFault::Memory),
+    }
 }
 
 /// How many line feeds stand in the fields of a record.
@@ -25,17 +35,24 @@ fn line_feeds(record: &ByteRecord) -> u64 {
     count
 }
 
-impl<R: Read> CsvRows<R> {
+/// Whether the last field of a record ends in a line feed, as it does where a quotation mark is open at the end of a text.
+fn ends_line(record: &ByteRecord) -> bool {
+    let last = record.len().saturating_sub(1);
+    record.get(last).unwrap_or(b"").ends_with(b"\n")
+}
+
+impl<R: Read + Drop> CsvRows<R> {
     /// The records of what a reader gives: fields with commas between, in double quotes or not.
-    pub fn new(alloc: Global, input: R) -> CsvRows<R> {
-        let mut builder = ReaderBuilder::new();
-        let builder = builder.has_headers(false).flexible(true);
-        CsvRows {
-            reader: builder.from_reader(alloc, Watched::new(input)),
+    ///
+    /// # Errors
+    ///
+    /// `Memory`.
+    pub fn new(alloc: Global, input: R) -> Result<CsvRows<R>, RowFault> {
+        Ok(CsvRows {
+            reader: boxed_reader(alloc, Watched::new(alloc, input))?,
             record: ByteRecord::new(alloc),
             width: None,
-            is_past_lines: false,
-        }
+        })
     }
 
     /// Goes on to the next record, and tells whether there is one. Lines without a character are passed over.
@@ -44,6 +61,9 @@ impl<R: Read> CsvRows<R> {
     ///
     /// `Read`; `Width` where it has another number of fields than the first record; `Memory`.
     pub(crate) fn advance(&mut self) -> Result<bool, RowFault> {
+        self.reader
+            .get_ref()
+            .watch_from(self.reader.position().byte());
         match self.reader.read_byte_record(&mut self.record) {
             Ok(true) => self.check_width(),
             Ok(false) => Ok(false),
@@ -58,29 +78,9 @@ impl<R: Read> CsvRows<R> {
             Some(_) => Ok(true),
             None => {
                 self.width = Some(width);
-                self.is_past_lines = self.last_line() > self.front_line();
                 Ok(true)
             }
         }
-    }
-
-    /// The line of the first record.
-    fn front_line(&self) -> u64 {
-        self.reader.get_ref().lines().saturating_add(1)
-    }
-
-    /// The line at which the reader looked for the record, which is that of the record or one before it.
-    fn first_line(&self) -> u64 {
-        match self.record.position() {
-            Some(position) => position.line(),
-            None => 1,
-        }
-    }
-
-    /// The line at which the reader stands, less the line feeds in the record.
-    fn last_line(&self) -> u64 {
-        let line = self.reader.position().line();
-        line.saturating_sub(line_feeds(&self.record))
     }
 
     /// The record.
@@ -90,10 +90,17 @@ impl<R: Read> CsvRows<R> {
 
     /// The line at which the record begins, counted from 1.
     pub fn line(&self) -> u64 {
-        let last = self.last_line();
-        if !self.is_past_lines {
-            return last;
-        }
-        self.first_line().max(last.saturating_sub(1))
+        let searched_from = match self.record.position() {
+            Some(position) => position.line(),
+            None => 1,
+        };
+        searched_from.saturating_add(self.reader.get_ref().lines())
+    }
+
+    /// The line at which the record ends.
+    pub(crate) fn last_line(&self) -> u64 {
+        let lines = line_feeds(&self.record);
+        self.line()
+            .saturating_add(lines.saturating_sub(u64::from(ends_line(&self.record))))
     }
 }

@@ -1,13 +1,28 @@
 //! From a record to the numbers of a row.
 
+ghost use Rattle.std.specs.Prelude.{◌≡◌, [], Err};
+ghost use Rattle.field_values.specs.declared.fault.FieldFault.TheVariants.{EmptyName};
+ghost use Rattle.imports.specs.declared.fault.RowFault.TheVariants.{Value};
+
 use crate::fault::RowFault;
 use csv::ByteRecord;
+use field_values::FieldFault;
 use import_columns::{Column, ColumnKind, value_of};
 use name_table::NameTable;
 use std::str;
 
-/// The number of a name.
-fn number_of(names: &mut NameTable, text: &[u8], column: usize) -> Result<i64, RowFault> {
+/// The number of a name, which is not empty.
+fn number_of(
+    names: &mut NameTable,
+    text: &[u8],
+    column: usize,
+    place: usize,
+) -> Result<i64, RowFault>
+    ensures { text.now ≡ [] → result ≡ Err (Value column place EmptyName) }
+{
+    if text.is_empty() {
+        return Err(RowFault::Value(column, place, FieldFault::EmptyName));
+    }
     let Ok(name) = str::from_utf8(text) else {
         return Err(RowFault::NoText(column));
     };
@@ -27,7 +42,7 @@ fn value(
             Ok(number) => Ok(number),
             Err(fault) => Err(RowFault::Value(column, place, fault)),
         },
-        ColumnKind::Name => number_of(names, text, column),
+        ColumnKind::Name => number_of(names, text, column, place),
     }
 }
 

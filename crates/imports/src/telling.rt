@@ -4,9 +4,11 @@ ghost use Rattle.imports.specs.Judging.{IsRefusal};
 ghost use Rattle.imports.specs.Telling.{member_code, place_code, TellsRow, TellsNames};
 
 use crate::fault::RowFault;
+use crate::header::fields_text;
 use crate::kinds::Records;
 use crate::records::CsvRows;
 use crate::refusal::{ImportCode, ImportFault, refused};
+use csv::ByteRecord;
 use field_values::FieldFault;
 use import_columns::{Column, ColumnKind, ValueKind};
 use import_entries::PlaceFault;
@@ -65,6 +67,7 @@ fn wrong(alloc: Global, fault: FieldFault, places: u32) -> Result<String, AllocE
         }
         FieldFault::TooFine => format!(in alloc; "is finer than milliseconds"),
         FieldFault::NoSuchTime => format!(in alloc; "is a time that no calendar or clock shows"),
+        FieldFault::EmptyName => format!(in alloc; "is an empty name"),
     }
 }
 
@@ -120,25 +123,73 @@ fn refused_place(alloc: Global, spot: Spot<'_>, name: &str, fault: PlaceFault) -
     }
 }
 
-/// The refusal of a header.
-fn refused_header(alloc: Global, spot: Spot<'_>, name: &str, what: &str) -> ImportFault
+fn no_field_sentence(
+    alloc: Global,
+    spot: Spot<'_>,
+    name: &str,
+    header: &ByteRecord,
+) -> Result<String, AllocError> {
+    let (file, line) = (spot.file, spot.line);
+    let fields = fields_text(alloc, header)?;
+    format!(in alloc; "{file}:{line}: the header has no field {name:?}: {fields}")
+}
+
+/// The refusal of a header that lacks a field.
+fn refused_header(alloc: Global, spot: Spot<'_>, name: &str, header: &ByteRecord) -> ImportFault
+    ensures { IsRefusal ImportCode.Header result }
+{
+    refused(
+        ImportCode::Header,
+        no_field_sentence(alloc, spot, name, header),
+    )
+}
+
+/// The refusal of a header that has a field twice.
+fn refused_twice(alloc: Global, spot: Spot<'_>, name: &str) -> ImportFault
     ensures { IsRefusal ImportCode.Header result }
 {
     let (file, line) = (spot.file, spot.line);
     refused(
         ImportCode::Header,
-        format!(in alloc; "{file}:{line}: the header {what} {name:?}"),
+        format!(in alloc; "{file}:{line}: the header has twice the field {name:?}"),
     )
 }
 
-/// The refusal of a record's width.
-fn refused_width(alloc: Global, spot: Spot<'_>, width: usize, wanted: usize) -> ImportFault
+/// What may be wrong with a record that goes on to a line: a quotation mark stands open where it is not the first line.
+fn open_quote(alloc: Global, line: u64, last: u64) -> Result<String, AllocError> {
+    if last <= line {
+        return Ok(String::new(alloc));
+    }
+    format!(in alloc;
+        "; the record goes on to line {last}: is a quotation mark open in line {line}?"
+    )
+}
+
+fn width_sentence(
+    alloc: Global,
+    spot: Spot<'_>,
+    last: u64,
+    width: usize,
+    wanted: usize,
+) -> Result<String, AllocError> {
+    let (file, line) = (spot.file, spot.line);
+    let open = open_quote(alloc, line, last)?;
+    format!(in alloc; "{file}:{line}: there are {width} fields, and the header has {wanted}{open}")
+}
+
+/// The refusal of a record's width, which goes on to a line.
+fn refused_width(
+    alloc: Global,
+    spot: Spot<'_>,
+    last: u64,
+    width: usize,
+    wanted: usize,
+) -> ImportFault
     ensures { IsRefusal ImportCode.Width result }
 {
-    let (file, line) = (spot.file, spot.line);
     refused(
         ImportCode::Width,
-        format!(in alloc; "{file}:{line}: there are {width} fields, and the header has {wanted}"),
+        width_sentence(alloc, spot, last, width, wanted),
     )
 }
 
@@ -194,12 +245,12 @@ pub(crate) fn refused_row<R: Read + Drop>(
         RowFault::Write => ImportFault::Write,
         RowFault::Memory => ImportFault::Memory,
         RowFault::NoField(column) => {
-            refused_header(alloc, spot, name_of(columns, column), "has no field")
+            refused_header(alloc, spot, name_of(columns, column), rows.record())
         }
-        RowFault::FieldTwice(column) => {
-            refused_header(alloc, spot, name_of(columns, column), "has twice the field")
+        RowFault::FieldTwice(column) => { refused_twice(alloc, spot, name_of(columns, column)) }
+        RowFault::Width(width, wanted) => {
+            refused_width(alloc, spot, rows.last_line(), width, wanted)
         }
-        RowFault::Width(width, wanted) => refused_width(alloc, spot, width, wanted),
         RowFault::NoObject => refused_object(alloc, spot),
         RowFault::Member(column, fault) => {
             refused_member(alloc, spot, name_of(columns, column), fault)
@@ -230,7 +281,7 @@ pub(crate) fn refused_file(alloc: Global, file: &str) -> ImportFault
 }
 
 /// The refusal of the record that `rows` has, in a table of names.
-pub fn refused_names<R: Read>(
+pub fn refused_names<R: Read + Drop>(
     alloc: Global,
     file: &str,
     rows: &CsvRows<R>,

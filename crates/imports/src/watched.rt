@@ -1,57 +1,129 @@
-//! Reading, with an eye on what stands before a text's first record.
+//! Reading, with an eye on the lines without a character that stand before a text's records.
 
+use std::alloc::Global;
+use std::cell::Cell;
 use std::io;
 use std::io::Read;
 
 /// The byte order mark of UTF-8.
 const MARK: &[u8] = b"\xef\xbb\xbf";
 
-/// The front of a text: the lines without a character before its first one. A byte order mark there counts for nothing.
+/// The lines without a character before a record. A byte order mark before those of the first one counts for nothing.
 #[derive(Clone, Copy)]
 struct Front {
-    /// How many bytes have come, as long as no other has than those of the mark and of ends of lines.
-    place: Option<usize>,
-    /// How many line feeds are among them.
+    /// Whether no byte of the record has come.
+    is_open: bool,
+    /// How many bytes of a byte order mark have come, and all where none can come.
+    marks: usize,
+    /// How many line feeds have come.
     lines: u64,
 }
 
-/// Whether a byte that comes behind so many others of the front belongs to it.
-fn is_of_front(place: usize, byte: u8) -> bool {
-    byte == b'\n' || byte == b'\r' || MARK.get(place) == Some(&byte)
-}
-
 impl Front {
-    /// Takes in the next bytes, up to the first that does not belong to the front.
+    /// Before a record none of which has come.
+    fn new(marks: usize) -> Front {
+        Front {
+            is_open: true,
+            marks,
+            lines: 0,
+        }
+    }
+
+    /// Whether a line without a character may end here: not within a byte order mark.
+    fn is_at_line(&self) -> bool {
+        self.marks == 0 || self.marks == MARK.len()
+    }
+
+    /// Takes in the next byte.
+    fn take(&mut self, byte: u8) {
+        if MARK.get(self.marks) == Some(&byte) {
+            self.marks = self.marks.saturating_add(1);
+        } else if self.is_at_line() && (byte == b'\n' || byte == b'\r') {
+            self.marks = MARK.len();
+            self.lines = self.lines.saturating_add(u64::from(byte == b'\n'));
+        } else {
+            self.is_open = false;
+        }
+    }
+
+    /// Takes in the next bytes, up to the first of the record.
     fn watch(&mut self, bytes: &[u8]) {
         for byte in bytes {
-            match self.place {
-                Some(place) if is_of_front(place, *byte) => {
-                    self.place = Some(place.saturating_add(1));
-                    self.lines = self.lines.saturating_add(u64::from(*byte == b'\n'));
-                }
-                _ => self.place = None,
+            if !self.is_open {
+                return;
             }
+            self.take(*byte);
         }
     }
 }
 
-/// A reader that counts the lines without a character at the front of what it reads.
+/// What has been read of a text.
+#[derive(Drop)]
+struct Seen {
+    /// What was read last, and at which byte of the text it begins.
+    last: Vec<u8>,
+    begins_at: u64,
+    front: Cell<Front>,
+}
+
+impl Seen {
+    fn new(alloc: Global) -> Seen {
+        Seen {
+            last: Vec::new(alloc),
+            begins_at: 0,
+            front: Cell::new(Front::new(0)),
+        }
+    }
+
+    /// Goes on to the record that is looked for from a byte of the text on, all before which is behind the reader.
+    fn watch_from(&self, byte: u64) {
+        let mut front = Front::new(MARK.len());
+        let passed = byte.saturating_sub(self.begins_at);
+        front.watch(self.last.get(passed as usize..).unwrap_or(&[]));
+        self.front.set(front);
+    }
+
+    /// Forgets what was read last, and has room for so many bytes.
+    fn make_room(&mut self, count: usize) -> io::Result<()> {
+        self.begins_at = self.begins_at.saturating_add(self.last.len() as u64);
+        self.last.clear();
+        Ok(self.last.reserve(count)?)
+    }
+
+    /// Takes in what was read, for which there is room.
+    fn take(&mut self, bytes: &[u8]) {
+        let mut front = self.front.get();
+        front.watch(bytes);
+        self.front.set(front);
+        let _ = self.last.extend_from_slice(bytes);
+    }
+}
+
+/// A reader that counts the lines without a character before each record of what it reads.
 #[derive(Drop)]
 pub(crate) struct Watched<R> {
     reader: R,
-    front: Front,
+    seen: Seen,
 }
 
 impl<R> Watched<R> {
-    pub(crate) fn new(reader: R) -> Watched<R> {
-        let (place, lines) = (Some(0), 0);
-        let front = Front { place, lines };
-        Watched { reader, front }
+    pub(crate) fn new(alloc: Global, reader: R) -> Watched<R> {
+        Watched {
+            reader,
+            seen: Seen::new(alloc),
+        }
     }
 
-    /// How many line feeds stand before the first character.
+    /// Goes on to the record that is looked for from a byte of the text on.
+    pub(crate) fn watch_from(&self, byte: u64) {
+        if byte > 0 {
+            self.seen.watch_from(byte);
+        }
+    }
+
+    /// How many line feeds stand between where the record was looked for and its first character.
     pub(crate) fn lines(&self) -> u64 {
-        self.front.lines
+        self.seen.front.get().lines
     }
 }
 
@@ -59,8 +131,9 @@ impl<R: Read> Read for Watched<R> {
     ghost remaining = { λ w. R.remaining w.reader };
 
     fn read(&mut self, buf: &mut [u8]) -> io::Result<usize> {
+        self.seen.make_room(buf.len())?;
         let count = self.reader.read(buf)?;
-        self.front.watch(&buf[..count]);
+        self.seen.take(&buf[..count]);
         Ok(count)
     }
 }

@@ -165,20 +165,32 @@ fn count_of(files: &str) -> usize
     files.split(',').count()
 }
 
+/// What may be wrong with the words for a source's files: that a pattern stands there for their names.
+fn pattern_hint(files: &str) -> &'static str {
+    let is_pattern = files.bytes().any(|byte| matches!(byte, b'*' | b'?' | b'['));
+    if is_pattern {
+        "; no pattern is expanded: name each file, with commas between"
+    } else {
+        ""
+    }
+}
+
 /// Refuses a source with another number of files than it has partitions.
 fn check_files(alloc: Global, words: &[&str], source: &SourceSpec) -> Result<(), ImportFault>
     ensures { Judges (has_files (map (λ word. word.now) words.now) source.now) ImportCode.Sources result }
 {
     let uid = source.uid.as_str();
     let wanted = source.partitions;
-    let count = count_of(files_of(alloc, words, source)?);
+    let files = files_of(alloc, words, source)?;
+    let count = count_of(files);
     if count as u64 == u64::from(wanted) {
         return Ok(());
     }
+    let hint = pattern_hint(files);
     Err(refused(
         ImportCode::Sources,
         format!(in alloc;
-            "{uid:?}: files are named for {count} partitions, and the plan has {wanted}"
+            "{uid:?}: files are named for {count} partitions, and the plan has {wanted}{hint}"
         ),
     ))
 }

@@ -2,5 +2,11 @@
 #![tactic(auto)]
 
 mod file;
+mod lock;
+mod place;
+mod stream;
 
 pub use file::{NewFile, write_whole};
+pub use lock::LockFile;
+pub use place::is_standard_output;
+pub use stream::NewStream;

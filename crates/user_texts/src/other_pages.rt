@@ -43,7 +43,8 @@ Take a number in the range.
 
 A file is missing, is a folder, or may not be read; `-` is a file of that name and not standard input. All files are
 read first, so this comes before any fault of a plan. `run`, `leg` and `simulate` also say it where the system gives no
-random bytes. `import` reads one file after the other, and names the one that is missing.
+random bytes. `import` reads one file after the other, and names the one that is missing; `check` names it on standard
+output, as `no-such-file.json: the file cannot be read`.
 
 ```console
 $ streamjob run plan.json no-such-file.json
@@ -63,7 +64,13 @@ Standard output took no more: the disk is full, or the other end of a pipe is cl
 is not known. `leg --save` also says it where the file cannot be written: a folder stands there, its folder is missing
 or takes no files of yours, or the disk is full. Then no row was printed, and the file is as it was. So does `import`,
 of INPUT and of the files of `--names` and `--late`; and where one of them is named twice, or is a file of a source too,
-since one would be written over the other. Two names of one file are not told apart.
+since one would be written over the other. Two names of one file are not told apart there. `leg --save FILE > FILE`
+is refused so before anything is written, by each name of the file but a hard link.
+
+What is no regular file of a name of its own is written to as it stands, behind what it holds: a pipe, a device,
+`/dev/stdout`. Any other file is written beside, as `FILE.NUMBER.part`, and takes its name once it is on the disk. Where
+a limit of the size of files (`ulimit -f`) is met, the system ends the program by the signal SIGXFSZ: nothing is told,
+the file is as it was, and the part stays beside it, as it does after `kill -9`. Remove it.
 
 ```console
 $ streamjob import plan.json no-such-folder/new.json at,key calls=calls.csv

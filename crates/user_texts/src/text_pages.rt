@@ -36,10 +36,12 @@ $ streamjob import plan.json new.json at,key calls=a.csv,b.csv
 D2 Sources "calls": files are named for 2 partitions, and the plan has 1
 $ streamjob import plan.json new.json at,key calls.csv
 D2 Sources "calls.csv": a source and its files are SOURCE=FILE[,FILE..]
+$ streamjob import plan.json new.json at,key 'calls=call?.csv,b.csv'
+D2 Sources "calls": files are named for 2 partitions, and the plan has 1; no pattern is expanded: name each file, with commas between
 ```
 
 Name each source once, and its files with commas between; or change `partitions` in the plan. A file's name can have no
-comma.
+comma. A pattern as `calls=call*.csv` is expanded by no shell, since it does not begin a word, and by `import` neither.
 "#,
     ),
     (
@@ -426,18 +428,19 @@ at,user
 
 ```console
 $ streamjob import plan.json new.json at,key calls=calls.csv
-D3 Header calls.csv:1: the header has no field "key"
+D3 Header calls.csv:1: the header has no field "key": it has "at", "user"
 ```
 
 Spell the column as the header does, in the same case and with the same spaces. Fields are divided by commas; a file
-with semicolons or tabs has one field.
+with semicolons or tabs has one field, and the refusal says so. Of many fields it names the first 10.
 "#,
     ),
     (
         "D4",
         r#"D4 Width (status 3)
 
-A line has another number of fields than the header: a comma in a text without quotes, or a line that was cut off.
+A line has another number of fields than the header: a comma in a text without quotes, or a line that was cut off. Where
+a double quote stands alone, the record goes on to the next one, or to the end of the file.
 
 ```csv calls.csv
 at,key
@@ -450,6 +453,17 @@ $ streamjob import plan.json new.json at,key calls=calls.csv
 D4 Width calls.csv:3: there are 1 fields, and the header has 2
 ```
 
+```csv quoted.csv
+at,key
+"5,1
+6,2
+```
+
+```console
+$ streamjob import plan.json new.json at,key calls=quoted.csv
+D4 Width quoted.csv:2: there are 1 fields, and the header has 2; the record goes on to line 3: is a quotation mark open in line 2?
+```
+
 Put a text with a comma between double quotes, and double a quote within.
 "#,
     ),
@@ -459,8 +473,8 @@ Put a text with a comma between double quotes, and double a quote within.
 
 The text of a field, or of a member, is not what its column says: it is no number, has more decimal places than the
 column keeps, does not fit 64 bits, is no time in ISO 8601 with its zone, is finer than milliseconds or in no calendar,
-or is a name that is no UTF-8. Nothing is rounded, and an empty field is no number. Of an NDJSON file a member that a
-column asks for may also be null, a list or an object, which have no text.
+or is an empty name, or one that is no UTF-8. Nothing is rounded, and an empty field is no number. Of an NDJSON file a
+member that a column asks for may also be null, a list or an object, which have no text.
 
 ```csv calls.csv
 at,key
@@ -532,7 +546,8 @@ to a file of their own by `--late FILE`.
         r#"D8 Names (status 3)
 
 The file of `--names` is no table of names: CSV without a header, each line a number and a name, with the numbers from 1
-on and each name once.
+on and each name once. Or another import uses it, from its reading to its writing, or something else has changed it
+meanwhile: two imports that wrote it one over the other would give one number to two names.
 
 ```csv names.csv
 1,anna
@@ -544,8 +559,18 @@ $ streamjob import plan.json new.json at,user:name calls=calls.csv --names names
 D8 Names names.csv:2: a record is NUMBER,NAME, with the numbers from 1 on and each name once, in UTF-8
 ```
 
+```text other.csv.lock
+in use
+```
+
+```console
+$ streamjob import plan.json new.json at,user:name calls=calls.csv --names other.csv
+D8 Names other.csv: another import uses it; where none does, one was killed: remove other.csv.lock
+```
+
 Name a file that `import` wrote, or one that is not there yet. A table whose lines changed gives other numbers than
-before.
+before. Where it is in use, import again once the other import has ended; remove the file that the refusal names only
+where none runs.
 "#,
     ),
     (

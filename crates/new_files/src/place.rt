@@ -1,0 +1,137 @@
+//! Where what is written to a path goes.
+
+use std::io::ErrorKind;
+use std::rt::Files;
+use std::{fs, io};
+
+/// Where what is written to a path goes.
+#[derive(Drop)]
+pub(crate) enum Place {
+    /// Into the standard output, by the stream that is open.
+    Standard,
+    /// Into what stands at this path: a pipe, a device, or what is open under a number.
+    Standing(String),
+    /// Into the regular file of this path, which need not be there yet.
+    Named(String),
+}
+
+/// The most symbolic links that are followed.
+const MOST_LINKS: usize = 40;
+
+/// The folder of what this program has open, by numbers.
+const OPEN_FILES: &str = "/proc/self/fd";
+
+/// What the standard output is there.
+const STANDARD: &str = "/proc/self/fd/1";
+
+/// The folder of a path, and the name in it.
+pub(crate) fn folder_and_name(path: &str) -> (&str, &str) {
+    match path.rsplit_once('/') {
+        Some(("", name)) => ("/", name),
+        Some((folder, name)) => (folder, name),
+        None => (".", path),
+    }
+}
+
+/// What comes of asking for another path, where only want of memory is told.
+fn found<T>(answer: io::Result<T>) -> io::Result<Option<T>> {
+    match answer {
+        Ok(value) => Ok(Some(value)),
+        Err(error) if error.kind() == ErrorKind::OutOfMemory => Err(error),
+        Err(_) => Ok(None),
+    }
+}
+
+/// The path of what a path leads to over symbolic links, if something is there.
+fn canonical<R: Files + AllocGlobal>(rt: &R, path: &str) -> io::Result<Option<String>> {
+    match found(fs::canonicalize(rt, path))? {
+        Some(path) => Ok(Some(path.into_string())),
+        None => Ok(None),
+    }
+}
+
+/// Whether a path's folder is that of what this program has open.
+fn is_own(own: Option<String>, folder: &str) -> bool {
+    match own {
+        Some(own) => own.as_str() == folder,
+        None => false,
+    }
+}
+
+/// The place of a path in a folder of what programs have open: no name there is that of a file.
+fn open_place<R: Files + AllocGlobal>(rt: &R, path: &str) -> io::Result<Option<Place>> {
+    let (folder, name) = folder_and_name(path);
+    let Some(folder) = canonical(rt, folder)? else {
+        return Ok(None);
+    };
+    if !folder.as_str().starts_with("/proc/") {
+        return Ok(None);
+    }
+    if name == "1" && is_own(canonical(rt, OPEN_FILES)?, folder.as_str()) {
+        return Ok(Some(Place::Standard));
+    }
+    Ok(Some(Place::Standing(String::from_str(rt.alloc(), path)?)))
+}
+
+/// The path that the symbolic link at a path leads to, if one is there.
+fn next_path<R: Files + AllocGlobal>(rt: &R, path: &str) -> io::Result<Option<String>> {
+    let Some(target) = found(fs::read_link(rt, path))? else {
+        return Ok(None);
+    };
+    let target = target.into_string();
+    if target.as_str().starts_with("/") {
+        return Ok(Some(target));
+    }
+    let (folder, _) = folder_and_name(path);
+    Ok(Some(format!(in rt.alloc(); "{folder}/{target}")?))
+}
+
+/// The place to which symbolic links lead from a path, if it is one without a file's name.
+fn place_by_links<R: Files + AllocGlobal>(rt: &R, path: &str) -> io::Result<Option<Place>> {
+    let mut at = String::from_str(rt.alloc(), path)?;
+    for _ in 0..MOST_LINKS {
+        if let Some(place) = open_place(rt, at.as_str())? {
+            return Ok(Some(place));
+        }
+        match next_path(rt, at.as_str())? {
+            Some(next) => at = next,
+            None => return Ok(None),
+        }
+    }
+    Ok(None)
+}
+
+/// Whether something is at a path that is no file, as a pipe, a device or a folder.
+fn is_no_file<R: Files>(rt: &R, path: &str) -> bool {
+    fs::metadata(rt, path).is_ok_and(|found| !found.is_file())
+}
+
+/// Where what is written to a path goes.
+pub(crate) fn place_of<R: Files + AllocGlobal>(rt: &R, path: &str) -> io::Result<Place> {
+    if let Some(place) = place_by_links(rt, path)? {
+        return Ok(place);
+    }
+    if is_no_file(rt, path) {
+        return Ok(Place::Standing(String::from_str(rt.alloc(), path)?));
+    }
+    match canonical(rt, path)? {
+        Some(path) => Ok(Place::Named(path)),
+        None => Ok(Place::Named(String::from_str(rt.alloc(), path)?)),
+    }
+}
+
+/// Whether the standard output goes into the regular file that a path names. Two names that a file has of its own, as hard
+/// links, are not told apart.
+///
+/// # Errors
+///
+/// Only where there is no memory.
+pub fn is_standard_output<R: Files + AllocGlobal>(rt: &R, path: &str) -> io::Result<bool> {
+    let Place::Named(path) = place_of(rt, path)? else {
+        return Ok(false);
+    };
+    match canonical(rt, STANDARD)? {
+        Some(standard) => Ok(standard.as_str() == path.as_str()),
+        None => Ok(false),
+    }
+}
