@@ -35,6 +35,15 @@ HasImportWords words said =
     × (option_map (λ w. w.now) said.names ≡ first_value words (codes "names")) × (option_map (λ w. w.now) said.bound ≡ first_value words (codes "bound"))
     × (option_map (λ w. w.now) said.late ≡ first_value words (codes "late")) × (option_map (λ w. w.now) said.rows ≡ first_value words (codes "rows"))
 
+-- what stands there, or else something else
+abbrev pub or_else : Option (List ℕ) → Option (List ℕ) → Option (List ℕ)
+or_else None other = other
+or_else (Some word) other = Some word
+
+-- the word of a scale, or else the option of it
+abbrev pub scale_word : Found → Option (List ℕ)
+scale_word words = or_else (first_value words (codes "SCALE")) (first_value words (codes "scale"))
+
 -- the words of a command, each by its name
 abbrev pub HasWords : Found → Command → Type 0
 HasWords words (Run plan input legs) = (plan.now ≡ word words (codes "PLAN")) × (input.now ≡ word words (codes "INPUT")) × (option_map (λ w. w.now) legs ≡ first_value words (codes "LEGS"))
@@ -45,7 +54,7 @@ HasWords words (Leg plan input scale from stop save) =
     × (option_map (λ w. w.now) from ≡ first_value words (codes "from")) × (option_map (λ w. w.now) stop ≡ first_value words (codes "stop"))
     × (option_map (λ w. w.now) save ≡ first_value words (codes "save"))
 HasWords words (Layout plan scale) = (plan.now ≡ word words (codes "PLAN")) × (scale.now ≡ word words (codes "SCALE"))
-HasWords words (Check plan input scale) = (plan.now ≡ word words (codes "PLAN")) × (option_map (λ w. w.now) input ≡ first_value words (codes "INPUT")) × (option_map (λ w. w.now) scale ≡ first_value words (codes "scale"))
+HasWords words (Check plan input scale) = (plan.now ≡ word words (codes "PLAN")) × (option_map (λ w. w.now) input ≡ first_value words (codes "INPUT")) × (option_map (λ w. w.now) scale ≡ scale_word words)
 HasWords words (Import plan said) = (plan.now ≡ word words (codes "PLAN")) × HasImportWords words said
 HasWords words (Show savepoint) = savepoint.now ≡ word words (codes "SAVEPOINT")
 HasWords words (Group key max par) = (key.now ≡ word words (codes "KEY")) × (max.now ≡ word words (codes "MAX")) × (par.now ≡ word words (codes "PAR"))

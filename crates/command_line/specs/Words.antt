@@ -39,9 +39,9 @@ leg_shape = record leg_files_shape { rules = leg_files_shape.rules ++ option_rul
 abbrev pub layout_shape : Shape
 layout_shape = command_shape (codes "layout") (codes "PLAN" ∷ codes "SCALE" ∷ [])
 
--- a plan, an input that may be left out, and an option
+-- a plan, an input and a scale that may be left out, and an option
 abbrev pub check_shape : Shape
-check_shape = record (new_shape (codes "check")) { rules = required_rule (codes "PLAN") ∷ new_rule (codes "INPUT") ∷ option_rule (codes "scale") ∷ [] }
+check_shape = record (new_shape (codes "check")) { rules = required_rule (codes "PLAN") ∷ new_rule (codes "INPUT") ∷ new_rule (codes "SCALE") ∷ option_rule (codes "scale") ∷ [] }
 
 -- the plan, the input, the columns and the sources of an import, and its four options
 abbrev pub import_files_shape : Shape

@@ -1,6 +1,7 @@
 //! The program's command line: words in, a command done, and the status to end with.
 #![tactic(auto)]
 
+mod advice;
 mod outcomes;
 mod reading;
 mod statuses;

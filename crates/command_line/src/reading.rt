@@ -1,8 +1,8 @@
 //! From what clap finds in words to a command.
 
-ghost use Rattle.std.specs.Prelude.{◌≡◌};
+ghost use Rattle.std.specs.Prelude.{◌≡◌, option_map};
 ghost use Rattle.clap.specs.Words.{found_of, subcommand_name_of};
-ghost use Rattle.command_line.specs.Reading.{word, HasImportWords, IsFound, IsRead};
+ghost use Rattle.command_line.specs.Reading.{word, scale_word, HasImportWords, IsFound, IsRead};
 
 use clap::ArgMatches;
 use commands::Command;
@@ -29,6 +29,16 @@ fn import_words<'m>(words: &'m ArgMatches<'_>) -> ImportWords<'m>
     }
 }
 
+/// The word of a scale, or else the option of it.
+fn scale_word<'m>(words: &'m ArgMatches<'_>) -> Option<&'m str>
+    ensures { option_map (λ w. w.now) result ≡ scale_word (found_of words.now) }
+{
+    match words.get_str("SCALE") {
+        Some(word) => Some(word),
+        None => words.get_str("scale"),
+    }
+}
+
 /// The command that a name and the words after it say, if the name is one of a command.
 fn command_in<'m>(name: &str, words: &'m ArgMatches<'_>) -> Option<Command<'m>>
     ensures { IsRead name.now (found_of words.now) result }
@@ -37,6 +47,13 @@ fn command_in<'m>(name: &str, words: &'m ArgMatches<'_>) -> Option<Command<'m>>
         return Some(Command::Import {
             plan: named(words, "PLAN"),
             words: import_words(words),
+        });
+    }
+    if name == "check" {
+        return Some(Command::Check {
+            plan: named(words, "PLAN"),
+            input: words.get_str("INPUT"),
+            scale: scale_word(words),
         });
     }
     match name {
@@ -62,11 +79,6 @@ fn command_in<'m>(name: &str, words: &'m ArgMatches<'_>) -> Option<Command<'m>>
         "layout" => Some(Command::Layout {
             plan: named(words, "PLAN"),
             scale: named(words, "SCALE"),
-        }),
-        "check" => Some(Command::Check {
-            plan: named(words, "PLAN"),
-            input: words.get_str("INPUT"),
-            scale: words.get_str("scale"),
         }),
         "show" => Some(Command::Show {
             savepoint: named(words, "SAVEPOINT"),

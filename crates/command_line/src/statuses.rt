@@ -5,6 +5,7 @@ ghost use Rattle.std.specs.IoError.{error_kind};
 ghost use Rattle.clap.specs.Words.{kind_of};
 ghost use Rattle.command_line.specs.Status as statuses;
 
+use crate::advice::WordsFault;
 use crate::outcomes::Refusal;
 use clap::error;
 use commands::{CommandFault, told};
@@ -25,7 +26,7 @@ fn refused<R: Eprint>(rt: &R, error: &clap::Error) -> u8
     if error.kind() == error::ErrorKind::OutOfMemory {
         return no_memory(rt);
     }
-    let _ = rt.eprint(error);
+    let _ = rt.eprint(WordsFault(error));
     2
 }
 

@@ -212,7 +212,7 @@ and their fault before the sentence. Of each file it then warns, up to 20 times,
 members that stand twice, of which the last counts, of watermarks that are below one before them, and of
 partitions whose watermarks never rise.
 
-Example: streamjob check plan.json input.json --scale scale.json
+Example: streamjob check plan.json input.json scale.json
 Page: docs/FORMATS.md, under Plan, Input and Scale";
 
 fn check_words<'a>(alloc: Global) -> Result<Command<'a>, AllocError>
@@ -222,7 +222,14 @@ fn check_words<'a>(alloc: Global) -> Result<Command<'a>, AllocError>
     let command = named(alloc, "check", about, CHECK);
     let command = required(alloc, command, "PLAN", PLAN)?;
     let command = optional(alloc, command, "INPUT", INPUT)?;
-    option(alloc, command, "scale", "SCALE", SCALE)
+    let command = optional(alloc, command, "SCALE", SCALE)?;
+    option(
+        alloc,
+        command,
+        "scale",
+        "SCALE",
+        "JSON file of the scale, where no word names it",
+    )
 }
 
 const IMPORT: &str = "\

@@ -1,6 +1,6 @@
 //! What the command `check` does.
 
-ghost use Rattle.std.specs.Prelude.{is_some, option_map};
+ghost use Rattle.std.specs.Prelude.{◌≡◌, ◌⊎◌, is_some, option_map, IfErr, IfOk};
 ghost use Rattle.input_texts.specs.Answer.{input_of_bytes};
 ghost use Rattle.input_texts.specs.Answer.{is_memory as is_input_memory};
 ghost use Rattle.plan_scale.specs.Answer.{scale_of_bytes};
@@ -8,7 +8,7 @@ ghost use Rattle.plan_scale.specs.Answer.{is_memory as is_scale_memory};
 ghost use Rattle.job_texts.specs.Fault.{input_fault, scale_fault};
 ghost use Rattle.commands.specs.Checking.{AnswersCheck, ChecksPart, ChecksParts, ChecksTexts};
 
-use crate::files::{file, optional_file};
+use crate::files::file;
 use fault_places::{check_input, check_plan, check_scale};
 use job::JobFault;
 use logical_plan::Plan;
@@ -22,6 +22,31 @@ struct Names<'n> {
     plan: &'n str,
     input: &'n str,
     scale: &'n str,
+}
+
+/// All bytes of the file at a path. Where it cannot be read, prints that.
+fn checked_file<R: Files + Print + AllocGlobal>(rt: &R, path: &str) -> Result<Vec<u8>, JobFault>
+    ensures { IfErr result (λ fault. (fault ≡ JobFault.Read) ⊎ (fault ≡ JobFault.Memory)) }
+{
+    let bytes = file(rt, path);
+    if let Err(JobFault::Read) = &bytes {
+        let _ = println!(rt; "{path}: the file cannot be read");
+    }
+    bytes
+}
+
+/// The same of the file at a path, where there is a path.
+fn optional_checked_file<R: Files + Print + AllocGlobal>(
+    rt: &R,
+    path: Option<&str>,
+) -> Result<Option<Vec<u8>>, JobFault>
+    ensures given { IfOk result (λ bytes. is_some bytes ≡ is_some path.entry) }
+    ensures err { IfErr result (λ fault. (fault ≡ JobFault.Read) ⊎ (fault ≡ JobFault.Memory)) }
+{
+    match path {
+        Some(path) => Ok(Some(checked_file(rt, path)?)),
+        None => Ok(None),
+    }
 }
 
 /// Prints the places at which an input of the plan is refused, if there is one.
@@ -120,7 +145,8 @@ fn warn_of_texts<R: Print + AllocGlobal>(
 }
 
 /// Prints the places at which a plan is refused, or else an input or a scale of it, where they are named, and then
-/// the warnings of each. Where there is no memory for the answer it prints nothing.
+/// the warnings of each. Where there is no memory for the answer it prints nothing. Of a file that cannot be read it
+/// prints the name.
 ///
 /// # Errors
 ///
@@ -138,9 +164,9 @@ pub fn check<R: Files + Print + AllocGlobal>(
         input: input.unwrap_or(""),
         scale: scale.unwrap_or(""),
     };
-    let plan_bytes = file(rt, plan)?;
-    let input_bytes = optional_file(rt, input)?;
-    let scale_bytes = optional_file(rt, scale)?;
+    let plan_bytes = checked_file(rt, plan)?;
+    let input_bytes = optional_checked_file(rt, input)?;
+    let scale_bytes = optional_checked_file(rt, scale)?;
     let answer = check_texts(
         rt,
         &plan_bytes,

@@ -152,15 +152,23 @@ fn is_time(time: i64) -> bool {
 }
 
 /// Tells of a time or a watermark that is out of range.
-fn check_time(notes: &mut Notes, offset: usize, time: Option<i64>) -> Result<(), AllocError> {
-    match time {
+fn check_time(notes: &mut Notes, what: &str, value: &Placed<'_>) -> Result<(), AllocError> {
+    match whole_of(value) {
         Some(time) if !is_time(time) => {
             let sentence = format!(in notes.alloc;
-                "the time {time} is out of range: times are from -2^62 to 2^62 - 1"
+                "the {what} {time} is out of range: times are from -2^62 to 2^62 - 1"
             )?;
-            notes.tell(offset, sentence)
+            notes.tell(value.offset, sentence)
         }
         _ => Ok(()),
+    }
+}
+
+/// Tells of the time in a column of a row, where it is out of range.
+fn check_row_time(notes: &mut Notes, cells: &[Part<'_>], column: usize) -> Result<(), AllocError> {
+    match cells.get(column) {
+        Some(cell) => check_time(notes, "time", &cell.value),
+        None => Ok(()),
     }
 }
 
@@ -198,7 +206,7 @@ fn check_row(
             columns,
         ),
         Test::Number => check_numbers(notes, &cells),
-        Test::TimeRange(time) => check_time(notes, row.offset, cell_of(&cells, time)),
+        Test::TimeRange(time) => check_row_time(notes, &cells, time),
         Test::Late(time) => check_late(notes, row.offset, cell_of(&cells, time), before),
         _ => Ok(()),
     }
@@ -243,7 +251,7 @@ fn check_rows(
 fn check_watermark(notes: &mut Notes, value: &Placed<'_>, test: Test) -> Result<(), AllocError> {
     match test {
         Test::Number => check_number(notes, Owner::One("a watermark"), value),
-        Test::TimeRange(_) => check_time(notes, value.offset, whole_of(value)),
+        Test::TimeRange(_) => check_time(notes, "watermark", value),
         _ => Ok(()),
     }
 }

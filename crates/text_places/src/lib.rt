@@ -13,7 +13,7 @@ mod reason;
 mod spot;
 
 pub use finding::{Finding, Findings, MOST_PLACES};
-pub use nest::{Breach, breach_in};
+pub use nest::{Breach, breach_in, limit_of};
 pub use part::{Part, Placed, first_value, part_named};
 pub use place::{Place, place_of};
 pub use spot::{Spot, spots_of};

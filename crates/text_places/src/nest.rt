@@ -1,6 +1,7 @@
 //! Where a text is no JSON.
 
-ghost use Rattle.std.specs.Prelude.{◌≤◌, length, All, IfOk, IfSome, IfNone, IsUtf8};
+ghost use Rattle.std.specs.Prelude.{◌≤◌, ◌<◌, length, All, IfOk, IfSome, IfNone, IsSome, IsUtf8};
+ghost use Rattle.text_places.specs.declared.nest.TheConstants.{MOST_OPEN};
 
 use crate::reason::{Open, reason_at};
 use crate::spot::{Spot, spots_of};
@@ -87,10 +88,18 @@ impl Nest {
     }
 }
 
+/// As many digits as the greatest double has.
+const MOST_DIGITS: usize = 308;
+
+/// Whether the text of a number may be one too large for a double: no such is short and without an exponent.
+fn may_be_large(number: &str) -> bool {
+    number.len() > MOST_DIGITS || number.bytes().any(|byte| byte == b'e' || byte == b'E')
+}
+
 /// Whether a number is too large for a double, as `serde_json` refuses it.
 fn is_too_large(token: Token<'_>) -> bool {
     match token {
-        Token::Number(number) => match number.parse::<f64>() {
+        Token::Number(number) if may_be_large(number) => match number.parse::<f64>() {
             Ok(value) => value.is_infinite(),
             Err(_) => false,
         },
@@ -98,12 +107,14 @@ fn is_too_large(token: Token<'_>) -> bool {
     }
 }
 
-/// Why a token that fits by its kind is refused all the same, if it is.
-fn limit_of(nest: &Nest, token: Token<'_>) -> Option<&'static str> {
+/// Why a token that fits by its kind is refused all the same, if it is, where so many lists and objects are open then.
+pub fn limit_of(depth: usize, token: Token<'_>) -> Option<&'static str>
+    ensures { MOST_OPEN < depth → IsSome result }
+{
     if is_too_large(token) {
         return Some("a number too large for a double");
     }
-    if nest.open.len() > MOST_OPEN {
+    if depth > MOST_OPEN {
         return Some("lists and objects nested more than 127 deep");
     }
     None
@@ -127,7 +138,7 @@ fn first_breach(
             let reason = reason_at(text, offset, open, bad);
             return Ok(Some(Breach { offset, reason }));
         }
-        if let Some(reason) = limit_of(&nest, spot.token) {
+        if let Some(reason) = limit_of(nest.open.len(), spot.token) {
             return Ok(Some(Breach { offset, reason }));
         }
     }

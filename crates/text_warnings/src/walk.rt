@@ -7,7 +7,7 @@ use crate::open::Open;
 use crate::warning::TextKind;
 use json::{Reader, Scratch, Token};
 use std::alloc::{AllocError, Global};
-use text_places::{Findings, MOST_PLACES};
+use text_places::{Findings, limit_of};
 
 /// So many lists and objects are open within a partition of an input: the input, the source and the partition.
 const IN_PARTITION: usize = 3;
@@ -132,6 +132,14 @@ impl<'t> Walk<'t> {
         Ok(())
     }
 
+    /// Passes a token, and says whether the text is still JSON to a reader with limits.
+    fn pass_within(&mut self, offset: usize, token: Token<'t>) -> Result<bool, AllocError>
+        ensures { self.new.found.end ≡ self.old.found.end }
+    {
+        self.pass(offset, token)?;
+        Ok(limit_of(self.open.len(), token).is_none())
+    }
+
     fn pass(&mut self, offset: usize, token: Token<'t>) -> Result<(), AllocError>
         ensures { self.new.found.end ≡ self.old.found.end }
     {
@@ -147,13 +155,10 @@ impl<'t> Walk<'t> {
             _ => Ok(()),
         }
     }
-
-    fn is_full(&self) -> bool {
-        self.found.places().len() == MOST_PLACES
-    }
 }
 
-/// The warnings of a text, which is JSON, in the order in which they are found.
+/// The warnings of a text, which is JSON, in the order in which they are found. There are none where a number is too large or
+/// the nesting too deep for what reads it.
 pub(crate) fn found_in(alloc: Global, text: &str, kind: TextKind) -> Result<Findings, AllocError>
     ensures { IfOk result (λ found. found.end ≡ length text.now) }
 {
@@ -162,9 +167,8 @@ pub(crate) fn found_in(alloc: Global, text: &str, kind: TextKind) -> Result<Find
     let mut walk = Walk::new(alloc, kind, text.len());
     let mut offset = reader.offset();
     'tokens: while let Some(token) = reader.next() {
-        walk.pass(offset, token)?;
-        if walk.is_full() {
-            break;
+        if !walk.pass_within(offset, token)? {
+            return Ok(Findings::new(alloc, text.len()));
         }
         offset = reader.offset();
     }
