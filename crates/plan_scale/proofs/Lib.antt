@@ -1,3 +1,4 @@
 mod Named
 mod TaskCount
 mod Sound
+mod EvenScale

@@ -66,7 +66,7 @@ sum_small max (n ∷ ns) h =
     let split : sum (n ∷ ns) ≡ n + sum ns = sum_by-cons (λ (x : ℕ). x) n ns in
     omega (arith, first.few, rest, split)
 
-small : (plan : PlanData) (c : ScaleData) → IsPlan plan → IsCounted plan c → IsSmall c
+pub small : (plan : PlanData) (c : ScaleData) → IsPlan plan → IsCounted plan c → IsSmall c
 small plan c p h = record {
   sources = (let bound = sum_small plan.max c.sources h.sources in omega (arith, bound, h.fits.sources, p.sources_few));
   filters_few = omega (arith, h.fits.filters, p.filters_few);

@@ -3,4 +3,5 @@ pub mod Fault
 pub mod Said
 pub mod Tasks
 pub mod Requirements
+pub mod Even
 pub mod Answer

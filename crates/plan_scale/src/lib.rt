@@ -2,6 +2,7 @@
 #![tactic(auto)]
 
 mod building;
+mod even;
 mod fault;
 mod reading;
 mod requirements;
