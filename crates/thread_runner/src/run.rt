@@ -7,6 +7,7 @@ ghost use Rattle.thread_runner.specs.Refusal.{IsWant};
 
 use crate::gate::Gate;
 use crate::jobs::{Done, Job};
+use crate::waiting::Patience;
 use crate::work::worker;
 use core::thread::Stack;
 use leg_lists::LegFault;
@@ -33,23 +34,95 @@ impl Promise<Done> for WorkOf {
     ghost kept_by = { λ p d. IsWorkOf p.input.value p.job.value d };
 }
 
+/// Waits until each job has a thread, or one was refused: what a worker takes of the addresses, or of the processors, is what the
+/// next thread may want.
+fn await_threads<R: Wait + Clock>(rt: &R, started: &AtomicBool, failed: &AtomicBool) {
+    let mut patience = Patience::new();
+    for _ in rt.forever() {
+        if started.load(Ordering::SeqCst) || failed.load(Ordering::SeqCst) {
+            break;
+        }
+        patience.wait(rt);
+    }
+}
+
 /// What a worker hands back of a job.
 fn run_job<R: Wait + Clock, G: Gate>(
     rt: &R,
     input: &Input,
     job: Job,
     gate: &G,
+    started: &AtomicBool,
     failed: &AtomicBool,
 ) -> Done
     requires { FindsInput input.now job }
     ensures { IsWorkOf input.now job result }
 {
+    await_threads(rt, started, failed);
     let Job {
         task,
         inputs,
         outputs,
     } = job;
     worker(rt, input, task, inputs, outputs, gate, failed)
+}
+
+/// Runs each job in a thread of its own, as [`run_all`] does. The word `started` is set, and the workers begin, once there is no job
+/// without one.
+fn run_jobs<R: Threads + Wait + Clock + Sync, G: Gate>(
+    rt: &R,
+    alloc: Global,
+    input: &Input,
+    jobs: Vec<Job>,
+    gate: &G,
+    started: &AtomicBool,
+    failed: &AtomicBool,
+) -> Result<Vec<Done>, LegFault>
+    requires { All (FindsInput input.now) jobs.items }
+    ensures ok { IfOk result (λ dones. AllWorkOf input.now jobs.items dones.items) }
+    ensures refused { IfErr result IsWant }
+{
+    let mut jobs = jobs;
+    let Some(job) = jobs.pop() else {
+        started.store(true, Ordering::SeqCst);
+        return Ok(Vec::new(alloc));
+    };
+    thread::scope(
+        thread::scope_env(),
+        rt,
+        move |scope| -> Result<Vec<Done>, LegFault>
+            requires { IsSync R.row × IsSync G.row × FindsInput input.now job × All (FindsInput input.now) jobs.items }
+            ensures ok { IfOk result (λ dones. AllWorkOf input.entry.now (jobs.items ++ job ∷ []) dones.items) }
+            ensures refused { IfErr result IsWant }
+        {
+            let promise = WorkOf {
+                input: Snapshot::of(input),
+                job: Snapshot::of(&job),
+            };
+            let child = Stack::new().stack_size(STACK).spawn_scoped_with(
+                scope,
+                promise,
+                move || -> Done
+                    requires { FindsInput input.now job }
+                    ensures { IsWorkOf input.entry.now job result }
+                { run_job(rt, input, job, gate, started, failed) },
+            );
+            let Ok(child) = child else {
+                failed.store(true, Ordering::SeqCst);
+                return Err(LegFault::Threads);
+            };
+            let rest = run_jobs(rt, alloc, input, jobs, gate, started, failed);
+            let last = child.join(rt);
+            let mut dones = rest?;
+            match dones.push(last) {
+                Ok(()) => Ok(dones),
+                Err(_) => {
+                    failed.store(true, Ordering::SeqCst);
+                    Err(LegFault::Memory)
+                }
+            }
+        },
+    )
 }
 
 /// Runs each job in a thread of its own, and gives what each worker hands back, in the order of the jobs.
@@ -72,44 +145,6 @@ pub fn run_all<R: Threads + Wait + Clock + Sync, G: Gate>(
     ensures ok { IfOk result (λ dones. AllWorkOf input.now jobs.items dones.items) }
     ensures refused { IfErr result IsWant }
 {
-    let mut jobs = jobs;
-    let Some(job) = jobs.pop() else {
-        return Ok(Vec::new(alloc));
-    };
-    thread::scope(
-        thread::scope_env(),
-        rt,
-        move |scope| -> Result<Vec<Done>, LegFault>
-            requires { IsSync R.row × IsSync G.row × FindsInput input.now job × All (FindsInput input.now) jobs.items }
-            ensures ok { IfOk result (λ dones. AllWorkOf input.entry.now (jobs.items ++ job ∷ []) dones.items) }
-            ensures refused { IfErr result IsWant }
-        {
-            let promise = WorkOf {
-                input: Snapshot::of(input),
-                job: Snapshot::of(&job),
-            };
-            let child = Stack::new().stack_size(STACK).spawn_scoped_with(
-                scope,
-                promise,
-                move || -> Done
-                    requires { FindsInput input.now job }
-                    ensures { IsWorkOf input.entry.now job result }
-                { run_job(rt, input, job, gate, failed) },
-            );
-            let Ok(child) = child else {
-                failed.store(true, Ordering::SeqCst);
-                return Err(LegFault::Threads);
-            };
-            let rest = run_all(rt, alloc, input, jobs, gate, failed);
-            let last = child.join(rt);
-            let mut dones = rest?;
-            match dones.push(last) {
-                Ok(()) => Ok(dones),
-                Err(_) => {
-                    failed.store(true, Ordering::SeqCst);
-                    Err(LegFault::Memory)
-                }
-            }
-        },
-    )
+    let started = AtomicBool::new(false);
+    run_jobs(rt, alloc, input, jobs, gate, &started, failed)
 }

@@ -7,10 +7,10 @@ const SPINS: u32 = 4;
 
 const YIELDS: u32 = 8;
 
-const LONGEST: u32 = 10;
+const LONGEST: u32 = 12;
 
 /// How long a worker has waited that found nothing to do. It spins, then leaves the processor to others, and then sleeps: for a
-/// microsecond, and each time twice as long, up to a millisecond.
+/// microsecond, and each time twice as long, up to 4 milliseconds.
 #[derive(Clone, Copy, Debug)]
 pub(crate) struct Patience {
     rounds: u32,

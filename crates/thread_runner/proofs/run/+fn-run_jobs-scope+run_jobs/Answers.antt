@@ -4,7 +4,7 @@ use denote.Param.Always.{Once-at_one}
 use Rattle.thread_runner.specs.Jobs.{FindsInput}
 use Rattle.thread_runner.specs.Jobs.{IsWorkOf}
 use Rattle.thread_runner.proofs.JobLemmas.{all_work_last}
-use Rattle.thread_runner.proofs.run.+fn-run_all-scope+run_all.Goals as goal
+use Rattle.thread_runner.proofs.run.+fn-run_jobs-scope+run_jobs.Goals as goal
 
 pub scope-returns-in-Ok-push : goal.scope-returns-in-Ok-push
 scope-returns-in-Ok-push g t c =
