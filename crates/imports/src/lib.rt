@@ -9,12 +9,14 @@ mod late;
 mod names;
 mod partition;
 mod placing;
+mod reader;
 mod records;
 mod refusal;
 mod row;
 mod telling;
 mod watched;
 mod words;
+mod writer;
 
 pub use fault::RowFault;
 pub use files::{ImportRule, import_files};

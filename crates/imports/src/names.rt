@@ -1,8 +1,9 @@
 //! The table of names as a file.
 
-use crate::fault::{RowFault, write_fault};
+use crate::fault::RowFault;
 use crate::records::CsvRows;
-use csv::{ByteRecord, Error, Writer, WriterBuilder};
+use crate::writer::CsvWriter;
+use csv::ByteRecord;
 use itoa::Buffer;
 use name_table::NameTable;
 use std::alloc::Global;
@@ -46,10 +47,10 @@ pub fn read_names<R: Read + Drop>(
     Err(RowFault::Read)
 }
 
-fn write_name(out: &mut Writer<Vec<u8>>, number: u64, name: &str) -> Result<(), Error> {
+fn write_name(out: &mut CsvWriter<Vec<u8>>, number: u64, name: &str) -> Result<(), RowFault> {
     let mut buffer = Buffer::new();
-    out.write_field(buffer.format(number).as_bytes())?;
-    out.write_field(name.as_bytes())?;
+    out.put(buffer.format(number).as_bytes())?;
+    out.put(name.as_bytes())?;
     out.end_record()
 }
 
@@ -58,16 +59,10 @@ fn write_name(out: &mut Writer<Vec<u8>>, number: u64, name: &str) -> Result<(), 
 /// # Errors
 ///
 /// `Memory`, and `Write` where memory ran out for the text.
-#[inline(never)]
 pub fn text_of_names(alloc: Global, names: &NameTable) -> Result<Vec<u8>, RowFault> {
-    let mut out = WriterBuilder::new().from_writer(Vec::new(alloc));
+    let mut out = CsvWriter::new(alloc, Vec::new(alloc))?;
     for (i, name) in names.names().iter().enumerate() {
-        if let Err(error) = write_name(&mut out, i as u64 + 1, name.as_str()) {
-            return Err(write_fault(&error));
-        }
+        write_name(&mut out, i as u64 + 1, name.as_str())?;
     }
-    match out.into_inner() {
-        Ok(text) => Ok(text),
-        Err(_) => Err(RowFault::Memory),
-    }
+    out.finish()
 }

@@ -1,29 +1,18 @@
 //! The records of a CSV text.
 
-use crate::fault::{RowFault, read_fault};
+use crate::fault::RowFault;
+use crate::reader::CsvReader;
 use crate::watched::Watched;
-use csv::{ByteRecord, Reader, ReaderBuilder};
+use csv::ByteRecord;
 use std::alloc::Global;
 use std::io::Read;
 
 /// The records of a CSV text, one after the other. The first is the header.
 #[derive(Drop)]
 pub struct CsvRows<R> {
-    /// On the heap, since it has room for what it reads.
-    reader: Box<Reader<Watched<R>>>,
+    reader: CsvReader<Watched<R>>,
     record: ByteRecord,
     width: Option<usize>,
-}
-
-/// A reader on the heap. What it takes on the stack until it is there is free again before it reads.
-#[inline(never)]
-fn boxed_reader<R: Read + Drop>(alloc: Global, input: R) -> Result<Box<Reader<R>>, RowFault> {
-    let mut builder = ReaderBuilder::new();
-    let builder = builder.has_headers(false).flexible(true);
-    match Box::new(alloc, builder.from_reader(alloc, input)) {
-        Ok(reader) => Ok(reader),
-        Err(_) => Err(RowFault::Memory),
-    }
 }
 
 /// How many line feeds stand in the fields of a record.
@@ -49,7 +38,7 @@ impl<R: Read + Drop> CsvRows<R> {
     /// `Memory`.
     pub fn new(alloc: Global, input: R) -> Result<CsvRows<R>, RowFault> {
         Ok(CsvRows {
-            reader: boxed_reader(alloc, Watched::new(alloc, input))?,
+            reader: CsvReader::new(alloc, Watched::new(alloc, input))?,
             record: ByteRecord::new(alloc),
             width: None,
         })
@@ -61,14 +50,11 @@ impl<R: Read + Drop> CsvRows<R> {
     ///
     /// `Read`; `Width` where it has another number of fields than the first record; `Memory`.
     pub(crate) fn advance(&mut self) -> Result<bool, RowFault> {
-        self.reader
-            .get_ref()
-            .watch_from(self.reader.position().byte());
-        match self.reader.read_byte_record(&mut self.record) {
-            Ok(true) => self.check_width(),
-            Ok(false) => Ok(false),
-            Err(error) => Err(read_fault(&error)),
+        self.reader.source().watch_from(self.reader.next_byte());
+        if !self.reader.read(&mut self.record)? {
+            return Ok(false);
         }
+        self.check_width()
     }
 
     fn check_width(&mut self) -> Result<bool, RowFault> {
@@ -94,7 +80,7 @@ impl<R: Read + Drop> CsvRows<R> {
             Some(position) => position.line(),
             None => 1,
         };
-        searched_from.saturating_add(self.reader.get_ref().lines())
+        searched_from.saturating_add(self.reader.source().lines())
     }
 
     /// The line at which the record ends.

@@ -27,7 +27,14 @@ fn name_beside<R: RandomSource + AllocGlobal>(rt: &R, path: &str) -> io::Result<
     Ok(format!(in rt.alloc(); "{path}.{number:016x}.part")?)
 }
 
+/// Gives a file another path. Both are copied onto the stack, in a frame of its own.
+#[inline(never)]
+fn rename<R: Files>(rt: &R, from: &str, to: &str) -> io::Result<()> {
+    fs::rename(rt, from, to)
+}
+
 /// Has the names in the folder of a path on the disk, where the system can.
+#[inline(never)]
 fn flush_folder<R: Files>(rt: &R, path: &str) {
     let (folder, _) = folder_and_name(path);
     if let Ok(folder) = File::open(rt, folder) {
@@ -78,7 +85,7 @@ impl NewFile {
         match (&self.place, stream) {
             (Place::Named(path), NewStream::File(file)) => {
                 file.sync_all()?;
-                fs::rename(rt, self.beside.as_str(), path.as_str())?;
+                rename(rt, self.beside.as_str(), path.as_str())?;
                 flush_folder(rt, path.as_str());
                 Ok(())
             }

@@ -1,4 +1,5 @@
-//! Where what is written to a path goes.
+//! Where what is written to a path goes. For each call of the system a path is copied onto the stack, so functions that make one
+//! have frames of their own.
 
 use std::io::ErrorKind;
 use std::rt::Files;
@@ -43,6 +44,7 @@ fn found<T>(answer: io::Result<T>) -> io::Result<Option<T>> {
 }
 
 /// The path of what a path leads to over symbolic links, if something is there.
+#[inline(never)]
 fn canonical<R: Files + AllocGlobal>(rt: &R, path: &str) -> io::Result<Option<String>> {
     match found(fs::canonicalize(rt, path))? {
         Some(path) => Ok(Some(path.into_string())),
@@ -74,6 +76,7 @@ fn open_place<R: Files + AllocGlobal>(rt: &R, path: &str) -> io::Result<Option<P
 }
 
 /// The path that the symbolic link at a path leads to, if one is there.
+#[inline(never)]
 fn next_path<R: Files + AllocGlobal>(rt: &R, path: &str) -> io::Result<Option<String>> {
     let Some(target) = found(fs::read_link(rt, path))? else {
         return Ok(None);
@@ -102,6 +105,7 @@ fn place_by_links<R: Files + AllocGlobal>(rt: &R, path: &str) -> io::Result<Opti
 }
 
 /// Whether something is at a path that is no file, as a pipe, a device or a folder.
+#[inline(never)]
 fn is_no_file<R: Files>(rt: &R, path: &str) -> bool {
     fs::metadata(rt, path).is_ok_and(|found| !found.is_file())
 }

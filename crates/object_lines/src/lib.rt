@@ -5,6 +5,7 @@ mod fault;
 mod lines;
 mod member;
 mod record;
+mod room;
 mod text;
 
 pub use fault::{LineFault, MemberFault};

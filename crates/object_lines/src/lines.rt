@@ -1,9 +1,9 @@
 //! The lines of a text.
 
 use crate::fault::LineFault;
+use crate::room::Room;
 use crate::text::fill_from_text;
 use csv::ByteRecord;
-use json::Scratch;
 use std::alloc::Global;
 use std::io;
 use std::io::{BufRead, BufReader, ErrorKind, Read};
@@ -14,7 +14,7 @@ pub struct ObjectLines<R> {
     alloc: Global,
     reader: BufReader<R>,
     line: Vec<u8>,
-    scratch: Scratch,
+    room: Room,
     record: ByteRecord,
     number: u64,
 }
@@ -52,7 +52,7 @@ impl<R: Read + Drop> ObjectLines<R> {
                 alloc,
                 reader,
                 line: Vec::new(alloc),
-                scratch: Scratch::new(alloc),
+                room: Room::new(alloc)?,
                 record: ByteRecord::new(alloc),
                 number: 0,
             }),
@@ -79,7 +79,13 @@ impl<R: Read + Drop> ObjectLines<R> {
         if text.iter().all(|byte| is_space(*byte)) {
             return Ok(false);
         }
-        fill_from_text(self.alloc, &mut self.record, names, text, &mut self.scratch)?;
+        fill_from_text(
+            self.alloc,
+            &mut self.record,
+            names,
+            text,
+            self.room.scratch(),
+        )?;
         Ok(true)
     }
 

@@ -1,0 +1,59 @@
+//! Reading CSV.
+
+use crate::fault::{RowFault, read_fault};
+use csv::{ByteRecord, Reader, ReaderBuilder};
+use std::alloc::Global;
+use std::io::Read;
+
+/// A reader of CSV on the heap, since it has room for what it reads. It comes onto the stack when it is made and when it is let
+/// go, in frames of their own, which are not there while it reads.
+pub(crate) struct CsvReader<R> {
+    reader: Box<Reader<R>>,
+}
+
+impl<R: Drop> Drop for CsvReader<R> {
+    #[inline(never)]
+    fn drop(self) {
+        let CsvReader { reader } = self;
+        drop(reader);
+    }
+}
+
+impl<R: Read + Drop> CsvReader<R> {
+    /// A reader of records of any width, the first among them.
+    ///
+    /// # Errors
+    ///
+    /// `Memory`.
+    #[inline(never)]
+    pub(crate) fn new(alloc: Global, input: R) -> Result<CsvReader<R>, RowFault> {
+        let mut builder = ReaderBuilder::new();
+        let builder = builder.has_headers(false).flexible(true);
+        match Box::new(alloc, builder.from_reader(alloc, input)) {
+            Ok(reader) => Ok(CsvReader { reader }),
+            Err(_) => Err(RowFault::Memory),
+        }
+    }
+
+    /// What is read.
+    pub(crate) fn source(&self) -> &R {
+        self.reader.get_ref()
+    }
+
+    /// At which byte of the text the next record is looked for.
+    pub(crate) fn next_byte(&self) -> u64 {
+        self.reader.position().byte()
+    }
+
+    /// Goes on to the next record, and tells whether there is one.
+    ///
+    /// # Errors
+    ///
+    /// `Read`; `Memory`.
+    pub(crate) fn read(&mut self, record: &mut ByteRecord) -> Result<bool, RowFault> {
+        match self.reader.read_byte_record(record) {
+            Ok(is_there) => Ok(is_there),
+            Err(error) => Err(read_fault(&error)),
+        }
+    }
+}
