@@ -3,7 +3,7 @@ import collections
 import itertools
 
 from .jobs import (
-    Refusal, SINK, ends_of, leg, nothing_of, read_cut, read_input, read_legs, read_plan, read_scale, require_choices, require_stop, text_of,
+    Refusal, SINK, ends_of, leg, level_stages, nothing_of, read_cut, read_input, read_legs, read_plan, read_scale, require_choices, require_stop, text_of,
 )
 from .savepoints import check, decode, encode, savepoint_of
 
@@ -17,7 +17,9 @@ def answer(command, files, *words):
 
 
 def run(files, plan, input_, legs=None, choices=None):
-    """The answer of `run`, in one leg or in those of a list, and of `simulate`, which has choices as well."""
+    """The answer of `run`, in one leg, in those of a list, or with `--parallelism N`, and of `simulate`, which has choices as well."""
+    if legs == "--parallelism":
+        return run_parallel(files, plan, input_, choices)
     plan = read_plan(files[plan])
     sources = read_input(plan, files[input_])
     cuts = [None] if legs is None else read_legs(plan, files[legs])
@@ -30,6 +32,14 @@ def run(files, plan, input_, legs=None, choices=None):
         more, start = leg(plan, sources, start, cut or ends_of(sources))
         rows += more
     return text_of(plan, sorted(rows))
+
+
+def run_parallel(files, plan, input_, parallelism):
+    """The answer of `run` with `--parallelism N`: that of `run`, where a scale of so many subtasks is not refused."""
+    read = read_plan(files[plan])
+    read_input(read, files[input_])
+    level_stages(read, parallelism)
+    return run(files, plan, input_)
 
 
 def run_leg(files, plan, input_, scale, *options):

@@ -287,6 +287,14 @@ def stages_at(plan, value):
     return stages
 
 
+def level_stages(plan, word):
+    """The stages of the plan at the scale of a number of subtasks: a source has no more than partitions, a filter no more than the source with the most."""
+    require(re.fullmatch(r"[0-9]{1,5}", word, re.ASCII), "C2 Number")
+    number, most = int(word), max(partitions for _, partitions in plan.sources)
+    operators = {plan.uid: number} | {uid: min(number, partitions) for uid, partitions in plan.sources} | {uid: min(number, most) for uid, *_ in plan.filters}
+    return stages_at(plan, {"ring": 16, "operators": {uid: {"parallelism": parallelism} for uid, parallelism in operators.items()}})
+
+
 # Legs.
 
 @dataclasses.dataclass

@@ -13,7 +13,7 @@ word words name = unwrap_or (first_value words name) []
 
 -- the name of a command
 abbrev pub name_of : Command → List ℕ
-name_of (Run _ _ _) = codes "run"
+name_of (Run _ _ _ _) = codes "run"
 name_of (Simulate _ _ _ _) = codes "simulate"
 name_of (Leg _ _ _ _ _ _) = codes "leg"
 name_of (Layout _ _) = codes "layout"
@@ -46,7 +46,9 @@ scale_word words = or_else (first_value words (codes "SCALE")) (first_value word
 
 -- the words of a command, each by its name
 abbrev pub HasWords : Found → Command → Type 0
-HasWords words (Run plan input legs) = (plan.now ≡ word words (codes "PLAN")) × (input.now ≡ word words (codes "INPUT")) × (option_map (λ w. w.now) legs ≡ first_value words (codes "LEGS"))
+HasWords words (Run plan input legs parallelism) =
+    (plan.now ≡ word words (codes "PLAN")) × (input.now ≡ word words (codes "INPUT")) × (option_map (λ w. w.now) legs ≡ first_value words (codes "LEGS"))
+    × (option_map (λ w. w.now) parallelism ≡ first_value words (codes "parallelism"))
 HasWords words (Simulate plan input legs choices) =
     (plan.now ≡ word words (codes "PLAN")) × (input.now ≡ word words (codes "INPUT")) × (legs.now ≡ word words (codes "LEGS")) × (choices.now ≡ word words (codes "CHOICES"))
 HasWords words (Leg plan input scale from stop save) =

@@ -22,9 +22,9 @@ several_rule name = record (new_rule name) { required = true; action = Some Appe
 abbrev pub command_shape : List ℕ → List (List ℕ) → Shape
 command_shape name words = record (new_shape name) { rules = map required_rule words }
 
--- a run's files, and one that may be left out
+-- a run's files, of which one may be left out, and an option
 abbrev pub run_shape : Shape
-run_shape = record (new_shape (codes "run")) { rules = required_rule (codes "PLAN") ∷ required_rule (codes "INPUT") ∷ new_rule (codes "LEGS") ∷ [] }
+run_shape = record (new_shape (codes "run")) { rules = required_rule (codes "PLAN") ∷ required_rule (codes "INPUT") ∷ new_rule (codes "LEGS") ∷ option_rule (codes "parallelism") ∷ [] }
 
 abbrev pub simulate_shape : Shape
 simulate_shape = command_shape (codes "simulate") (codes "PLAN" ∷ codes "INPUT" ∷ codes "LEGS" ∷ codes "CHOICES" ∷ [])

@@ -15,6 +15,9 @@ use job_texts::JobFault;
 use std::alloc::AllocError;
 use std::random::RandomSource;
 use std::rt::{Env, Files};
+use std::sync::Wait;
+use std::thread::Threads;
+use std::time::Clock;
 use std::{env, io};
 
 /// Why the program ends with no command done.
@@ -55,7 +58,7 @@ fn done(answer: Result<(), CommandFault>) -> Result<(), Refusal>
 }
 
 /// Does what the command asks for that the words name; clap lets no others through.
-fn chosen<R: Files + Print + RandomSource + AllocGlobal>(
+fn chosen<R: Files + Print + RandomSource + Threads + Wait + Clock + Sync + AllocGlobal>(
     rt: &R,
     matches: &ArgMatches<'_>,
 ) -> Result<(), Refusal>
@@ -74,7 +77,7 @@ fn words_of<R: Env + AllocGlobal>(rt: &R) -> io::Result<Vec<String>> {
 }
 
 /// Does what the command asks for that words name, the program's own name first.
-fn obeyed<R: Files + Print + RandomSource + AllocGlobal>(
+fn obeyed<R: Files + Print + RandomSource + Threads + Wait + Clock + Sync + AllocGlobal>(
     rt: &R,
     words: &[String],
 ) -> Result<(), Refusal>
@@ -90,7 +93,9 @@ fn obeyed<R: Files + Print + RandomSource + AllocGlobal>(
 /// # Errors
 ///
 /// Why no command is done: the words, or the fault of the command.
-pub fn outcome<R: Files + Print + Env + RandomSource + AllocGlobal>(rt: &R) -> Result<(), Refusal>
+pub fn outcome<R: Files + Print + Env + RandomSource + Threads + Wait + Clock + Sync + AllocGlobal>(
+    rt: &R,
+) -> Result<(), Refusal>
     ensures { AnswersProgram result }
 {
     match words_of(rt) {

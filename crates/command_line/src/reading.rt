@@ -61,6 +61,7 @@ fn command_in<'m>(name: &str, words: &'m ArgMatches<'_>) -> Option<Command<'m>>
             plan: named(words, "PLAN"),
             input: named(words, "INPUT"),
             legs: words.get_str("LEGS"),
+            parallelism: words.get_str("parallelism"),
         }),
         "simulate" => Some(Command::Simulate {
             plan: named(words, "PLAN"),

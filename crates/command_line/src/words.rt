@@ -75,6 +75,9 @@ const SCALE: &str = "JSON file of the scale: a ring's capacity and each operator
 
 const LEGS: &str = "JSON file of the legs: for each its scale, and where it stops";
 
+const PARALLELISM: &str =
+    "How many subtasks each operator has, 1 to 64 (1); a source no more than partitions; not with LEGS";
+
 const RUN: &str = "\
 Each row is a line `START END KEY NUMBER ..`: a window of time from START up to END, a key,
 and what the plan's aggregates give for the key's records in the window. Rows come in the
@@ -82,8 +85,9 @@ order of START and KEY.
 
 With LEGS the job runs in legs, each at its own scale and from the savepoint of the one before;
 the rows are the same. Where the last leg stops at a cut, they are those that are due there.
+Each subtask is a thread: with --parallelism the job runs in more of them, and prints the same.
 
-Example: streamjob run plan.json input.json
+Example: streamjob run plan.json input.json --parallelism 4
 Page: docs/GUIDE.md, and docs/FORMATS.md for the plan, the input and the legs";
 
 const PROGRAM: &str = "\
@@ -92,8 +96,8 @@ pipe brings.
 
 Exit status: 0 done; 2 words that are not understood, or help; 3 a file that cannot be read or
 written, a plan, input, scale, list of legs, choices or savepoint that is refused, or a cut that a
-leg cannot stop at; 4 no memory. Standard error says what is refused, and `streamjob explain CODE`
-what to do.
+leg cannot stop at; 4 no memory, or no thread. Standard error says what is refused, and
+`streamjob explain CODE` what to do.
 
 Example: streamjob run plan.json input.json
 Page: docs/GUIDE.md";
@@ -109,7 +113,8 @@ fn run_words<'a>(alloc: Global) -> Result<Command<'a>, AllocError>
     );
     let command = required(alloc, command, "PLAN", PLAN)?;
     let command = required(alloc, command, "INPUT", INPUT)?;
-    optional(alloc, command, "LEGS", LEGS)
+    let command = optional(alloc, command, "LEGS", LEGS)?;
+    option(alloc, command, "parallelism", "N", PARALLELISM)
 }
 
 const CHOICES: &str =

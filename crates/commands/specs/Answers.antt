@@ -1,13 +1,15 @@
 -- What the program's commands answer. Nothing can be said of what files hold and of what standard output takes, and so
 -- these say which answers the texts of files allow, whatever they are.
-use Rattle.std.specs.Prelude.{◌≡◌, ◌⊎◌, ℕ, List, [], Bool, Option, Some, None, is_some, Result, Ok, Err, IfErr}
+use Rattle.std.specs.Prelude.{◌≡◌, ◌⊎◌, ℕ, List, [], Bool, true, false, Option, Some, None, is_some, Result, Ok, Err, IfErr}
 use Rattle.std.specs.declared.io.ErrorKind.{ErrorKind}
 use Rattle.std.specs.declared.io.ErrorKind.TheVariants.{OutOfMemory}
 use Rattle.job_texts.specs.declared.fault.JobFault.{JobFault}
-use Rattle.job_texts.specs.declared.fault.JobFault.TheVariants.{Read, Write, Memory}
+use Rattle.job_texts.specs.declared.fault.JobFault.TheVariants.{Number, Read, Write, Memory}
 use Rattle.job_texts.specs.Group.{TellsGroup, group_said}
+use Rattle.job.specs.Ends.{InOneThread, OnThreads}
 use Rattle.job.specs.Layout.{TellsLayout, layout_said}
 use Rattle.job.specs.Leg.{LegJob, TellsLeg, leg_said}
+use Rattle.job.specs.Parallel.{parallel_said}
 use Rattle.job.specs.Run.{Answers, run_said}
 use Rattle.job.specs.Show.{TellsSavepoint, show_said}
 use Rattle.user_texts.specs.Pages.{TellsPage, explained}
@@ -27,13 +29,15 @@ write_fault _ = Write
 abbrev pub CannotRead : Result (Unit {0}) JobFault → Type 0
 CannotRead result = (result ≡ Err Read) ⊎ (result ≡ Err Memory)
 
--- what `job_run` answers of some plan and input, with a list of legs just where one is named, or that one of them, or random numbers for hashes, were not read
-abbrev pub AnswersRun : Bool → Result (Unit {0}) JobFault → Type 0
-AnswersRun names_legs result = CannotRead result ⊎ ((plan : List ℕ) × (input : List ℕ) × (legs : Option (List ℕ)) × (is_some legs ≡ names_legs) × Answers (run_said plan input legs None) result None None)
+-- what `job_run` answers of some plan and input, with a list of legs just where one is named, or that one of them, or random numbers for hashes, were not read; with the word of a parallelism what `job_run_parallel` answers, and beside a list of legs that there is no such number
+abbrev pub AnswersRun : Bool → Option (List ℕ) → Result (Unit {0}) JobFault → Type 0
+AnswersRun names_legs None result = CannotRead result ⊎ ((plan : List ℕ) × (input : List ℕ) × (legs : Option (List ℕ)) × (is_some legs ≡ names_legs) × Answers OnThreads (run_said plan input legs None) result None None)
+AnswersRun false (Some word) result = CannotRead result ⊎ ((plan : List ℕ) × (input : List ℕ) × Answers OnThreads (parallel_said plan input word) result None None)
+AnswersRun true (Some word) result = result ≡ Err Number
 
 -- what `job_simulate` answers of some plan, input, list of legs and choices, or that one of them, or random numbers for hashes, were not read
 abbrev pub AnswersSimulate : Result (Unit {0}) JobFault → Type 0
-AnswersSimulate result = CannotRead result ⊎ ((plan : List ℕ) × (input : List ℕ) × (legs : List ℕ) × (choices : List ℕ) × Answers (run_said plan input (Some legs) (Some choices)) result None None)
+AnswersSimulate result = CannotRead result ⊎ ((plan : List ℕ) × (input : List ℕ) × (legs : List ℕ) × (choices : List ℕ) × Answers InOneThread (run_said plan input (Some legs) (Some choices)) result None None)
 
 -- the fault of a call that writes into memory: it takes no more only where there is none left
 abbrev pub buffered : JobFault → JobFault

@@ -32,7 +32,7 @@ AnswersVersion result = IfErr result (λ fault. fault ≡ text.Write)
 
 -- the outcome is that of the command, on the files that it names
 abbrev pub Performs : Command → Result (Unit {0}) CommandFault → Type 0
-Performs (Run plan input legs) result = Comes after_command (AnswersRun (is_some legs)) result
+Performs (Run plan input legs parallelism) result = Comes after_command (AnswersRun (is_some legs) (option_map (λ word. word.now) parallelism)) result
 Performs (Simulate plan input legs choices) result = Comes after_command AnswersSimulate result
 Performs (Leg plan input scale from stop save) result = Comes after_command (AnswersLeg (is_some from) (option_map (λ word. word.now) stop)) result
 Performs (Layout plan scale) result = Comes after_command AnswersLayout result

@@ -1,30 +1,32 @@
 //! What each command does.
 
-ghost use Rattle.std.specs.Prelude.{◌≡◌, ◌⊎◌, is_some, option_map, IfErr};
+ghost use Rattle.std.specs.Prelude.{◌≡◌, ◌⊎◌, false, is_some, None, option_map, Some, IfErr};
 ghost use Rattle.job.specs.Leg.{leg_said};
 ghost use Rattle.commands.specs.Answers as answers;
 ghost use Rattle.commands.specs.Answers.{AnswersRun, AnswersSimulate, AnswersLeg, ComesOfLeg, AnswersLayout, AnswersShow, AnswersGroup, AnswersExplain};
 
 use crate::files::{file, optional_file};
 use crate::saving::{check_apart, save};
-use job::{HashKeys, JobFault, job_group, job_layout, job_leg, job_run, job_show, job_simulate};
+use job::{
+    HashKeys, JobFault, OpenGate, job_group, job_layout, job_leg, job_run, job_run_parallel,
+    job_show, job_simulate,
+};
 use std::io::{Write, writer};
 use std::random::RandomSource;
 use std::rt::Files;
+use std::sync::Wait;
+use std::thread::Threads;
+use std::time::Clock;
 use user_texts::{TextFault, write_version};
 
 /// Prints the rows of a plan on an input, in legs where a list of them is named.
-///
-/// # Errors
-///
-/// `Read` where a file cannot be read, else the fault of `job_run`.
-pub fn run<R: Files + Print + RandomSource + AllocGlobal>(
+fn run_in_legs<R: Files + Print + RandomSource + Threads + Wait + Clock + Sync + AllocGlobal>(
     rt: &R,
     plan: &str,
     input: &str,
     legs: Option<&str>,
 ) -> Result<(), JobFault>
-    ensures { AnswersRun (is_some legs.entry) result }
+    ensures { AnswersRun (is_some legs.entry) None result }
 {
     let plan = file(rt, plan)?;
     let input = file(rt, input)?;
@@ -33,7 +35,65 @@ pub fn run<R: Files + Print + RandomSource + AllocGlobal>(
         return Err(JobFault::Read);
     };
     let legs = list.as_deref();
-    job_run(rt.alloc(), keys, &plan, input, legs, &mut writer(rt))
+    job_run(
+        rt,
+        rt.alloc(),
+        keys,
+        &plan,
+        input,
+        legs,
+        &OpenGate,
+        &mut writer(rt),
+    )
+}
+
+/// Prints the rows of a plan on an input, run in as many subtasks as a word spells.
+fn run_parallel<R: Files + Print + RandomSource + Threads + Wait + Clock + Sync + AllocGlobal>(
+    rt: &R,
+    plan: &str,
+    input: &str,
+    parallelism: &str,
+) -> Result<(), JobFault>
+    ensures { AnswersRun false (Some parallelism.now) result }
+{
+    let plan = file(rt, plan)?;
+    let input = file(rt, input)?;
+    let Ok(keys) = HashKeys::random(rt) else {
+        return Err(JobFault::Read);
+    };
+    let mut out = writer(rt);
+    job_run_parallel(
+        rt,
+        rt.alloc(),
+        keys,
+        &plan,
+        input,
+        parallelism,
+        &OpenGate,
+        &mut out,
+    )
+}
+
+/// Prints the rows of a plan on an input, in legs where a list of them is named, or in so many subtasks.
+///
+/// # Errors
+///
+/// `Number` where both are named, since each leg has a scale of its own; `Read` where a file cannot be read; else the fault of
+/// `job_run`, or of `job_run_parallel`.
+pub fn run<R: Files + Print + RandomSource + Threads + Wait + Clock + Sync + AllocGlobal>(
+    rt: &R,
+    plan: &str,
+    input: &str,
+    legs: Option<&str>,
+    parallelism: Option<&str>,
+) -> Result<(), JobFault>
+    ensures { AnswersRun (is_some legs.entry) (option_map (λ word. word.now) parallelism.entry) result }
+{
+    match (legs, parallelism) {
+        (legs, None) => run_in_legs(rt, plan, input, legs),
+        (None, Some(parallelism)) => run_parallel(rt, plan, input, parallelism),
+        (Some(_), Some(_)) => Err(JobFault::Number),
+    }
 }
 
 /// Prints the rows of a plan on an input in legs, by an order of steps that choices pick.
@@ -114,7 +174,7 @@ fn buffered(fault: JobFault) -> JobFault
 }
 
 /// Runs the leg that texts tell, and gives what it gives.
-fn done_leg<R: Files + Print + RandomSource + AllocGlobal>(
+fn done_leg<R: Files + Print + RandomSource + Threads + Wait + Clock + Sync + AllocGlobal>(
     rt: &R,
     keys: HashKeys,
     plan: &[u8],
@@ -127,7 +187,18 @@ fn done_leg<R: Files + Print + RandomSource + AllocGlobal>(
     ensures { ComesOfLeg (leg_said plan.now input.items scale.now (option_map (λ bytes. bytes.now) from.entry) (option_map (λ word. word.now) stop.entry)) result }
 {
     let mut rows = Vec::new(rt.alloc());
-    match job_leg(rt.alloc(), keys, plan, input, scale, from, stop, &mut rows) {
+    match job_leg(
+        rt,
+        rt.alloc(),
+        keys,
+        plan,
+        input,
+        scale,
+        from,
+        stop,
+        &OpenGate,
+        &mut rows,
+    ) {
         Ok(saved) => give(rt, path, saved.as_deref(), &rows),
         Err(fault) => Err(buffered(fault)),
     }
@@ -138,7 +209,7 @@ fn done_leg<R: Files + Print + RandomSource + AllocGlobal>(
 /// # Errors
 ///
 /// `Read` where a file cannot be read, else the fault of `job_leg`, `Write` where the savepoint or the rows cannot be written.
-pub fn leg<R: Files + Print + RandomSource + AllocGlobal>(
+pub fn leg<R: Files + Print + RandomSource + Threads + Wait + Clock + Sync + AllocGlobal>(
     rt: &R,
     plan: &str,
     input: &str,

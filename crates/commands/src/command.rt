@@ -5,11 +5,12 @@ use import_command::ImportWords;
 /// What the program is to do.
 #[derive(Drop)]
 pub enum Command<'a> {
-    /// Print the rows of a plan on an input, in legs where a list of them is named.
+    /// Print the rows of a plan on an input, in legs where a list of them is named, or in so many subtasks.
     Run {
         plan: &'a str,
         input: &'a str,
         legs: Option<&'a str>,
+        parallelism: Option<&'a str>,
     },
     /// Print the rows of a plan on an input in legs, by an order of steps that choices pick.
     Simulate {

@@ -9,20 +9,28 @@ use crate::fault::{CommandFault, after_job, after_page};
 use crate::importing::import;
 use std::random::RandomSource;
 use std::rt::Files;
+use std::sync::Wait;
+use std::thread::Threads;
+use std::time::Clock;
 
 /// Does what a command asks for.
 ///
 /// # Errors
 ///
 /// Why it is not done.
-pub fn performed<R: Files + Print + RandomSource + AllocGlobal>(
+pub fn performed<R: Files + Print + RandomSource + Threads + Wait + Clock + Sync + AllocGlobal>(
     rt: &R,
     command: &Command<'_>,
 ) -> Result<(), CommandFault>
     ensures { Performs command.now result }
 {
     match command {
-        Command::Run { plan, input, legs } => after_job(run(rt, plan, input, *legs)),
+        Command::Run {
+            plan,
+            input,
+            legs,
+            parallelism,
+        } => after_job(run(rt, plan, input, *legs, *parallelism)),
         Command::Simulate {
             plan,
             input,

@@ -87,16 +87,16 @@ err_is (Err y) e fails is = ap Err is
 
 -- ---- the texts of a job
 
-module _ {J T : Type 0} (Can : J → Type 0) (Is : J → T → Type 0) where
+module _ {J T : Type 0} (Other : JobFault → Type 0) (Can : J → Type 0) (Is : J → T → Type 0) where
   -- a text is refused
-  pub refused : {X : Type 0} (next : X → Result J JobFault) (said : Result X JobFault) (fault : JobFault) (result : Result T JobFault) → IsErr result → IsErrAnd result (λ e. e ≡ fault) → Fails is_memory fault said → Ends Can Is (and_then next said) result
-  refused next said fault result fails gives is = subst (Ends Can Is (and_then next said)) (sym (err_is result fault fails gives)) (only (is_memory fault) (λ e. inl (ap (and_then next) e)) is)
+  pub refused : {X : Type 0} (next : X → Result J JobFault) (said : Result X JobFault) (fault : JobFault) (result : Result T JobFault) → IsErr result → IsErrAnd result (λ e. e ≡ fault) → Fails is_memory fault said → Ends Other Can Is (and_then next said) result
+  refused next said fault result fails gives is = subst (Ends Other Can Is (and_then next said)) (sym (err_is result fault fails gives)) (only (is_memory fault) (λ e. inl (ap (and_then next) e)) is)
 
   -- it is read, and the job ends so
-  pub read : {X : Type 0} (next : X → Result J JobFault) (said : Result X JobFault) (x : X) (result : Result T JobFault) → said ≡ Ok x → Ends Can Is (next x) result → Ends Can Is (and_then next said) result
-  read next said x result is ends = subst (λ z. Ends Can Is (and_then next z) result) (sym is) ends
+  pub read : {X : Type 0} (next : X → Result J JobFault) (said : Result X JobFault) (x : X) (result : Result T JobFault) → said ≡ Ok x → Ends Other Can Is (next x) result → Ends Other Can Is (and_then next said) result
+  read next said x result is ends = subst (λ z. Ends Other Can Is (and_then next z) result) (sym is) ends
 
 -- all texts of a leg are read
 pub told : (job : LegJob) (result : Result LegEnd JobFault) → GivesLeg (IsLegEnd job) job result → EndsLeg (Ok job) result
 told job (Ok end) gives = (job, refl, gives.0, gives.1)
-told job (Err fault) late = only (is_memory fault) (λ l. inr (job, refl, l.0, l.1)) late
+told job (Err fault) late = only (is_memory fault) (λ l. inr (job, refl, l)) late

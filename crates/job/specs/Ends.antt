@@ -2,7 +2,7 @@
 use Rattle.std.specs.Prelude.{◌≡◌, ◌⊎◌, Result, Ok, Err}
 use Rattle.std.specs.Result.{result_map_both}
 use Rattle.json_parts.specs.Answer.{unless}
-use Rattle.leg_lists.specs.declared.fault.LegFault.TheVariants.{StopRange}
+use Rattle.leg_lists.specs.declared.fault.LegFault.TheVariants.{StopRange, Threads}
 use Rattle.job_texts.specs.declared.fault.JobFault.{JobFault}
 use Rattle.job_texts.specs.declared.fault.JobFault.TheVariants.{Leg, Write}
 use Rattle.job_texts.specs.Fault.{is_memory}
@@ -16,16 +16,27 @@ and_then next (Err fault) = Err fault
 abbrev pub as_job : {X F : Type 0} → (F → JobFault) → Result X F → Result X JobFault
 as_job fault_of said = result_map_both (λ x. x) fault_of said
 
--- where the answer is Ok, it is of the job that texts say, whose legs can stop as they are to; else the refusal is the first that the texts give, or that of such a leg
-abbrev pub Ends : {J X : Type 0} → (J → Type 0) → (J → X → Type 0) → Result J JobFault → Result X JobFault → Type 0
-Ends {J} Can Is said (Ok x) = (job : J) × (said ≡ Ok job) × Can job × Is job x
-Ends {J} Can Is said (Err fault) = unless (is_memory fault) ((said ≡ Err fault) ⊎ ((job : J) × (said ≡ Ok job) × (fault ≡ Leg StopRange) × ¬ Can job))
+-- what legs may be refused for besides: nothing, in one thread, and want of a thread, on threads
+abbrev pub InOneThread : JobFault → Type 0
+InOneThread fault = ⊥
 
--- why a job that was read is not done: a leg cannot stop so, or what it gives cannot be written
-abbrev pub IsLate : {J : Type 0} → (J → Type 0) → J → JobFault → Type 0
-IsLate Can job fault = ((fault ≡ Leg StopRange) × ¬ Can job) ⊎ ((fault ≡ Write) × Can job)
+abbrev pub OnThreads : JobFault → Type 0
+OnThreads fault = fault ≡ Leg Threads
+
+-- why a job that was read does not run: one of its legs cannot stop as it is to, or what its legs may be refused for besides
+abbrev pub IsHalted : {J : Type 0} → (JobFault → Type 0) → (J → Type 0) → J → JobFault → Type 0
+IsHalted Other Can job fault = ((fault ≡ Leg StopRange) × ¬ Can job) ⊎ Other fault
+
+-- where the answer is Ok, it is of the job that texts say, whose legs can stop as they are to; else the refusal is the first that the texts give, or that of a job that does not run
+abbrev pub Ends : {J X : Type 0} → (JobFault → Type 0) → (J → Type 0) → (J → X → Type 0) → Result J JobFault → Result X JobFault → Type 0
+Ends {J} Other Can Is said (Ok x) = (job : J) × (said ≡ Ok job) × Can job × Is job x
+Ends {J} Other Can Is said (Err fault) = unless (is_memory fault) ((said ≡ Err fault) ⊎ ((job : J) × (said ≡ Ok job) × IsHalted Other Can job fault))
+
+-- why a job that was read is not done: it does not run, or what it gives cannot be written
+abbrev pub IsLate : {J : Type 0} → (JobFault → Type 0) → (J → Type 0) → J → JobFault → Type 0
+IsLate Other Can job fault = IsHalted Other Can job fault ⊎ ((fault ≡ Write) × Can job)
 
 -- where the answer is Ok, the job is done; else the refusal is the first that the texts give, or one of the job that they say
-abbrev pub Does : {J X : Type 0} → (J → Type 0) → (J → X → Type 0) → Result J JobFault → Result X JobFault → Type 0
-Does {J} Can Done said (Ok x) = (job : J) × (said ≡ Ok job) × Can job × Done job x
-Does {J} Can Done said (Err fault) = unless (is_memory fault) ((said ≡ Err fault) ⊎ ((job : J) × (said ≡ Ok job) × IsLate Can job fault))
+abbrev pub Does : {J X : Type 0} → (JobFault → Type 0) → (J → Type 0) → (J → X → Type 0) → Result J JobFault → Result X JobFault → Type 0
+Does {J} Other Can Done said (Ok x) = (job : J) × (said ≡ Ok job) × Can job × Done job x
+Does {J} Other Can Done said (Err fault) = unless (is_memory fault) ((said ≡ Err fault) ⊎ ((job : J) × (said ≡ Ok job) × IsLate Other Can job fault))

@@ -16,7 +16,6 @@ use Rattle.plan_scale.specs.Answer.{scale_of_bytes}
 use Rattle.savepoint_codec.specs.Answer.{savepoint_of_bytes}
 use Rattle.savepoint_codec.specs.Layout.{IsSavepoint, savepoint_bytes}
 use Rattle.savepoint_codec.specs.declared.savepoint.Contents.{Contents}
-use Rattle.leg_lists.specs.declared.fault.LegFault.TheVariants.{StopRange}
 use Rattle.leg_lists.specs.declared.stop.Stop.{Stop}
 use Rattle.leg_lists.specs.declared.stop.Stop.TheVariants.{Never, At}
 use Rattle.leg_lists.specs.Stops.{until_of}
@@ -28,11 +27,11 @@ use Rattle.restore.specs.Answer.{start_or_fault}
 use Rattle.leg_tasks.specs.Saved.{IsSavedAt}
 use Rattle.job.specs.declared.leg.LegEnd.{LegEnd}
 use Rattle.job_texts.specs.declared.fault.JobFault.{JobFault}
-use Rattle.job_texts.specs.declared.fault.JobFault.TheVariants.{Plan, Input, Scale, Save, Restore, Leg, Cut}
+use Rattle.job_texts.specs.declared.fault.JobFault.TheVariants.{Plan, Input, Scale, Save, Restore, Cut}
 use Rattle.job_texts.specs.Cut.{cut_said}
 use Rattle.job_texts.specs.Fault.{is_memory}
 use Rattle.job_texts.specs.Text.{IsTextOf}
-use Rattle.job.specs.Ends.{and_then, as_job, Ends, Does}
+use Rattle.job.specs.Ends.{and_then, as_job, Ends, Does, IsHalted, OnThreads}
 
 -- what the texts of a leg say, but for its scale, which changes no row
 pub record LegJob : Type 0 where
@@ -106,11 +105,11 @@ IsLegEnd job end = IsLegText job (string_bytes end.text) × AreLegBytes job (opt
 -- a leg gives such a thing, or why it gives nothing
 abbrev pub GivesLeg : {X : Type 0} → (X → Type 0) → LegJob → Result X JobFault → Type 0
 GivesLeg is job (Ok x) = CanStopSo job × is x
-GivesLeg is job (Err fault) = unless (is_memory fault) ((fault ≡ Leg StopRange) × ¬ CanStopSo job)
+GivesLeg is job (Err fault) = unless (is_memory fault) (IsHalted OnThreads CanStopSo job fault)
 
 -- what reading the texts of a leg and running it answers
 abbrev pub EndsLeg : Result LegJob JobFault → Result LegEnd JobFault → Type 0
-EndsLeg said result = Ends CanStopSo IsLegEnd said result
+EndsLeg said result = Ends OnThreads CanStopSo IsLegEnd said result
 
 -- the leg's text is written, and the bytes are those that it leaves
 abbrev pub IsLegDone : Option (List ℕ) → Option (List ℕ) → LegJob → Option (List ℕ) → Type 0
@@ -118,4 +117,4 @@ IsLegDone old new job saved = AreLegBytes job saved × ((text : List ℕ) × IsL
 
 -- where the answer is Ok, the leg is done; else the refusal is the first that the texts give, or one of the job that they say
 abbrev pub TellsLeg : {X : Type 0} → (X → Option (List ℕ)) → Result LegJob JobFault → Result X JobFault → Option (List ℕ) → Option (List ℕ) → Type 0
-TellsLeg view said result old new = Does CanStopSo (λ job saved. IsLegDone old new job (view saved)) said result
+TellsLeg view said result old new = Does OnThreads CanStopSo (λ job saved. IsLegDone old new job (view saved)) said result

@@ -1,5 +1,6 @@
 pub mod Ends
 pub mod Layout
 pub mod Run
+pub mod Parallel
 pub mod Show
 pub mod Leg

@@ -1,5 +1,5 @@
 -- What running a job answers.
-use Rattle.std.specs.Prelude.{ℕ, List, length, Option, Some, None, Result, Ok}
+use Rattle.std.specs.Prelude.{◌≡◌, ◌⊎◌, ℕ, List, length, Option, Some, None, Result, Ok}
 use Rattle.std.specs.Io.KnownBytes.{Appends}
 use Rattle.plan_model.specs.PlanData.{PlanData}
 use Rattle.plan_model.specs.declared.spec.Pane.{Pane}
@@ -13,12 +13,12 @@ use Rattle.leg_lists.specs.Answer.{legs_of_bytes}
 use Rattle.leg_lists.specs.ChoicesText.{choices_of_bytes}
 use Rattle.leg_lists.specs.declared.leg.LegSpec.{LegSpec}
 use Rattle.job_texts.specs.declared.fault.JobFault.{JobFault}
-use Rattle.job_texts.specs.declared.fault.JobFault.TheVariants.{Plan, Input}
+use Rattle.job_texts.specs.declared.fault.JobFault.TheVariants.{Plan, Input, Memory}
 use Rattle.job_texts.specs.Fault.{leg_fault}
 use Rattle.job_texts.specs.Text.{IsTextOf}
 use Rattle.job_legs.specs.Running.{CanRunLegs, last_stop}
 use Rattle.job_legs.specs.Ending.{rows_to}
-use Rattle.job.specs.Ends.{and_then, as_job, Ends, Does}
+use Rattle.job.specs.Ends.{and_then, as_job, Ends, Does, OnThreads}
 
 -- what the texts of a job say: with a list of legs, it runs in these
 pub record RunJob : Type 0 where
@@ -67,12 +67,16 @@ abbrev pub IsRunText : RunJob → List ℕ → Type 0
 IsRunText job text = IsTextOf (job_rows job.plan job.input job.legs) text
 
 -- what reading the texts of a job and running it answers
-abbrev pub EndsRun : {X : Type 0} → (X → List ℕ) → Result RunJob JobFault → Result X JobFault → Type 0
-EndsRun view said result = Ends CanRunSo (λ job text. IsRunText job (view text)) said result
+abbrev pub EndsRun : {X : Type 0} → (JobFault → Type 0) → (X → List ℕ) → Result RunJob JobFault → Result X JobFault → Type 0
+EndsRun Other view said result = Ends Other CanRunSo (λ job text. IsRunText job (view text)) said result
+
+-- why a leg that goes from nothing to the end on threads has no rows: for want of memory, or of a thread
+abbrev pub IsWholeRefusal : JobFault → Type 0
+IsWholeRefusal fault = (fault ≡ Memory) ⊎ OnThreads fault
 
 -- what the writer held has grown by exactly the text of the job's rows
 abbrev pub WritesRows : Option (List ℕ) → Option (List ℕ) → RunJob → Type 0
 WritesRows old new job = (text : List ℕ) × IsRunText job text × Appends old new text
 
-abbrev pub Answers : Result RunJob JobFault → Result (Unit {0}) JobFault → Option (List ℕ) → Option (List ℕ) → Type 0
-Answers said result old new = Does CanRunSo (λ job _. WritesRows old new job) said result
+abbrev pub Answers : (JobFault → Type 0) → Result RunJob JobFault → Result (Unit {0}) JobFault → Option (List ℕ) → Option (List ℕ) → Type 0
+Answers Other said result old new = Does Other CanRunSo (λ job _. WritesRows old new job) said result

@@ -10,10 +10,10 @@ ghost use Rattle.job_texts.specs.Tells.{KeepsWriter};
 ghost use Rattle.job.specs.Leg.{AreLegRows, EndsLeg, GivesLeg, IsLegEnd, IsLegSaved, TellsLeg, job_with, leg_by, leg_job, leg_on, leg_said, start_said, stop_said};
 
 use crate::reading::read_input;
+use core_steps::Finish;
 use job_legs::saved_bytes;
 use job_texts::{JobFault, read_cut, sort_rows, text_of_rows, write_text};
 use leg_lists::Stop;
-use leg_runs::{Finish, run_leg_by};
 use logical_plan::Plan;
 use plan_compiler::Scale;
 use plan_model::Row;
@@ -22,7 +22,11 @@ use restore::check;
 use savepoint_codec::{Savepoint, decode};
 use std::alloc::Global;
 use std::io::Write;
+use std::sync::Wait;
+use std::thread::Threads;
+use std::time::Clock;
 use stream_input::Input;
+use thread_runner::{Gate, run_leg};
 use window_state::HashKeys;
 
 /// Where a leg begins: at the savepoint that bytes spell, or from nothing.
@@ -63,7 +67,8 @@ struct LegRows {
 }
 
 /// Runs a leg.
-fn leg_rows(
+fn leg_rows<R: Threads + Wait + Clock + Sync, G: Gate>(
+    rt: &R,
     alloc: Global,
     keys: HashKeys,
     plan: &Plan,
@@ -71,13 +76,14 @@ fn leg_rows(
     scale: &Scale,
     start: &Start,
     stop: Stop,
+    gate: &G,
 ) -> Result<LegRows, JobFault>
     requires belongs { BelongsTo plan.now input.now }
     requires scale { IsScale plan.now scale.now }
     requires starts { IsStartIn plan.now input.now start.now }
     ensures { let job = leg_job plan.now input.now start.now stop in GivesLeg (λ given. AreLegRows job given.rows.items × IsLegSaved job given.savepoint) job result }
 {
-    let finish = run_leg_by(alloc, keys, plan, input, start, scale, stop, &[])?;
+    let finish = run_leg(rt, alloc, keys, plan, input, start, scale, stop, gate)?;
     match finish {
         Finish::Ended(rows) => Ok(LegRows {
             rows: rows.into_vec(),
@@ -101,7 +107,8 @@ struct LegEnd {
 }
 
 /// Runs a leg, and spells what it gives.
-fn leg_end(
+fn leg_end<R: Threads + Wait + Clock + Sync, G: Gate>(
+    rt: &R,
     alloc: Global,
     keys: HashKeys,
     plan: &Plan,
@@ -109,13 +116,14 @@ fn leg_end(
     scale: &Scale,
     start: &Start,
     stop: Stop,
+    gate: &G,
 ) -> Result<LegEnd, JobFault>
     requires belongs { BelongsTo plan.now input.now }
     requires scale { IsScale plan.now scale.now }
     requires starts { IsStartIn plan.now input.now start.now }
     ensures { let job = leg_job plan.now input.now start.now stop in GivesLeg (IsLegEnd job) job result }
 {
-    let mut given = leg_rows(alloc, keys, plan, input, scale, start, stop)?;
+    let mut given = leg_rows(rt, alloc, keys, plan, input, scale, start, stop, gate)?;
     sort_rows(&mut given.rows)?;
     let text = text_of_rows(alloc, &given.rows)?;
     let saved = saved_bytes(alloc, &given.savepoint)?;
@@ -123,7 +131,8 @@ fn leg_end(
 }
 
 /// The leg of a plan, an input and a scale.
-fn leg_at_scale(
+fn leg_at_scale<R: Threads + Wait + Clock + Sync, G: Gate>(
+    rt: &R,
     alloc: Global,
     keys: HashKeys,
     plan: &Plan,
@@ -131,6 +140,7 @@ fn leg_at_scale(
     scale: &Scale,
     from: Option<&[u8]>,
     stop: Option<&str>,
+    gate: &G,
 ) -> Result<LegEnd, JobFault>
     requires belongs { BelongsTo plan.now input.now }
     requires scale { IsScale plan.now scale.now }
@@ -138,11 +148,12 @@ fn leg_at_scale(
 {
     let start = start_of(alloc, plan, input, from)?;
     let stop = stop_of(alloc, stop)?;
-    leg_end(alloc, keys, plan, input, scale, &start, stop)
+    leg_end(rt, alloc, keys, plan, input, scale, &start, stop, gate)
 }
 
 /// The leg of a plan and an input.
-fn leg_on_input(
+fn leg_on_input<R: Threads + Wait + Clock + Sync, G: Gate>(
+    rt: &R,
     alloc: Global,
     keys: HashKeys,
     plan: &Plan,
@@ -150,16 +161,18 @@ fn leg_on_input(
     scale: &[u8],
     from: Option<&[u8]>,
     stop: Option<&str>,
+    gate: &G,
 ) -> Result<LegEnd, JobFault>
     requires { BelongsTo plan.now input.now }
     ensures { EndsLeg (leg_on plan.now input.now scale.now (option_map (λ bytes. bytes.now) from.entry) (option_map (λ word. word.now) stop.entry)) result }
 {
     let scale = Scale::read(alloc, plan, scale)?;
-    leg_at_scale(alloc, keys, plan, input, &scale, from, stop)
+    leg_at_scale(rt, alloc, keys, plan, input, &scale, from, stop, gate)
 }
 
 /// The leg of a plan.
-fn leg_of_plan(
+fn leg_of_plan<R: Threads + Wait + Clock + Sync, G: Gate>(
+    rt: &R,
     alloc: Global,
     keys: HashKeys,
     plan: &Plan,
@@ -167,15 +180,17 @@ fn leg_of_plan(
     scale: &[u8],
     from: Option<&[u8]>,
     stop: Option<&str>,
+    gate: &G,
 ) -> Result<LegEnd, JobFault>
     ensures { EndsLeg (leg_by plan.now input.items scale.now (option_map (λ bytes. bytes.now) from.entry) (option_map (λ word. word.now) stop.entry)) result }
 {
     let input = read_input(alloc, plan, input)?;
-    leg_on_input(alloc, keys, plan, &input, scale, from, stop)
+    leg_on_input(rt, alloc, keys, plan, &input, scale, from, stop, gate)
 }
 
 /// The leg that texts tell.
-fn leg_of_texts(
+fn leg_of_texts<R: Threads + Wait + Clock + Sync, G: Gate>(
+    rt: &R,
     alloc: Global,
     keys: HashKeys,
     plan: &[u8],
@@ -183,22 +198,26 @@ fn leg_of_texts(
     scale: &[u8],
     from: Option<&[u8]>,
     stop: Option<&str>,
+    gate: &G,
 ) -> Result<LegEnd, JobFault>
     ensures { EndsLeg (leg_said plan.now input.items scale.now (option_map (λ bytes. bytes.now) from.entry) (option_map (λ word. word.now) stop.entry)) result }
 {
     let plan = Plan::read(alloc, plan)?;
-    leg_of_plan(alloc, keys, &plan, input, scale, from, stop)
+    leg_of_plan(rt, alloc, keys, &plan, input, scale, from, stop, gate)
 }
 
 /// Runs one leg of a job at a scale, from nothing or from the savepoint that `from` has the bytes of, to the end of the input
 /// or to the cut that the word `stop` spells, and writes the text of its rows: those that become due on the way, one line
-/// each, in the order of start and key. Where it stops it gives the bytes of the savepoint that it leaves there.
+/// each, in the order of start and key. Where it stops it gives the bytes of the savepoint that it leaves there. Each of its
+/// tasks runs in a thread of its own, and passes the gate before each of its steps.
 ///
 /// # Errors
 ///
 /// The plan's fault, else the input's, the scale's, the savepoint's, `Restore` where the job cannot go on from it, `Cut`;
-/// then `Leg` with `StopRange` where a leg from there cannot stop so; `Write` where the writer refuses the text; `Memory`.
-pub fn job_leg<W: Write>(
+/// then `Leg` with `StopRange` where a leg from there cannot stop so, or with `Threads` where a thread was refused; `Write` where
+/// the writer refuses the text; `Memory`.
+pub fn job_leg<R: Threads + Wait + Clock + Sync, G: Gate, W: Write>(
+    rt: &R,
     alloc: Global,
     keys: HashKeys,
     plan: &[u8],
@@ -206,12 +225,15 @@ pub fn job_leg<W: Write>(
     scale: &[u8],
     from: Option<&[u8]>,
     stop: Option<&str>,
+    gate: &G,
     out: &mut W,
 ) -> Result<Option<Vec<u8>>, JobFault>
     ensures answers { TellsLeg (λ saved. option_map (λ bytes. bytes.items) saved) (leg_said plan.now input.items scale.now (option_map (λ bytes. bytes.now) from.entry) (option_map (λ word. word.now) stop.entry)) result (W.contents out.old) (W.contents out.new) }
     ensures kept { KeepsWriter result (W.contents out.old) (W.contents out.new) }
 {
-    let LegEnd { text, saved } = leg_of_texts(alloc, keys, plan, input, scale, from, stop)?;
+    let LegEnd { text, saved } = leg_of_texts(
+        rt, alloc, keys, plan, input, scale, from, stop, gate,
+    )?;
     write_text(out, text.as_str())?;
     Ok(saved)
 }

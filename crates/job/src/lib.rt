@@ -3,13 +3,19 @@
 
 mod layout;
 mod leg;
+mod parallel;
 mod reading;
 mod run;
 mod show;
+mod simulate;
+mod whole;
 
 pub use job_texts::{FaultLine, JobFault, fault_line, job_group, read_cut, status_of};
 pub use layout::job_layout;
 pub use leg::job_leg;
-pub use run::{job_run, job_simulate};
+pub use parallel::job_run_parallel;
+pub use run::job_run;
 pub use show::job_show;
+pub use simulate::job_simulate;
+pub use thread_runner::{Gate, OpenGate};
 pub use window_state::HashKeys;

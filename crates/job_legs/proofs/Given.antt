@@ -1,5 +1,5 @@
 -- What a leg gives that goes from a cut.
-use Rattle.std.proofs.Common.{◌≡◌, ◌∙◌, ℕ, ◌+◌, ◌<◌, ◌≤◌, ◌^◌, List, Result, Ok, Err, OnOk, IfOk, IfErr, MatchResult, sym, ap, subst, inl, inr, arith}
+use Rattle.std.proofs.Common.{◌≡◌, ◌∙◌, ℕ, ◌+◌, ◌<◌, ◌≤◌, ◌^◌, List, Result, Ok, Err, MatchResult, sym, ap, subst, inl, inr, arith}
 use Rattle.plan_model.specs.PlanData.{PlanData, IsPlan}
 use Rattle.plan_model.specs.Rows.{AreRowsOf}
 use Rattle.stream_model.specs.InputData.{InputData, IsInput, BelongsTo}
@@ -12,16 +12,16 @@ use Rattle.leg_lists.specs.declared.stop.Stop.{Stop}
 use Rattle.leg_lists.specs.declared.stop.Stop.TheVariants.{At}
 use Rattle.leg_lists.specs.Stops.{until_of}
 use Rattle.redistribute.specs.StartData.{StartData, offsets_of}
-use Rattle.redistribute.specs.Stopping.{CanStop, IsRefusal}
+use Rattle.redistribute.specs.Stopping.{CanStop}
 use Rattle.redistribute.specs.Snapshots.{saved_sources}
 use Rattle.gather.specs.Saved.{savepoint_of}
 use Rattle.savepoint_codec.specs.declared.savepoint.Contents.{Contents}
 use Rattle.leg_tasks.specs.Saved as left
 use Rattle.core_steps.specs.declared.finish.Finish.{Finish}
-use Rattle.core_steps.specs.Ending.{IsEndOf}
 use Rattle.restarts.specs.Laws.{IsStartAt}
 use Rattle.restarts.specs.Restart.{CanRestart}
 use Rattle.job_legs.specs.Reached.{IsLegGiven, IsStepRefusal}
+use Rattle.job_legs.specs.Ways.{AnswersLeg, IsWayRefusal}
 
 module _ (p : PlanData) (i : InputData) (plan : IsPlan p) (input : IsInput i) (belongs : BelongsTo p i) (cut : List (List ℕ)) (number : ℕ) (s : StartData) (at : IsStartAt p i cut number s) (few : number < 2 ^ 63) (stop : Stop) where
   next_few : (n : ℕ) → n < 2 ^ 63 → n + 1 ≤ 2 ^ 63
@@ -41,15 +41,20 @@ module _ (p : PlanData) (i : InputData) (plan : IsPlan p) (input : IsInput i) (b
   can_from : CanStop i.sources (offsets_of s) stop → CanStop i.sources cut stop
   can_from can = subst (λ b. CanStop i.sources b stop) at.offsets can
 
-  pub given : (result : Result Finish LegFault) → OnOk result (CanStop i.sources (offsets_of s) stop) → IfOk result (λ finish. IsEndOf p i s stop finish) → IfErr result (λ fault. IsRefusal i.sources (offsets_of s) stop fault)
-      → MatchResult result (IsLegGiven p i cut number stop) (IsStepRefusal i cut stop)
-  given (Ok finish) can e refused = record {
-    rows = e.rows;
-    savepoint = e.savepoint;
-    is = e.is;
-    can = can_from can;
-    delivered = subst (λ b. AreRowsOf (due_between p i.sources b (cut_to i (until_of stop))) e.rows) at.offsets (e.delivered at.snapshot);
-    saved = λ end same. saved end e.savepoint (stopped stop end same (can_from can)) (e.saved end same at.snapshot);
-  }
-  given (Err fault) can e (inl cannot) = inl (cannot.0, λ can. cannot.1 (subst (λ b. CanStop i.sources b stop) (sym at.offsets) can))
-  given (Err fault) can e (inr memory) = inr memory.0
+  pub given : (other : LegFault → Type 0) (result : Result Finish LegFault) → AnswersLeg other p i s stop result → MatchResult result (IsLegGiven p i cut number stop) (IsStepRefusal other i cut stop)
+  given other (Ok finish) a =
+      let e = a.1 in
+      record {
+        rows = e.rows;
+        savepoint = e.savepoint;
+        is = e.is;
+        can = can_from a.0;
+        delivered = subst (λ b. AreRowsOf (due_between p i.sources b (cut_to i (until_of stop))) e.rows) at.offsets (e.delivered at.snapshot);
+        saved = λ end same. saved end e.savepoint (stopped stop end same (can_from a.0)) (e.saved end same at.snapshot);
+      }
+  given other (Err fault) a = why a.2
+    where
+      why : IsWayRefusal other i.sources (offsets_of s) stop fault → IsStepRefusal other i cut stop fault
+      why (inl (inl cannot)) = inl (cannot.0, λ can. cannot.1 (subst (λ b. CanStop i.sources b stop) (sym at.offsets) can))
+      why (inl (inr memory)) = inr (inl memory.0)
+      why (inr besides) = inr (inr besides)

@@ -1,6 +1,7 @@
 mod Adding
 mod Ended
 mod Given
+mod Refusals
 mod Taken
-mod Ways
+mod UnderWay
 pub mod Facts

@@ -1,5 +1,5 @@
 -- A job that has come to a cut, and takes in what its next leg gives.
-use Rattle.std.proofs.Common.{◌≡◌, ◌∙◌, ℕ, ◌+◌, ◌≤◌, List, [], ◌∷◌, ◌++◌, map, length, Result, Ok, Err, IsErr, IsErrAnd, IfErr, MatchResult, refl, sym, ap, subst}
+use Rattle.std.proofs.Common.{◌≡◌, ◌∙◌, ℕ, ◌+◌, ◌≤◌, List, [], ◌∷◌, ◌++◌, map, length, Result, Ok, Err, IsErr, IsErrAnd, MatchResult, refl, sym, ap, subst}
 use Rattle.std.specs.List.{AllZip}
 use Rattle.plan_model.specs.PlanData.{PlanData}
 use Rattle.plan_model.specs.Rows.{AreRowsOf}
@@ -37,10 +37,6 @@ before_end i cut Never is can = before_full i.sources cut is
 before_end i cut (At end) is can = can.1
 
 -- a fault that is passed on
-pub passed_on : {T : Type 0} (P : LegFault → Type 0) (fault : LegFault) (result : Result T LegFault) → IsErr result → IsErrAnd result (λ e. e ≡ fault) → P fault → IfErr result P
-passed_on P fault (Ok x) fails is h = absurd cc
-passed_on P fault (Err e) fails is h = subst P (sym is) h
-
 pub fails : {T : Type 0} (Q : T → Type 0) (P : LegFault → Type 0) (fault : LegFault) (result : Result T LegFault) → IsErr result → IsErrAnd result (λ e. e ≡ fault) → P fault → MatchResult result Q P
 fails Q P fault (Ok x) failed is h = absurd cc
 fails Q P fault (Err e) failed is h = subst P (sym is) h

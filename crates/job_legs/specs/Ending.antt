@@ -9,7 +9,7 @@ use Rattle.stream_model.specs.InputData.{InputData}
 use Rattle.stream_model.specs.Watermarks.{empty_cut}
 use Rattle.stream_model.specs.PlanRows.{plan_rows, due_rows}
 use Rattle.leg_lists.specs.declared.fault.LegFault.{LegFault}
-use Rattle.leg_lists.specs.declared.fault.LegFault.TheVariants.{StopRange, Legs, Choices, Memory}
+use Rattle.leg_lists.specs.declared.fault.LegFault.TheVariants.{StopRange, Legs, Choices, Memory, Threads}
 use Rattle.leg_lists.specs.declared.leg.LegSpec.{LegSpec}
 use Rattle.leg_lists.specs.declared.stop.Stop.{Stop}
 use Rattle.leg_lists.specs.declared.stop.Stop.TheVariants.{Never, At}
@@ -41,3 +41,8 @@ IsLegsRefusal i legs lists Choices = (are_legs legs ≡ true) × ¬ (lists ≡ l
 IsLegsRefusal i legs lists StopRange = (are_legs legs ≡ true) × (lists ≡ length legs) × ¬ CanRunLegs i (empty_cut i.sources) legs
 IsLegsRefusal i legs lists Memory = (are_legs legs ≡ true) × (lists ≡ length legs)
 IsLegsRefusal i legs lists other = ⊥
+
+-- and why legs of a job that run on threads have none: the same without choices, or a thread was refused to one of them
+abbrev pub IsThreadsRefusal : InputData → List LegSpec → LegFault → Type 0
+IsThreadsRefusal i legs Threads = are_legs legs ≡ true
+IsThreadsRefusal i legs other = IsLegsRefusal i legs (length legs) other

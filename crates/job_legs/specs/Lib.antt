@@ -1,4 +1,5 @@
 pub mod Laws
 pub mod Reached
+pub mod Ways
 pub mod Running
 pub mod Ending

@@ -42,9 +42,9 @@ pub record IsLegGiven (p : PlanData) (i : InputData) (cut : List (List ℕ)) (nu
   pub delivered : AreRowsOf (due_between p i.sources cut (cut_to i (until_of stop))) rows
   pub saved : (end : Cut) → stop ≡ At end → CanRestart p i end.counts (number + 1) savepoint
 
--- why a leg from a cut gives nothing: it cannot stop so, or memory ran out
-abbrev pub IsStepRefusal : InputData → List (List ℕ) → Stop → LegFault → Type 0
-IsStepRefusal i cut stop fault = ((fault ≡ StopRange) × ¬ CanStop i.sources cut stop) ⊎ (fault ≡ Memory)
+-- why a leg from a cut gives nothing: it cannot stop so, or memory ran out, or what the way in which it is run may answer besides
+abbrev pub IsStepRefusal : (LegFault → Type 0) → InputData → List (List ℕ) → Stop → LegFault → Type 0
+IsStepRefusal other i cut stop fault = ((fault ≡ StopRange) × ¬ CanStop i.sources cut stop) ⊎ (fault ≡ Memory) ⊎ other fault
 
 abbrev pub rows_of : Finish → List Row
 rows_of (Ended rows) = rows

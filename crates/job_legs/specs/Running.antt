@@ -30,6 +30,6 @@ pub record HaveRun (p : PlanData) (i : InputData) (legs : List LegSpec) (r : Rea
   pub can : CanRunLegs i (empty_cut i.sources) legs
   pub after : IsAfter p i (last_stop legs) (length legs) r
 
--- why they did not: one of them cannot stop as it is to, or memory ran out
-abbrev pub IsRunRefusal : InputData → List LegSpec → LegFault → Type 0
-IsRunRefusal i legs fault = ((fault ≡ StopRange) × ¬ CanRunLegs i (empty_cut i.sources) legs) ⊎ (fault ≡ Memory)
+-- why they did not: one of them cannot stop as it is to, or memory ran out, or what the way in which they are run may answer besides
+abbrev pub IsRunRefusal : (LegFault → Type 0) → InputData → List LegSpec → LegFault → Type 0
+IsRunRefusal other i legs fault = ((fault ≡ StopRange) × ¬ CanRunLegs i (empty_cut i.sources) legs) ⊎ (fault ≡ Memory) ⊎ other fault

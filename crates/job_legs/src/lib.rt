@@ -3,5 +3,6 @@
 
 pub mod laws;
 mod running;
+mod ways;
 
-pub use running::{LegsEnd, run_legs_by, saved_bytes};
+pub use running::{LegsEnd, run_legs, run_legs_by, saved_bytes};

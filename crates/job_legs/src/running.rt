@@ -8,28 +8,34 @@ ghost use Rattle.leg_lists.specs.Requirements.{are_legs};
 ghost use Rattle.plan_model.specs.Rows.{AreRowsOf, pane_cmp, pane_of};
 ghost use Rattle.plan_model.specs.declared.spec.Pane.{Pane as PaneValue};
 ghost use Rattle.plan_model.specs.declared.spec.Row.{Row as RowValue};
-ghost use Rattle.redistribute.specs.Stopping.{CanStop};
 ghost use Rattle.restarts.specs.Laws.{IsStartAt};
 ghost use Rattle.savepoint_codec.specs.Layout.{savepoint_bytes};
 ghost use Rattle.stream_model.specs.InputData.{BelongsTo};
-ghost use Rattle.job_legs.specs.Reached.{HasSaved, IsAfter, IsAt, IsLegGiven, IsStepRefusal, rows_of, saved_of};
-ghost use Rattle.job_legs.specs.Ending.{IsJobEnd, IsLegsRefusal};
+ghost use Rattle.job_legs.specs.Reached.{HasSaved, rows_of, saved_of};
+ghost use Rattle.job_legs.specs.Ending.{IsJobEnd, IsLegsRefusal, IsThreadsRefusal};
 ghost use Rattle.job_legs.specs.Running.{HaveRun, IsRunRefusal};
+ghost use Rattle.job_legs.specs.Ways.{AnswersLeg, CanRunLeg, GivesLegs, TakesLegs};
 
 use crate::laws::{nothing_due_at_first, rows_add_up};
+use crate::ways::{ByChoices, InThreads, Way};
 use job_texts::sort_rows;
-use leg_lists::{Choice, LegFault, LegSpec, are_choices, are_legs};
+use leg_lists::{Choice, LegFault, LegSpec, Stop, are_choices, are_legs};
 use leg_runs::{Finish, run_leg_by};
 use logical_plan::Plan;
 use plain_data::Items;
+use plan_compiler::Scale;
 use plan_model::Row;
 use redistribute::Start;
 use restarts::restart;
 use savepoint_codec::{Savepoint, encode};
 use std::alloc::{AllocError, Global};
 use std::slice::Iter;
+use std::sync::Wait;
+use std::thread::Threads;
+use std::time::Clock;
 use stream_input::Input;
 use stream_model::laws::end_is_due;
+use thread_runner::{Gate, run_leg};
 use window_state::HashKeys;
 
 /// How far a job has come: the rows of its legs, in the order in which they came, and the savepoint that the last of them left,
@@ -57,28 +63,6 @@ fn next_start(
     }
 }
 
-/// What the leg gives that comes next.
-fn next_finish(
-    alloc: Global,
-    keys: HashKeys,
-    plan: &Plan,
-    input: &Input,
-    leg: LegSpec,
-    choices: &[Choice],
-    savepoint: &Option<Savepoint>,
-) -> Result<Finish, LegFault>
-    requires belongs { BelongsTo plan.now input.now }
-    requires scale { IsScale plan.now leg.scale }
-    requires saved { (cut : List (List ℕ)) × (number : ℕ) × HasSaved plan.now input.now cut number savepoint.now }
-    ensures { (cut : List (List ℕ)) (number : ℕ) → HasSaved plan.now input.now cut number savepoint.now → number < 2 ^ 63 → MatchResult result (IsLegGiven plan.now input.now cut number leg.stop) (IsStepRefusal input.now cut leg.stop) }
-{
-    let LegSpec { scale, stop } = leg;
-    let _columns = plan.columns();
-    let _sources = input.sources();
-    let start = next_start(alloc, plan, input, savepoint)?;
-    run_leg_by(alloc, keys, plan, input, &start, &scale, stop, choices)
-}
-
 /// Adds what a leg gave to what the legs before it came to.
 fn take_in(reached: &mut Reached, finish: Finish) -> Result<(), AllocError>
     ensures rows { OnOk result (reached.new.rows.items ≡ reached.old.rows.items ++ rows_of finish) }
@@ -93,61 +77,34 @@ fn take_in(reached: &mut Reached, finish: Finish) -> Result<(), AllocError>
     Ok(())
 }
 
-/// Runs the leg that comes next.
-fn go_on(
+/// Runs legs one after the other, each by a call of `run`.
+fn run_all<W: Way, F: FnMut(&Plan, &Input, &Start, &Scale, Stop) -> Result<Finish, LegFault>>(
     alloc: Global,
-    keys: HashKeys,
-    plan: &Plan,
-    input: &Input,
-    leg: LegSpec,
-    choices: &[Choice],
-    reached: &mut Reached,
-) -> Result<(), LegFault>
-    requires belongs { BelongsTo plan.now input.now }
-    requires scale { IsScale plan.now leg.scale }
-    requires at { (cut : List (List ℕ)) × (number : ℕ) × IsAt plan.now input.now cut number reached.old }
-    ensures goes { (cut : List (List ℕ)) (number : ℕ) → IsAt plan.now input.now cut number reached.old → number < 2 ^ 63 → OnOk result (CanStop input.now.sources cut leg.stop × IsAfter plan.now input.now leg.stop (number + 1) reached.new) }
-    ensures refused { (cut : List (List ℕ)) (number : ℕ) → IsAt plan.now input.now cut number reached.old → number < 2 ^ 63 → IfErr result (IsStepRefusal input.now cut leg.stop) }
-{
-    let _law = rows_add_up();
-    let _sources = input.sources();
-    let finish = next_finish(alloc, keys, plan, input, leg, choices, &reached.savepoint)?;
-    take_in(reached, finish)?;
-    Ok(())
-}
-
-/// The choices of the leg that comes next, of the lists that are left.
-fn next_choices<'c>(lists: &mut Iter<'c, Items<Choice>>) -> &'c [Choice] {
-    match lists.next() {
-        Some(list) => list.as_slice(),
-        None => &[],
-    }
-}
-
-/// Runs legs one after the other, each by the choices of its list.
-fn run_all(
-    alloc: Global,
-    keys: HashKeys,
     plan: &Plan,
     input: &Input,
     legs: Vec<LegSpec>,
-    choices: &[Items<Choice>],
+    mut run: F,
 ) -> Result<Reached, LegFault>
     requires belongs { BelongsTo plan.now input.now }
     requires scales { All (λ leg. IsScale plan.now leg.scale) legs.items }
     requires list { are_legs legs.items ≡ true }
-    ensures { MatchResult result (HaveRun plan.now input.now legs.items) (IsRunRefusal input.now legs.items) }
+    requires takes { TakesLegs F.pre }
+    requires gives { GivesLegs W.other_fault F.step }
+    ensures { MatchResult result (HaveRun plan.now input.now legs.items) (IsRunRefusal W.other_fault input.now legs.items) }
 {
-    let _law = nothing_due_at_first();
+    let _first = nothing_due_at_first();
+    let _add = rows_add_up();
+    let _columns = plan.columns();
     let _sources = input.sources();
     let mut reached = Reached {
         rows: Vec::new(alloc),
         savepoint: None,
     };
-    let mut lists = choices.iter();
     for leg in legs {
-        let choices = next_choices(&mut lists);
-        go_on(alloc, keys, plan, input, leg, choices, &mut reached)?;
+        let LegSpec { scale, stop } = leg;
+        let start = next_start(alloc, plan, input, &reached.savepoint)?;
+        let finish = run(plan, input, &start, &scale, stop)?;
+        take_in(&mut reached, finish)?;
     }
     Ok(reached)
 }
@@ -191,6 +148,36 @@ fn end_of(alloc: Global, reached: Reached) -> Result<LegsEnd, AllocError>
     Ok(LegsEnd { rows, savepoint })
 }
 
+/// What the legs of a list give that are run in a way.
+fn end_of_legs<W: Way, F: FnMut(&Plan, &Input, &Start, &Scale, Stop) -> Result<Finish, LegFault>>(
+    alloc: Global,
+    plan: &Plan,
+    input: &Input,
+    legs: Vec<LegSpec>,
+    run: F,
+) -> Result<LegsEnd, LegFault>
+    requires belongs { BelongsTo plan.now input.now }
+    requires scales { All (λ leg. IsScale plan.now leg.scale) legs.items }
+    requires list { are_legs legs.items ≡ true }
+    requires takes { TakesLegs F.pre }
+    requires gives { GivesLegs W.other_fault F.step }
+    ensures { MatchResult result (λ end. IsJobEnd plan.now input.now legs.items end.rows.items (option_map (λ b. b.items) end.savepoint)) (IsRunRefusal W.other_fault input.now legs.items) }
+{
+    let _columns = plan.columns();
+    let _sources = input.sources();
+    let _law = end_is_due();
+    let reached = run_all::<W, F>(alloc, plan, input, legs, run)?;
+    Ok(end_of(alloc, reached)?)
+}
+
+/// The choices of the leg that comes next, of the lists that are left.
+fn next_choices<'c>(lists: &mut Iter<'c, Items<Choice>>) -> &'c [Choice] {
+    match lists.next() {
+        Some(list) => list.as_slice(),
+        None => &[],
+    }
+}
+
 /// Runs the legs of a job one after the other, each from what the one before left and the first from nothing, and gives their
 /// rows together. The panes of the windows are hashed by the keys. Each leg has a list of choices, which say what steps are made
 /// first; what the legs give does not hang on them.
@@ -215,15 +202,67 @@ pub fn run_legs_by(
     ensures ends { MatchResult result (λ end. IsJobEnd plan.now input.now legs.items end.rows.items (option_map (λ b. b.items) end.savepoint)) (IsLegsRefusal input.now legs.items (length choices.now)) }
     ensures lists { OnOk result (length choices.now ≡ length legs.items) }
 {
-    let _columns = plan.columns();
-    let _sources = input.sources();
-    let _law = end_is_due();
     if !are_legs(&legs) {
         return Err(LegFault::Legs);
     }
     if !are_choices(choices, legs.len()) {
         return Err(LegFault::Choices);
     }
-    let reached = run_all(alloc, keys, plan, input, legs, choices)?;
-    Ok(end_of(alloc, reached)?)
+    let mut lists = choices.iter();
+    end_of_legs::<ByChoices, _>(
+        alloc,
+        plan,
+        input,
+        legs,
+        |plan: &Plan, input: &Input, start: &Start, scale: &Scale, stop: Stop| -> Result<
+            Finish,
+            LegFault,
+        >
+            requires { CanRunLeg plan.now input.now start.now scale.now }
+            ensures { AnswersLeg (λ fault. ⊥) plan.now input.now start.now stop result }
+        {
+            let choices = next_choices(&mut lists);
+            run_leg_by(alloc, keys, plan, input, start, scale, stop, choices)
+        },
+    )
+}
+
+/// Runs the legs of a job one after the other, as `run_legs_by` does, but each in a thread for each of its tasks. A task passes
+/// the gate before each of its steps; what the legs give does not hang on which steps it holds up.
+///
+/// The input and the scales were read by the plan.
+///
+/// # Errors
+///
+/// `Legs` where there is no leg, or more than 1,024, or one before the last does not stop; else `StopRange` where a leg cannot
+/// stop as it is to, from where the one before stopped; `Threads` where a thread was refused; `Memory` where memory runs out.
+pub fn run_legs<R: Threads + Wait + Clock + Sync, G: Gate>(
+    rt: &R,
+    alloc: Global,
+    keys: HashKeys,
+    plan: &Plan,
+    input: &Input,
+    legs: Vec<LegSpec>,
+    gate: &G,
+) -> Result<LegsEnd, LegFault>
+    requires belongs { BelongsTo plan.now input.now }
+    requires scales { All (λ leg. IsScale plan.now leg.scale) legs.items }
+    ensures { MatchResult result (λ end. IsJobEnd plan.now input.now legs.items end.rows.items (option_map (λ b. b.items) end.savepoint)) (IsThreadsRefusal input.now legs.items) }
+{
+    if !are_legs(&legs) {
+        return Err(LegFault::Legs);
+    }
+    end_of_legs::<InThreads, _>(
+        alloc,
+        plan,
+        input,
+        legs,
+        |plan: &Plan, input: &Input, start: &Start, scale: &Scale, stop: Stop| -> Result<
+            Finish,
+            LegFault,
+        >
+            requires { CanRunLeg plan.now input.now start.now scale.now }
+            ensures { AnswersLeg (λ fault. fault ≡ LegFault.Threads) plan.now input.now start.now stop result }
+        { run_leg(rt, alloc, keys, plan, input, start, scale, stop, gate) },
+    )
 }

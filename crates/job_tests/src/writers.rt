@@ -1,17 +1,13 @@
 //! Writers of which a clause says nothing, since what they hold is known after a flush alone, and one that is full.
 
-use job::{HashKeys, JobFault, job_group, job_layout, job_run};
+use crate::jobs::{INPUT, PLAN, SCALE};
+use job::{HashKeys, JobFault, OpenGate, job_group, job_layout, job_run};
 use std::io::{Error, ErrorKind, Result as IoResult, Write};
 use std::random::RandomSource;
+use std::sync::Wait;
 use std::test::Fail;
-
-const PLAN: &str =
-    r#"{"columns":3,"maxParallelism":128,"time":0,"key":1,"sources":[{"uid":"s","partitions":2}],"window":{"uid":"w","size":10,"aggregates":[{"fn":"count"},{"fn":"sum","column":2},{"fn":"least","column":2},{"fn":"greatest","column":2}]}}"#;
-
-const INPUT: &str =
-    r#"{"s":[[{"rows":[[1,1,5],[12,1,7]]},{"watermark":9},{"rows":[[15,0,-3]]}],[{"rows":[[3,0,4]]},{"watermark":11},{"rows":[[13,1,2]]}]]}"#;
-
-const SCALE: &str = r#"{"ring":4,"operators":{"s":{"parallelism":1},"w":{"parallelism":1}}}"#;
+use std::thread::Threads;
+use std::time::Clock;
 
 /// What is written of a job, of its layout and of a group.
 const TEXTS: &str =
@@ -53,13 +49,22 @@ impl Write for Buffering {
 
 /// Why a job, its layout and a group are not written, if they are not.
 fn faults_of(
-    rt: &(impl AllocGlobal + RandomSource),
+    rt: &(impl AllocGlobal + RandomSource + Threads + Wait + Clock + Sync),
     out: &mut Buffering,
 ) -> Result<[Option<JobFault>; 3], Fail> {
     let alloc = rt.alloc();
     let keys = HashKeys::random(rt)?;
     let input = Vec::from_slice(alloc, INPUT.as_bytes())?;
-    let rows = job_run(alloc, keys, PLAN.as_bytes(), input, None, out);
+    let rows = job_run(
+        rt,
+        alloc,
+        keys,
+        PLAN.as_bytes(),
+        input,
+        None,
+        &OpenGate,
+        out,
+    );
     let layout = job_layout(alloc, PLAN.as_bytes(), SCALE.as_bytes(), out);
     let group = job_group(alloc, "0", "128", "2", out);
     Ok([rows.err(), layout.err(), group.err()])
@@ -84,13 +89,22 @@ fn a_flush_that_fails_is_a_failed_write(rt: HostRuntime) -> Result<(), Fail> {
 
 /// Why a job is not written into so little room.
 fn fault_in(
-    rt: &(impl AllocGlobal + RandomSource),
+    rt: &(impl AllocGlobal + RandomSource + Threads + Wait + Clock + Sync),
     room: &mut [u8],
 ) -> Result<Option<JobFault>, Fail> {
     let mut out = room;
     let keys = HashKeys::random(rt)?;
     let input = Vec::from_slice(rt.alloc(), INPUT.as_bytes())?;
-    let said = job_run(rt.alloc(), keys, PLAN.as_bytes(), input, None, &mut out);
+    let said = job_run(
+        rt,
+        rt.alloc(),
+        keys,
+        PLAN.as_bytes(),
+        input,
+        None,
+        &OpenGate,
+        &mut out,
+    );
     Ok(said.err())
 }
 

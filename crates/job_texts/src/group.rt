@@ -3,7 +3,7 @@
 ghost use Rattle.std.specs.Prelude.{◌≡◌, ◌<◌, ◌≤◌, IfOk, IfSome, MatchResult, string_bytes};
 ghost use Rattle.std.specs.Char.{is_ascii_digit};
 ghost use Rattle.std.specs.List.{list_all};
-ghost use Rattle.job_texts.specs.Group.{are_digits, count_said, without_hyphen, key_said, group_said, group_line, TellsGroup};
+ghost use Rattle.job_texts.specs.Group.{are_digits, number_said, without_hyphen, key_said, group_said, group_line, TellsGroup};
 ghost use Rattle.job_texts.specs.Tells.{KeepsWriter};
 
 use crate::fault::JobFault;
@@ -25,16 +25,16 @@ pub(crate) fn are_digits(text: &[u8], most: usize) -> bool
     !text.is_empty() && text.len() <= most && is_all_digits(text)
 }
 
-/// A number of 1 to 5 digits, from 1 to `most`.
-fn count_of(text: &str, most: u32) -> Option<u32>
-    ensures said { result ≡ count_said most text.now }
-    ensures within { IfSome result (λ count. (1 ≤ count) × (count ≤ most)) }
+/// The number from `least` to `most` that a word of 1 to 5 digits spells.
+pub fn read_count(text: &str, least: u32, most: u32) -> Option<u32>
+    ensures said { result ≡ number_said 5 least most text.now }
+    ensures within { IfSome result (λ count. (least ≤ count) × (count ≤ most)) }
 {
     if !are_digits(text.as_bytes(), 5) {
         return None;
     }
     match text.parse::<u32>() {
-        Ok(count) if 1 <= count && count <= most => Some(count),
+        Ok(count) if least <= count && count <= most => Some(count),
         _ => None,
     }
 }
@@ -85,8 +85,8 @@ pub fn job_group<W: Write>(
     ensures kept { KeepsWriter result (W.contents out.old) (W.contents out.new) }
 {
     let key = key_of(key).ok_or(JobFault::Number)?;
-    let groups = count_of(max, MOST_GROUPS).ok_or(JobFault::Number)?;
-    let subtasks = count_of(par, groups.min(MOST_SUBTASKS)).ok_or(JobFault::Number)?;
+    let groups = read_count(max, 1, MOST_GROUPS).ok_or(JobFault::Number)?;
+    let subtasks = read_count(par, 1, groups.min(MOST_SUBTASKS)).ok_or(JobFault::Number)?;
     let max = MaxParallelism::new(groups).ok_or(JobFault::Number)?;
     let par = Parallelism::new(subtasks, max).ok_or(JobFault::Number)?;
     let group = group_of(key, max);

@@ -7,9 +7,14 @@ use command_line::{outcome, status};
 use std::process::ExitCode;
 use std::random::RandomSource;
 use std::rt::{Env, Files};
+use std::sync::Wait;
+use std::thread::Threads;
+use std::time::Clock;
 
 /// Does what the program's words ask for, and answers the status to end with.
-fn exit_status<R: Files + Print + Eprint + Env + RandomSource + AllocGlobal>(rt: &R) -> u8
+fn exit_status<
+    R: Files + Print + Eprint + Env + RandomSource + Threads + Wait + Clock + Sync + AllocGlobal,
+>(rt: &R) -> u8
     ensures { EndsWith result }
 {
     let outcome = outcome(rt);

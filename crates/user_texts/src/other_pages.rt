@@ -3,7 +3,7 @@
 use crate::page::FaultPage;
 
 /// The pages of all faults but those of a plan, of an input and of an import, in the order of docs/FAULTS.md.
-pub const OTHER_PAGES: [FaultPage<'static>; 33] = [
+pub const OTHER_PAGES: [FaultPage<'static>; 34] = [
     (
         "C1",
         r#"C1 Cut (status 2)
@@ -25,10 +25,13 @@ Write it as `2,2/5`, for two partitions of the first source and one of the secon
 
 A word of `group` is no number in its range: KEY is a hyphen or none and 1 to 19 digits, of 64 bits; MAX has 1 to 5
 digits, from 1 to 32768; PAR has 1 to 5 digits, from 1 to 64 and at most MAX. A `+`, a space, a point or an empty word
-is none. `import` says it of `--bound`, digits alone, below 2^64, and of `--rows`, from 1 to 4096, with the word.
+is none. `import` says it of `--bound`, digits alone, below 2^64, and of `--rows`, from 1 to 4096, with the word. `run`
+says it of `--parallelism` where it is not 1 to 5 digits, and beside a list of legs, each of which has its own scale.
 
 ```console
 $ streamjob group 7 128 65
+C2 Number
+$ streamjob run plan.json input.json --parallelism two
 C2 Number
 $ streamjob import plan.json new.json at,key calls=calls.csv --rows 5000
 C2 Number --rows: "5000" is no whole number from 1 to 4096
@@ -146,7 +149,7 @@ Give each operator of the plan its parallelism.
         r#"S5 Parallelism (status 3)
 
 A `parallelism` is not from 1 to 64, or is above the plan's `maxParallelism`; this holds of each operator, the sources
-too.
+too. `run` says it of the number of `--parallelism`.
 
 ```json scale.json
 {"ring": 16, "operators": {"calls": {"parallelism": 1}, "usage": {"parallelism": 65}}}
@@ -173,6 +176,8 @@ Lower it.
         r#"S7 Tasks (status 3)
 
 The layout would have over 256 tasks: the subtasks of each stage, and one of the sink. Chained operators count once.
+With `run --parallelism N` each source has N subtasks, but no more than partitions, the window N, and each filter as
+many as the source with the most.
 
 ```json plan.json
 {"columns": 2, "maxParallelism": 128, "time": 0, "key": 1,
@@ -536,6 +541,17 @@ L6 Choices
 
 Here are two legs, so two lists: `[[1], []]`. A leg without choices has an empty one. docs/FORMATS.md has the form under
 Choices.
+"#,
+    ),
+    (
+        "L7",
+        r#"L7 Threads (status 4)
+
+The system refused a thread. `run` and `leg` run each subtask of a stage in a thread of its own, and the sink in one: a
+limit of processes (`ulimit -u`, a container's) or of addresses (`ulimit -v`) has no room for them. It says nothing of
+the files, and nothing was written.
+
+Raise the limit, or run with fewer subtasks: the rows are the same. `simulate` needs no thread but the program's own.
 "#,
     ),
     (

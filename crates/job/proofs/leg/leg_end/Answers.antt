@@ -7,7 +7,7 @@ use Rattle.job_texts.specs.Text.{text_of_rows}
 use Rattle.job.proofs.leg.leg_end.Goals as goal
 
 pub returns : goal.returns
-returns c =
+returns g c =
     let i = c.args.input.now in
     let s = c.args.start.now in
     let due = due_between c.args.plan.now i.sources (offsets_of s) (cut_to i (until_of c.args.stop)) in (

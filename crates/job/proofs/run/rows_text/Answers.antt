@@ -1,12 +1,15 @@
-use Rattle.std.proofs.Common.{◌∙◌, ap}
-use Rattle.stream_model.specs.PlanRows.{plan_rows}
-use Rattle.job_texts.specs.Text.{text_of_rows}
+use Rattle.std.proofs.Common.{Global, None, Ok, string_bytes, subst, sym}
+use Rattle.job_texts.specs.declared.fault.JobFault.TheVariants.{Memory}
+use Rattle.job.specs.Ends.{Ends, OnThreads}
+use Rattle.job.specs.Run.{CanRunSo, IsRunText, run_job}
+use Rattle.job.proofs.LegAnswers.{err_is}
+use Rattle.job.proofs.RunAnswers.{alone}
 use Rattle.job.proofs.run.rows_text.Goals as goal
 
+pub returns-in_err-scale : goal.returns-in_err-scale
+returns-in_err-scale g c =
+    let r = c.from_residual in
+    subst (Ends OnThreads CanRunSo (λ job text. IsRunText job (string_bytes {Z = Global} text)) (Ok (run_job c.args.plan.now c.args.input.now None))) (sym (err_is r.result Memory r.ensures.0 r.ensures.1)) tt
+
 pub returns : goal.returns
-returns c = record {
-  rows = c.sort_rows.new.rows.items;
-  are = c.in_ok-sort_rows.ensures.same (plan_rows c.args.plan.now c.args.input.now.sources) c.in_ok-rows.ensures;
-  ordered = c.in_ok-sort_rows.ensures.ordered;
-  lines = c.in_ok-text_of_rows.ensures ∙ ap text_of_rows c.deref.ensures.value;
-}
+returns g c = alone string_bytes c.args.plan.now c.args.input.now c.whole_text.result c.whole_text.ensures

@@ -1,26 +1,13 @@
-use Rattle.std.proofs.Common.{◌∙◌, ap, sym}
+use Rattle.std.proofs.Common.{◌∙◌, ap, sym, length, option_map}
+use Rattle.std.proofs.lemmas.Bool.{eqb-true}
 use Rattle.leg_lists.specs.Requirements.{are_legs}
-use Rattle.leg_lists.specs.Stops.{until_of}
-use Rattle.stream_model.specs.PlanRows.{due_rows}
-use Rattle.dataflow_laws.specs.Compiled.{cut_to}
-use Rattle.job_legs.specs.Running.{last_stop}
-use Rattle.job_legs.proofs.Ended.{come_to}
+use Rattle.job_legs.specs.Ending.{IsJobEnd}
+use Rattle.job_legs.proofs.Refusals.{by_choices}
 use Rattle.job_legs.proofs.running.run_legs_by.Goals as goal
 
 pub returns-clause-ends : goal.returns-clause-ends
 returns-clause-ends c =
-    let p = c.args.plan.now in
-    let i = c.args.input.now in
     let legs = c.args.legs.items in
-    let run = c.in_ok-reached.ensures in
-    let given = c.in_ok-end_of.ensures in
-    let rows = given.rows (due_rows p i.sources (cut_to i (until_of (last_stop legs)))) run.after.rows in
-    record {
-      list = ap are_legs (sym c.deref.ensures.value) ∙ sym c.are_legs.ensures ∙ c.if-not-are_legs.false;
-      can = run.can;
-      rows = come_to c.end_is_due-law.ensures p i (last_stop legs) c.in_ok-end_of.field-0.rows.items c.columns-columns.ensures.sound c.sources-sources.ensures.sound c.requires.belongs rows.0;
-      ordered = rows.1;
-      left = c.in_ok-reached.reached.savepoint;
-      is_left = run.after.saved;
-      bytes = given.savepoint;
-    }
+    by_choices (λ end. IsJobEnd c.args.plan.now c.args.input.now legs end.rows.items (option_map (λ b. b.items) end.savepoint)) c.args.input.now legs
+    (ap are_legs (sym c.deref.ensures.value) ∙ sym c.are_legs.ensures ∙ c.if-not-are_legs.false) (length c.args.choices.now)
+    (eqb-true (length c.args.choices.now) c.len.result (sym c.are_choices.ensures ∙ c.if-not-are_choices.false) ∙ (c.len.ensures ∙ c.args.legs.ok.0)) c.end_of_legs.result c.end_of_legs.ensures

@@ -1,0 +1,24 @@
+use Rattle.leg_lists.specs.Stops.{until_of}
+use Rattle.stream_model.specs.PlanRows.{due_rows}
+use Rattle.dataflow_laws.specs.Compiled.{cut_to}
+use Rattle.job_legs.specs.Running.{last_stop}
+use Rattle.job_legs.proofs.Ended.{come_to}
+use Rattle.job_legs.proofs.running.end_of_legs.Goals as goal
+
+pub returns : goal.returns
+returns g c =
+    let p = c.args.plan.now in
+    let i = c.args.input.now in
+    let legs = c.args.legs.items in
+    let run = c.in_ok-reached.ensures in
+    let given = c.in_ok-end_of.ensures in
+    let rows = given.rows (due_rows p i.sources (cut_to i (until_of (last_stop legs)))) run.after.rows in
+    record {
+      list = c.requires.list;
+      can = run.can;
+      rows = come_to c.end_is_due-law.ensures p i (last_stop legs) c.in_ok-end_of.field-0.rows.items c.columns-columns.ensures.sound c.sources-sources.ensures.sound c.requires.belongs rows.0;
+      ordered = rows.1;
+      left = c.in_ok-reached.reached.savepoint;
+      is_left = run.after.saved;
+      bytes = given.savepoint;
+    }
