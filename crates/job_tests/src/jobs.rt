@@ -8,4 +8,12 @@ pub const INPUT: &str =
 
 pub const SCALE: &str = r#"{"ring":4,"operators":{"s":{"parallelism":1},"w":{"parallelism":1}}}"#;
 
+/// A leg with two subtasks of the source.
+pub const SCALE_OF_TWO: &str =
+    r#"{"ring":4,"operators":{"s":{"parallelism":2},"w":{"parallelism":3}}}"#;
+
+/// A list of that leg.
+pub const LEG_OF_TWO: &str =
+    r#"[{"scale":{"ring":4,"operators":{"s":{"parallelism":2},"w":{"parallelism":3}}}}]"#;
+
 pub const ROWS: &str = "0 10 0 1 4 4 4\n0 10 1 1 5 5 5\n10 20 0 1 -3 -3 -3\n10 20 1 2 9 2 7\n";

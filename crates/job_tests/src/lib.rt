@@ -8,6 +8,8 @@ mod jobs;
 #[cfg(test)]
 mod legs;
 #[cfg(test)]
+mod meeting;
+#[cfg(test)]
 mod parallel;
 #[cfg(test)]
 mod writers;
