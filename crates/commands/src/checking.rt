@@ -11,7 +11,7 @@ ghost use Rattle.commands.specs.Checking.{AnswersCheck, ChecksPart, ChecksParts,
 use crate::files::file;
 use fault_places::{check_input, check_plan, check_scale};
 use job::JobFault;
-use logical_plan::Plan;
+use plan_model::Plan;
 use std::io::writer;
 use std::rt::Files;
 use text_warnings::{TextKind, warn};

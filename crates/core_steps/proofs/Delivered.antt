@@ -23,9 +23,9 @@ use Rattle.dataflow_laws.proofs.Facts.{worlds_are_histories, compiled_leg_delive
 use Rattle.layout_rules.specs.Rules.{IsCompiled}
 use Rattle.layout_rules.proofs.Facts.{compiled_ever}
 use Rattle.plan_compiler.specs.LayoutData.{LayoutData}
-use Rattle.leg_lists.specs.declared.stop.Stop.{Stop}
-use Rattle.leg_lists.specs.declared.stop.Stop.TheVariants.{Never}
-use Rattle.leg_lists.specs.Stops.{until_of}
+use Rattle.legs.specs.declared.stop.Stop.{Stop}
+use Rattle.legs.specs.declared.stop.Stop.TheVariants.{Never}
+use Rattle.legs.specs.Stops.{until_of}
 use Rattle.input_flow.specs.InputEntries.{input_of, counts_at}
 use Rattle.input_flow.proofs.Facts.{empty_counts}
 use Rattle.redistribute.specs.StartData.{StartData, offsets_of}
@@ -59,14 +59,14 @@ module _ (g : GivenData) (tasks : List TaskData) (sound : IsSound g) (at : AreAt
   cut = cut_to g.input (until_of g.stop)
 
   snapshot_at : HasSnapshot g.plan g.input g.start → HaveCut g.plan g.input (layout_in g) (start_in g) (offsets_of g.start)
-  snapshot_at has = let given = sound.given in (tasks_have_snapshot g.plan g.layout g.input g.start g.stop given.plan given.laid_out given.belongs given.starts has).0
+  snapshot_at has = let given = sound.given in (tasks_have_snapshot g.plan g.layout g.input g.start [] g.stop given.plan given.laid_out given.belongs given.starts has).0
 
   -- what a leg delivers and leaves whose start has the snapshot of its cut
   leg : HasSnapshot g.plan g.input g.start
       → AreRowsOf (due_between g.plan g.input.sources (offsets_of g.start) cut) (at.history.end (layout_in g).sink).rows × HaveCut g.plan g.input (layout_in g) at.history.end cut × HaveMarks (input_of g.plan g.input) (layout_in g) at.history.end (counts_at g.plan cut)
   leg has =
       let given = sound.given in
-      compiled_leg_delivers g.plan given.laid_out.scale g.input g.start.number (offsets_of g.start) (until_of g.stop) g.layout.stages (start_in g) given.plan given.laid_out.fits (compiled g tasks sound at) given.input given.orderly given.belongs
+      compiled_leg_delivers g.plan given.laid_out.scale g.input g.start.number (offsets_of g.start) [] (until_of g.stop) g.layout.stages (start_in g) given.plan given.laid_out.fits (compiled g tasks sound at) given.input given.orderly given.belongs
       given.starts.cut (end_is_cut g.input (offsets_of g.start) g.stop given.stops) (never_asked g.stop) sound.start (snapshot_at has) at.history at.complete
 
   pub delivers : HasSnapshot g.plan g.input g.start → AreRowsOf (due_between g.plan g.input.sources (offsets_of g.start) cut) (rows_of g (state_at g tasks))
@@ -78,7 +78,7 @@ module _ (g : GivenData) (tasks : List TaskData) (sound : IsSound g) (at : AreAt
       let all = leg has in
       let here = subst (λ (f : ℕ → State). HaveCut g.plan g.input (layout_in g) f cut) at.ends all.1 in
       let marks = subst (λ (f : ℕ → State). HaveMarks (input_of g.plan g.input) (layout_in g) f (counts_at g.plan cut)) at.ends all.2 in
-      tasks_save_the_cut g.plan g.layout g.input g.start.number (until_of g.stop) cut (state_at g tasks) (g.start.number + 1) given.plan given.laid_out given.belongs (end_is_cut g.input (offsets_of g.start) g.stop given.stops) here marks
+      tasks_save_the_cut g.plan g.layout g.input g.start.number [] (until_of g.stop) cut (state_at g tasks) (g.start.number + 1) given.plan given.laid_out given.belongs (end_is_cut g.input (offsets_of g.start) g.stop given.stops) here marks
 
   -- how such a leg has ended
   pub end_of : (finish : Finish) → finish ≡ finish_of g (state_at g tasks) → IsEndOf g.plan g.input g.start g.stop finish
@@ -90,12 +90,12 @@ module _ (g : GivenData) (tasks : List TaskData) (sound : IsSound g) (at : AreAt
     saved = λ end stops has. subst (λ (x : Stop). IsSavedAt g.plan g.input (cut_to g.input (until_of x)) (g.start.number + 1) (savepoint_of g (state_at g tasks))) stops (saves has);
   }
 
-  all_rows : (n : ℕ) → n ≡ 0 → (start : ℕ → State) → let a = layout_to g.plan g.input n ToEnd g.layout.stages in IsLegStart g.plan a start → HaveNothing (input_of g.plan g.input) a start → (h : History g.plan a start) → IsComplete h
+  all_rows : (n : ℕ) → n ≡ 0 → (start : ℕ → State) → let a = layout_to g.plan g.input n [] ToEnd g.layout.stages in IsLegStart g.plan a start → HaveNothing (input_of g.plan g.input) a start → (h : History g.plan a start) → IsComplete h
       → AreRowsOf (plan_rows g.plan g.input.sources) (h.end a.sink).rows
   all_rows n e =
       let given = sound.given in
-      subst (λ m. (start : ℕ → State) → let a = layout_to g.plan g.input m ToEnd g.layout.stages in IsLegStart g.plan a start → HaveNothing (input_of g.plan g.input) a start → (h : History g.plan a start) → IsComplete h → AreRowsOf (plan_rows g.plan g.input.sources) (h.end a.sink).rows) (sym e)
-      (λ start opens none h done. compiled_leg_delivers_all g.plan given.laid_out.scale g.input g.layout.stages start given.plan given.laid_out.fits (compiled g tasks sound at) given.input given.orderly given.belongs opens none h done)
+      subst (λ m. (start : ℕ → State) → let a = layout_to g.plan g.input m [] ToEnd g.layout.stages in IsLegStart g.plan a start → HaveNothing (input_of g.plan g.input) a start → (h : History g.plan a start) → IsComplete h → AreRowsOf (plan_rows g.plan g.input.sources) (h.end a.sink).rows) (sym e)
+      (λ start opens none h done. compiled_leg_delivers_all g.plan given.laid_out.scale g.input [] g.layout.stages start given.plan given.laid_out.fits (compiled g tasks sound at) given.input given.orderly given.belongs opens none h done)
 
   -- no window has anything where a leg starts from nothing
   nothing_here : IsFromNothing g.input g.start → HaveNothing (input_of g.plan g.input) (layout_in g) (start_in g)
@@ -147,9 +147,9 @@ world_so_far w world has q =
     let given = world.sound.given in
     let led = led_by w.has_failed w world.sound world.reached in
     let compiled : IsCompiled g.plan given.laid_out.scale g.layout.stages = subst (IsCompiled g.plan given.laid_out.scale) (sym (ap (λ (x : LayoutData). x.stages) given.laid_out.is)) (compiled_ever g.plan given.laid_out.scale) in
-    let begins = (tasks_have_snapshot g.plan g.layout g.input g.start g.stop given.plan given.laid_out given.belongs given.starts has).0 in
+    let begins = (tasks_have_snapshot g.plan g.layout g.input g.start [] g.stop given.plan given.laid_out given.belongs given.starts has).0 in
     let same = ap (filter (row_is_at q)) (sym led.1) in
-    elim (compiled_leg_so_far g.plan given.laid_out.scale g.input g.start.number (offsets_of g.start) (until_of g.stop) g.layout.stages (start_in g) given.plan given.laid_out.fits compiled given.input given.orderly given.belongs
+    elim (compiled_leg_so_far g.plan given.laid_out.scale g.input g.start.number (offsets_of g.start) [] (until_of g.stop) g.layout.stages (start_in g) given.plan given.laid_out.fits compiled given.input given.orderly given.belongs
     given.starts.cut (end_is_cut g.input (offsets_of g.start) g.stop given.stops) world.sound.start begins led.0 q) [
       | inl e ↦ inl (same ∙ e)
       | inr e ↦ inr (same ∙ e)

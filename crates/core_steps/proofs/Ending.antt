@@ -31,15 +31,15 @@ use Rattle.dataflow_laws.specs.Compiled.{cut_to, layout_to}
 use Rattle.dataflow_laws.specs.Owned.{HaveOwnPanes}
 use Rattle.dataflow_laws.specs.World as flow
 use Rattle.dataflow_laws.proofs.Facts.{worlds_are_histories, few_before, compiled_leg_keeps_panes}
-use Rattle.leg_lists.specs.declared.stop.Stop.{Stop}
-use Rattle.leg_lists.specs.declared.stop.Stop.TheVariants.{Never, At}
-use Rattle.leg_lists.specs.Stops.{until_of}
+use Rattle.legs.specs.declared.stop.Stop.{Stop}
+use Rattle.legs.specs.declared.stop.Stop.TheVariants.{Never, At}
+use Rattle.legs.specs.Stops.{until_of}
 use Rattle.redistribute.specs.StartData.{StartData, offsets_of}
 use Rattle.redistribute.specs.Stopping.{CanStop}
 use Rattle.redistribute.proofs.Facts.{early, places, has, owns, tasks_have_own_panes}
 use Rattle.task_steps.specs.TaskData.{TaskData}
 use Rattle.savepoint_codec.specs.declared.savepoint.Contents.{Contents}
-use Rattle.leg_lists.specs.declared.cut.Cut.{Cut}
+use Rattle.legs.specs.declared.cut.Cut.{Cut}
 use Rattle.leg_tasks.specs.Leaving.{CanLeave, CanSave, HaveStates, savepoint_left}
 use Rattle.core_steps.specs.Given.{GivenData, layout_in, start_in}
 use Rattle.core_steps.specs.World.{WorldData, world_in, state_at, IsSound, IsWorld}
@@ -73,8 +73,8 @@ module _ (g : GivenData) (tasks : List TaskData) (sound : IsSound g) (at : AreAt
   own_panes : HaveOwnPanes l (state_at g tasks) MOST_RECORDS
   own_panes u lo hi q a here =
       let given = sound.given in
-      let opens = tasks_have_own_panes g.plan g.layout g.input g.start g.stop given.plan given.laid_out given.belongs given.starts in
-      let kept = compiled_leg_keeps_panes g.plan given.laid_out.scale g.input g.start.number (offsets_of g.start) (until_of g.stop) stages (start_in g) given.plan given.laid_out.fits compiled given.input given.orderly given.belongs
+      let opens = tasks_have_own_panes g.plan g.layout g.input g.start [] g.stop given.plan given.laid_out given.belongs given.starts in
+      let kept = compiled_leg_keeps_panes g.plan given.laid_out.scale g.input g.start.number (offsets_of g.start) [] (until_of g.stop) stages (start_in g) given.plan given.laid_out.fits compiled given.input given.orderly given.belongs
       given.starts.cut (end_is_cut g.input (offsets_of g.start) g.stop given.stops) (never_asked g.stop) sound.start opens.0 opens.1 at.history at.complete in
       let one = kept.2 u lo hi q a (subst (λ (f : ℕ → State). get (f u).windows q ≡ Some a) (sym at.ends) here) in
       let few = few_before g.input (cut_to g.input (until_of g.stop)) given.input in
@@ -105,14 +105,14 @@ module _ (g : GivenData) (tasks : List TaskData) (sound : IsSound g) (at : AreAt
   partitions_read =
       let given = sound.given in
       let c = given.laid_out.scale in
-      by_scale (λ m. (t : ℕ) → task_role m.stages t ≡ role.Source → length (partitions_of (partition_counts g.plan) m.stages t) ≡ ((layout_to g.plan g.input g.start.number (until_of g.stop) m.stages).task t).inputs)
+      by_scale (λ m. (t : ℕ) → task_role m.stages t ≡ role.Source → length (partitions_of (partition_counts g.plan) m.stages t) ≡ ((layout_to g.plan g.input g.start.number [] (until_of g.stop) m.stages).task t).inputs)
       (λ t h. places g.plan c (entries_of g.input) (leg_of g.start.number [] (until_of g.stop) (entries_of g.input).size) given.plan given.laid_out.fits (compiled_ever g.plan c) t h)
 
   groups_are : (u : ℕ) (key : ℤ) → l.before ≤ u → u < l.sink → l.owner key ≡ u → Has (groups_of g.plan.max stages u) (key_group g.plan.max key)
   groups_are =
       let given = sound.given in
       let c = given.laid_out.scale in
-      by_scale (λ m. let a = layout_to g.plan g.input g.start.number (until_of g.stop) m.stages in (u : ℕ) (key : ℤ) → a.before ≤ u → u < a.sink → a.owner key ≡ u → Has (groups_of g.plan.max m.stages u) (key_group g.plan.max key))
+      by_scale (λ m. let a = layout_to g.plan g.input g.start.number [] (until_of g.stop) m.stages in (u : ℕ) (key : ℤ) → a.before ≤ u → u < a.sink → a.owner key ≡ u → Has (groups_of g.plan.max m.stages u) (key_group g.plan.max key))
       (λ u key lo hi own. has (groups_of g.plan.max (stages_of g.plan c) u) (key_group g.plan.max key) (owns g.plan c u key given.plan given.laid_out.fits lo hi ∙ eq-eqb _ u own))
 
   pub can_save : CanSave g.plan stages tasks

@@ -5,9 +5,10 @@ use Rattle.layout_rules.specs.Rules.{IsCompiled}
 use Rattle.layout_rules.proofs.Facts.{compiled_ever, compiled_is_layout, sink_is_last}
 use Rattle.plan_compiler.specs.LayoutData.{LayoutData}
 use Rattle.input_flow.specs.InputEntries.{entries_of}
-use Rattle.leg_lists.specs.Stops.{until_of}
+use Rattle.legs.specs.Stops.{until_of}
 use Rattle.dataflow_model.specs.Leg.{leg_of}
-use Rattle.redistribute.proofs.Facts.{tasks_open}
+use Rattle.redistribute.specs.StartData.{offsets_of}
+use Rattle.redistribute.proofs.Facts.{tasks_open, no_saves}
 use Rattle.core_steps.specs.Given.{GivenData, layout_in}
 use Rattle.core_steps.specs.World.{IsGiven, IsSound}
 
@@ -22,7 +23,7 @@ sound g given =
       given = given;
       layout = all.0;
       count = sink_is_last g.plan c g.layout.stages plan laid.fits compiled;
-      start = tasks_open g.plan g.layout g.input g.start g.stop plan laid given.belongs given.starts given.stops;
+      start = tasks_open g.plan g.layout g.input g.start [] g.stop plan laid given.belongs given.starts given.stops (no_saves g.input.sources (offsets_of g.start) g.stop);
       input = input_is_admitted g.plan g.input (leg_of g.start.number [] (until_of g.stop) (entries_of g.input).size) (layout_in g) given.input given.belongs all.1;
       capacity = subst (λ n. 0 < n) (sym (ap (λ (l : LayoutData). l.capacity) laid.is)) laid.fits.capacity.some;
     }

@@ -5,6 +5,8 @@ use Rattle.std.proofs.lemmas.Bool.{cases_eq, eq-eqb, ne_eqb, false≢true}
 use Rattle.std.proofs.lemmas.Grind.{reverse_onto}
 use Rattle.plan_model.specs.PlanData.{PlanData}
 use Rattle.dataflow_model.specs.declared.message.Message.{Message}
+use Rattle.dataflow_model.specs.declared.message.Message.TheVariants as message
+use Rattle.std.specs.List.{list_any}
 use Rattle.dataflow_model.specs.Role.{is_source}
 use Rattle.dataflow_model.proofs.Facts.{no_source}
 use Rattle.dataflow_model.specs.AbstractTask.{AbstractTask}
@@ -18,12 +20,12 @@ use Rattle.task_steps.specs.declared.fault.StepFault.{StepFault}
 use Rattle.task_steps.specs.declared.fault.StepFault.TheVariants.{NotEnabled, Memory, Failed}
 use Rattle.task_steps.specs.TaskData.{TaskData, Stands}
 use Rattle.task_steps.specs.Taking.{IsReady}
-use Rattle.task_steps.specs.Answers.{Answers, HasFailed}
+use Rattle.task_steps.specs.Answers.{Answers, HasFailed, is_rows}
 use Rattle.core_steps.specs.Given.{layout_in, start_in}
 use Rattle.core_steps.specs.Queues.{Queue}
 use Rattle.core_steps.specs.Rings.{RingsData, queue_at, PopsMessage, ChangesQueue}
-use Rattle.core_steps.specs.World.{WorldData, world_in, state_at, held, IsLeft, IsWorld}
-use Rattle.core_steps.specs.Answers.{CanMake, is_memory}
+use Rattle.core_steps.specs.World.{WorldData, world_in, state_at, held, IsWorld}
+use Rattle.core_steps.specs.Answers.{CanMake, IsLeftAfter, has_records, is_memory}
 use Rattle.core_steps.specs.RingSteps.{IsTakeable}
 use Rattle.core_steps.proofs.States.{state_set}
 use Rattle.core_steps.proofs.Worlds.{Goes, after, placed_at, going_at, state_of, within, reached_now, goes_made, goes_failed}
@@ -74,6 +76,14 @@ module _ (w : WorldData) (t i s : ℕ) (m : Message) (rest : List Message) (d : 
       let next = takes (within w t h can.task) (reverse rest) (ap (λ v. held w.rings v t) (sym can.is) ∙ oldest) made.1 in
       (_, record { event = Take i m; is = (m, refl); move = next })
 
+-- a message without records is taken by an event without
+no_records : (i : ℕ) (m : Message) → list_any has_records (m ∷ []) ≡ false → is_rows (Take i m) ≡ false
+no_records i (message.Rows t) none = absurd cc
+no_records i (message.Fired rows) none = refl
+no_records i (message.Watermark t) none = refl
+no_records i (message.Barrier n) none = refl
+no_records i message.End none = refl
+
 module _ (w : WorldData) (t i s : ℕ) (m : Message) (d : TaskData) (rings : RingsData) (h : IsWorld w) (fine : w.has_failed ≡ false) (can : IsTakeable w t i s) (pops : PopsMessage s t m w.rings rings) (is : d ≡ get_or w.tasks t d) where
   moved : (d' : TaskData) (f : Bool) → LocalStep w.given.plan ((layout_in w.given).task t) (state_at w.given w.tasks t) (Take i m) d'.state
       → Move w.given.plan (layout_in w.given) w.given.layout.capacity (world_in w) t (Take i m) (world_in (after w t d' rings f))
@@ -83,17 +93,23 @@ module _ (w : WorldData) (t i s : ℕ) (m : Message) (d : TaskData) (rings : Rin
       subst (λ v. Move w.given.plan (layout_in w.given) w.given.layout.capacity (world_in w) t (Take i m) v) same
       (takes (within w t h can.task) (reverse pops.rest) (ap (λ v. held w.rings v t) (sym can.is) ∙ oldest w t i s m pops.rest d h fine can pops.first is) st)
 
-  left : (d' : TaskData) → HasFailed (Take i m) d d' → IsLeft (world_in w) (after w t d' rings true)
+  left : (d' : TaskData) → HasFailed (Take i m) d d' → IsLeftAfter (step.Take t i) (world_in w) (after w t d' rings true)
   left d' failed = record {
-    task = t;
-    going = ap (λ (v : State). v.over) (sym (state_of w t d can.task is)) ∙ failed.going;
-    windows = failed.windows;
-    tasks = λ u. state_set w.given w.tasks t d' can.task u
-        ∙ ap (λ v. with_task t v (state_at w.given w.tasks) u) (ap (λ (x : TaskData). x.state) failed.is ∙ ap (λ (v : State). record v { windows = failed.windows }) (state_of w t d can.task is));
-    sender = s;
-    lost = m ∷ [];
-    few = omega arith;
-    rings = given_back w.rings rings s t _ (m ∷ []) pops.changes (oldest w t i s m pops.rest d h fine can pops.first is);
+    left = record {
+      task = t;
+      going = ap (λ (v : State). v.over) (sym (state_of w t d can.task is)) ∙ failed.going;
+      windows = failed.windows;
+      tasks = λ u. state_set w.given w.tasks t d' can.task u
+          ∙ ap (λ v. with_task t v (state_at w.given w.tasks) u) (ap (λ (x : TaskData). x.state) failed.is ∙ ap (λ (v : State). record v { windows = failed.windows }) (state_of w t d can.task is));
+      sender = s;
+      lost = m ∷ [];
+      few = omega arith;
+      rings = given_back w.rings rings s t _ (m ∷ []) pops.changes (oldest w t i s m pops.rest d h fine can pops.first is);
+    };
+    task = refl;
+    lost = refl;
+    spoiled = λ none. failed.spoiled (no_records i m none) ∙ ap (λ (v : State). v.windows) (state_of w t d can.task is);
+    sender = λ u j e. let same : t ≡ u = cc in let at : i ≡ j = cc in can.is ∙ (λ k. (layout_in w.given).from (same k) (at k));
   }
 
   goes : (d' : TaskData) (r : Result (Unit {0}) StepFault) → Answers (λ p k. Stands p k d) (λ p k v. Takes p k v i m) (Take i m) d d' r → Goes (step.Take t i) w (after w t d' rings (is_memory r)) r

@@ -19,8 +19,8 @@ use Rattle.task_steps.specs.TaskData.{TaskData}
 use Rattle.task_steps.specs.Answers.{HasFailed, GoesOn}
 use Rattle.core_steps.specs.Given.{layout_in, start_in}
 use Rattle.core_steps.specs.Rings.{RingsData, queue_at}
-use Rattle.core_steps.specs.World.{WorldData, world_in, state_at, IsPlaced, IsBuilt, IsLeft, IsEnd, IsWorld}
-use Rattle.core_steps.specs.Answers.{LeadsTo, StepAnswers}
+use Rattle.core_steps.specs.World.{WorldData, world_in, state_at, IsPlaced, IsBuilt, IsEnd, IsWorld}
+use Rattle.core_steps.specs.Answers.{LeadsTo, StepAnswers, IsLeftAfter}
 use Rattle.core_steps.proofs.States.{state_here}
 
 -- what a step answered, and that the world is one
@@ -131,7 +131,7 @@ goes_made step w t d d' rings e x h fine l is on same leads move =
 
 -- memory was refused for it
 pub goes_failed : (step : Step) (w : WorldData) (t : ℕ) (d d' : TaskData) (rings : RingsData) (e : Event) → IsWorld w → w.has_failed ≡ false → t < length w.tasks → d ≡ get_or w.tasks t d → HasFailed e d d' → HaveRoom w.rings rings
-    → (next : flow.World) → LeadsTo w step next → IsLeft (world_in w) (after w t d' rings true)
+    → (next : flow.World) → LeadsTo w step next → IsLeftAfter step (world_in w) (after w t d' rings true)
     → Goes step w (after w t d' rings true) (Err Memory)
 goes_failed step w t d d' rings e h fine l is failed same next leads left =
     let placed = subst (IsPlaced w.given.plan w.given.input ((layout_in w.given).task t)) (sym failed.is) (placed_as w.given.plan w.given.input ((layout_in w.given).task t) d (record d.state { windows = failed.windows }) true (placed_at w t d h l is)) in
@@ -140,6 +140,6 @@ goes_failed step w t d d' rings e h fine l is failed same next leads left =
       world = record {
         sound = h.sound;
         built = built w t d' rings true h.built l placed same (λ f. (absurd cc)) fine;
-        reached = (world_in w, reached_now w h fine, left);
+        reached = (world_in w, reached_now w h fine, left.left);
       };
     }

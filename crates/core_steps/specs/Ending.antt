@@ -7,10 +7,10 @@ use Rattle.stream_model.specs.InputData.{InputData}
 use Rattle.stream_model.specs.PlanRows.{plan_rows}
 use Rattle.dataflow_laws.specs.Inputs.{due_between}
 use Rattle.dataflow_laws.specs.Compiled.{cut_to}
-use Rattle.leg_lists.specs.declared.cut.Cut.{Cut}
-use Rattle.leg_lists.specs.declared.stop.Stop.{Stop}
-use Rattle.leg_lists.specs.declared.stop.Stop.TheVariants.{At}
-use Rattle.leg_lists.specs.Stops.{until_of}
+use Rattle.legs.specs.declared.cut.Cut.{Cut}
+use Rattle.legs.specs.declared.stop.Stop.{Stop}
+use Rattle.legs.specs.declared.stop.Stop.TheVariants.{At}
+use Rattle.legs.specs.Stops.{until_of}
 use Rattle.savepoint_codec.specs.declared.savepoint.Contents.{Contents}
 use Rattle.redistribute.specs.StartData.{StartData, offsets_of}
 use Rattle.redistribute.specs.Begins.{HasSnapshot}

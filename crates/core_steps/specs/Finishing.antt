@@ -8,8 +8,8 @@ use Rattle.layout_rules.specs.Stages.{task_count}
 use Rattle.savepoint_codec.specs.declared.savepoint.Contents.{Contents}
 use Rattle.task_steps.specs.TaskData.{TaskData}
 use Rattle.leg_tasks.specs.Leaving.{savepoint_left}
-use Rattle.leg_lists.specs.declared.stop.Stop.{Stop}
-use Rattle.leg_lists.specs.declared.stop.Stop.TheVariants.{Never, At}
+use Rattle.legs.specs.declared.stop.Stop.{Stop}
+use Rattle.legs.specs.declared.stop.Stop.TheVariants.{Never, At}
 use Rattle.core_steps.specs.declared.finish.Finish.{Finish}
 use Rattle.core_steps.specs.declared.finish.Finish.TheVariants.{Ended, Stopped}
 use Rattle.core_steps.specs.Given.{GivenData, layout_in, start_in}

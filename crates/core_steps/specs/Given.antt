@@ -1,13 +1,13 @@
 -- What a world is made of, and the layout and opening states that it comes to.
-use Rattle.std.specs.Prelude.{ℕ}
+use Rattle.std.specs.Prelude.{ℕ, []}
 use Rattle.plan_model.specs.PlanData.{PlanData}
 use Rattle.stream_model.specs.InputData.{InputData}
 use Rattle.dataflow_model.specs.AbstractLayout.{AbstractLayout}
 use Rattle.dataflow_model.specs.State.{State}
 use Rattle.plan_compiler.specs.LayoutData.{LayoutData}
 use Rattle.dataflow_laws.specs.Compiled.{layout_to}
-use Rattle.leg_lists.specs.declared.stop.Stop.{Stop}
-use Rattle.leg_lists.specs.Stops.{until_of}
+use Rattle.legs.specs.declared.stop.Stop.{Stop}
+use Rattle.legs.specs.Stops.{until_of}
 use Rattle.redistribute.specs.StartData.{StartData}
 use Rattle.redistribute.specs.Laws.{opening_states}
 use Rattle.core_steps.specs.declared.given.Given.{Given}
@@ -25,7 +25,7 @@ given_data g stop = record { plan = g.plan.now; input = g.input.now; start = g.s
 
 -- the layout of its tasks in the abstract
 abbrev pub layout_in : GivenData → AbstractLayout
-layout_in g = layout_to g.plan g.input g.start.number (until_of g.stop) g.layout.stages
+layout_in g = layout_to g.plan g.input g.start.number [] (until_of g.stop) g.layout.stages
 
 -- where a task begins: with its part of the start
 abbrev pub start_in : GivenData → ℕ → State

@@ -2,7 +2,7 @@
 
 ghost use Rattle.std.specs.Prelude.{◌≡◌, ◌<◌, ℕ, IfOk, length, slice_index_or, suc};
 ghost use Rattle.stream_model.specs.InputData.{BelongsTo};
-ghost use Rattle.leg_lists.specs.declared.stop.Stop.TheVariants.{Never};
+ghost use Rattle.legs.specs.declared.stop.Stop.TheVariants.{Never};
 ghost use Rattle.redistribute.specs.StartData.{offsets_of};
 ghost use Rattle.redistribute.specs.Begins.{IsStartIn, IsFromNothing};
 ghost use Rattle.redistribute.specs.Stopping.{CanStop};
@@ -15,8 +15,8 @@ ghost use Rattle.core_steps.specs.Finishing.{AreAtEnd};
 ghost use Rattle.core_steps.specs.Ending.{IsEndOf, IsWholeRun};
 
 use crate::given::Given;
-use leg_lists::Stop;
 use leg_tasks::save;
+use legs::Stop;
 use plain_data::Items;
 use plan_model::Row;
 use savepoint_codec::Savepoint;

@@ -1,9 +1,9 @@
 //! What a world is made of.
 
-use logical_plan::Plan;
 use plan_compiler::Layout;
+use plan_model::Plan;
 use redistribute::Start;
-use stream_input::Input;
+use stream_model::Input;
 
 /// What a leg runs on and begins with.
 #[derive(Clone, Copy)]

@@ -7,8 +7,8 @@ use crate::finish::{Finish, finish_of};
 use crate::given::Given;
 use crate::rings::Rings;
 use dataflow_laws::Step;
-use leg_lists::{LegFault, Stop};
 use leg_tasks::tasks;
+use legs::{LegFault, Stop};
 use std::alloc::{AllocError, Global};
 use std::marker::Model;
 use task_setups::Leg;
@@ -55,7 +55,7 @@ impl<'a> World<'a> {
     ghost use Rattle.stream_model.specs.InputData.{BelongsTo};
     ghost use Rattle.redistribute.specs.StartData.{offsets_of};
     ghost use Rattle.redistribute.specs.Begins.{IsStartIn, IsFromNothing};
-    ghost use Rattle.leg_lists.specs.declared.stop.Stop.TheVariants.{Never};
+    ghost use Rattle.legs.specs.declared.stop.Stop.TheVariants.{Never};
     ghost use Rattle.redistribute.specs.Stopping.{CanStop, IsRefusal};
     ghost use Rattle.task_setups.specs.Legs.{IsLayoutOf};
     ghost use Rattle.core_steps.specs.Given.{given_data, layout_in};

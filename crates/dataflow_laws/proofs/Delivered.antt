@@ -28,7 +28,7 @@ pub had : (p : PlanData) (i : InputData) (l : AbstractLayout) (states : ℕ → 
     → HaveSnapshot p (input_of p i) l states (counts_at p cut) (merged_watermark i.sources cut)
 had p i l states cut belongs is_cut windows u lo hi q = windows u lo hi q ∙ ap (λ x. cond (eqb (l.owner q.key) u) x None) (sym (snapshot_at_cut p i cut q belongs is_cut))
 
-row_due : (p : PlanData) (i : InputData) (b c : List (List ℕ)) (q : Pane) → BelongsTo p i
+pub row_due : (p : PlanData) (i : InputData) (b c : List (List ℕ)) (q : Pane) → BelongsTo p i
     → option_to_list (if is_due p.window (merged_watermark i.sources b) q.start then None else due_row p (input_of p i) (merged_watermark i.sources c) q) ≡ option_to_list (due_between p i.sources b c q)
 row_due p i b c q belongs = ap (λ x. option_to_list (cond (is_due p.window (merged_watermark i.sources b) q.start) None x)) (due_at_cut p i c q belongs)
 

@@ -173,7 +173,7 @@ module _ (p : PlanData) where
   zeros (suc n) (suc c) = zeros n c
 
   zero_time : IsTime (pos 0)
-  zero_time = record { above = omega (arith, ints); below = omega (arith, ints) }
+  zero_time = refl
 
   admitted_entry : (n : ℕ) → FitsPlan p (small_entry p n)
   admitted_entry zero =

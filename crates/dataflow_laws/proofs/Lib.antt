@@ -45,3 +45,4 @@ mod Compiled
 mod Moments
 mod Owned
 pub mod Facts
+mod Keeping

@@ -68,15 +68,15 @@ cut_within f (s ∷ ss) h = (counts_within (f 0) s (λ k m. h 0 k (omega arith) 
 
 -- ---- a leg on a compiled layout
 
-module _ (p : PlanData) (c : ScaleData) (i : InputData) (n : ℕ) (until : Until) (stages : List Stage) (start : ℕ → State) (ip : IsPlan p) (sc : IsScale p c) (is : IsCompiled p c stages) (belongs : BelongsTo p i) (opens : IsLegStart p (layout_to p i n until stages) start) (h : History p (layout_to p i n until stages) start) where
+module _ (p : PlanData) (c : ScaleData) (i : InputData) (n : ℕ) (saves : List (List (List ℕ))) (until : Until) (stages : List Stage) (start : ℕ → State) (ip : IsPlan p) (sc : IsScale p c) (is : IsCompiled p c stages) (belongs : BelongsTo p i) (opens : IsLegStart p (layout_to p i n saves until stages) start) (h : History p (layout_to p i n saves until stages) start) where
   abbrev L : AbstractLayout
-  L = layout_to p i n until stages
+  L = layout_to p i n saves until stages
 
   abbrev X : AbstractInput
   X = input_of p i
 
   abbrev G : Leg
-  G = leg_of n [] until (entries_of i).size
+  G = leg_of n saves until (entries_of i).size
 
   laid : IsLayout L × Deals X G L
   laid = compiled_is_layout p c (entries_of i) G stages ip sc is
@@ -108,27 +108,27 @@ module _ (p : PlanData) (c : ScaleData) (i : InputData) (n : ℕ) (until : Until
   at_cut = (cut_from read i.sources, cut_within read i.sources read_within, came)
 
 pub compiled_leg_is_at_a_cut : CompiledLegIsAtACut
-compiled_leg_is_at_a_cut p c i n until stages start ip sc is belongs opens h = at_cut p c i n until stages start ip sc is belongs opens h
+compiled_leg_is_at_a_cut p c i n saves until stages start ip sc is belongs opens h = at_cut p c i n saves until stages start ip sc is belongs opens h
 
 pub compiled_edges_keep_watermarks : CompiledEdgesKeepWatermarks
-compiled_edges_keep_watermarks p c i n until stages start ip sc is input orderly belongs opens h cut comes =
-    let l = layout_to p i n until stages in
+compiled_edges_keep_watermarks p c i n saves until stages start ip sc is input orderly belongs opens h cut comes =
+    let l = layout_to p i n saves until stages in
     let x = input_of p i in
-    let leg = leg_of n [] until (entries_of i).size in
+    let leg = leg_of n saves until (entries_of i).size in
     let laid : IsLayout l × Deals x leg l = compiled_is_layout p c (entries_of i) leg stages ip sc is in
     let o = orderly_of x leg l laid.1 p (input_is_orderly p i input orderly belongs) in
     let kept = edges_keep_watermarks p l start laid.0 o opens.leg opens.opens h in
     (λ t k d b a kl. kept.0 t k d b a kl ∙ (laid.1.there t k b a kl).watermark (cut_of h.end t k) ∙ ap (x.watermark (partition_read x l t k)) (comes t k b a kl), kept.1)
 
-module _ (p : PlanData) (c : ScaleData) (i : InputData) (n : ℕ) (b : List (List ℕ)) (until : Until) (stages : List Stage) (start : ℕ → State) (ip : IsPlan p) (sc : IsScale p c) (is : IsCompiled p c stages) (input : IsInput i) (orderly : IsOrderly i.time i.sources) (belongs : BelongsTo p i) (b_cut : IsCut i.sources b) (opens : IsLegStart p (layout_to p i n until stages) start) (has : HaveCut p i (layout_to p i n until stages) start b) (h : History p (layout_to p i n until stages) start) where
+module _ (p : PlanData) (c : ScaleData) (i : InputData) (n : ℕ) (b : List (List ℕ)) (saves : List (List (List ℕ))) (until : Until) (stages : List Stage) (start : ℕ → State) (ip : IsPlan p) (sc : IsScale p c) (is : IsCompiled p c stages) (input : IsInput i) (orderly : IsOrderly i.time i.sources) (belongs : BelongsTo p i) (b_cut : IsCut i.sources b) (opens : IsLegStart p (layout_to p i n saves until stages) start) (has : HaveCut p i (layout_to p i n saves until stages) start b) (h : History p (layout_to p i n saves until stages) start) where
   abbrev l : AbstractLayout
-  l = layout_to p i n until stages
+  l = layout_to p i n saves until stages
 
   abbrev x : AbstractInput
   x = input_of p i
 
   abbrev leg : Leg
-  leg = leg_of n [] until (entries_of i).size
+  leg = leg_of n saves until (entries_of i).size
 
   dealt : IsLayout l × Deals x leg l
   dealt = compiled_is_layout p c (entries_of i) leg stages ip sc is
@@ -158,15 +158,15 @@ module _ (p : PlanData) (c : ScaleData) (i : InputData) (n : ℕ) (b : List (Lis
       ∙ ap (λ a. cond (eqb (l.owner q.key) u) (option_to_list (row_between p (merged_watermark i.sources b) (task_watermark (h.end u)) q a)) []) (aggregates q)
 
 pub compiled_windows_have_the_watermark : CompiledWindowsHaveTheWatermark
-compiled_windows_have_the_watermark p c i n b until stages start ip sc is input orderly belongs b_cut opens has h cut is_cut comes =
-    let l = layout_to p i n until stages in
+compiled_windows_have_the_watermark p c i n b saves until stages start ip sc is input orderly belongs b_cut opens has h cut is_cut comes =
+    let l = layout_to p i n saves until stages in
     let x = input_of p i in
-    let leg = leg_of n [] until (entries_of i).size in
-    let laid = dealt p c i n b until stages start ip sc is input orderly belongs b_cut opens has h in
+    let leg = leg_of n saves until (entries_of i).size in
+    let laid = dealt p c i n b saves until stages start ip sc is input orderly belongs b_cut opens has h in
     windows_have_the_watermark p l start (merged_watermark i.sources b) (merged_watermark i.sources cut) laid.0 (orderly_of x leg l laid.1 p (input_is_orderly p i input orderly belongs)) opens.leg
-    (starts p c i n b until stages start ip sc is input orderly belongs b_cut opens has h) h
+    (starts p c i n b saves until stages start ip sc is input orderly belongs b_cut opens has h) h
     (merged_of x leg l laid.1 (cut_of h.end) (counts_at p cut) (merged_watermark i.sources cut) comes (watermark_at_cut p i cut belongs is_cut))
 
 pub compiled_windows_fire_once : CompiledWindowsFireOnce
-compiled_windows_fire_once p c i n b until stages start ip sc is input orderly belongs b_cut opens has h u lo hi q =
-    fires p c i n b until stages start ip sc is input orderly belongs b_cut opens has h u lo hi q
+compiled_windows_fire_once p c i n b saves until stages start ip sc is input orderly belongs b_cut opens has h u lo hi q =
+    fires p c i n b saves until stages start ip sc is input orderly belongs b_cut opens has h u lo hi q

@@ -188,14 +188,14 @@ module _ (p : PlanData) (x : AbstractInput) (leg : Leg) (l : AbstractLayout) (ok
       get_or_default (H.end t).inputs.marks k n (pos 0) (omega (arith, r.length_marks, kl)) ∙ r.marks k kl ∙ (d.there t k m a kl).watermark (cut_of H.end t k) ∙ ap (x.watermark (partition_read x l t k)) (to t k m a kl)
 
 pub compiled_leg_keeps_panes : CompiledLegKeepsPanes
-compiled_leg_keeps_panes p c i n b until stages start ip sc is input orderly belongs b_cut c_cut ask opens at_start has h done =
+compiled_leg_keeps_panes p c i n b saves until stages start ip sc is input orderly belongs b_cut c_cut ask opens at_start has h done =
     let x = input_of p i in
-    let l = layout_to p i n until stages in
-    let both = laid p c i n until stages ip sc is ask start opens h done in
-    let leg = leg_of n [] until (entries_of i).size in
+    let l = layout_to p i n saves until stages in
+    let both = laid p c i n saves until stages ip sc is ask start opens h done in
+    let leg = leg_of n saves until (entries_of i).size in
     let o = orderly_of x leg l both.1 p (input_is_orderly p i input orderly belongs) in
     let op = opened p l start both.0 o opens.leg opens.opens in
-    let came = comes p c i n until stages ip sc is ask start opens h done in
+    let came = comes p c i n saves until stages ip sc is ask start opens h done in
     let drain = drained p l both.0 start opens.leg opens.opens h done in
     let before = partitions_before p i b belongs b_cut in
     let after = partitions_before p i (cut_to i until) belongs c_cut in

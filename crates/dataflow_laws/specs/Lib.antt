@@ -17,3 +17,4 @@ pub mod Inputs
 pub mod Compiled
 pub mod Moments
 pub mod Owned
+pub mod Kept

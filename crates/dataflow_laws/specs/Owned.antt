@@ -25,7 +25,7 @@ HaveOwnPanes l states n = (u : ℕ) → l.before ≤ u → u < l.sink → (q : P
 
 -- a leg from a cut, in whose windows each task has its own panes, of no more records than stand before the cut: when all tasks are done this is so at the cut that it was to come to, where its sources are, with the watermarks there
 abbrev pub CompiledLegKeepsPanes : Type 0
-CompiledLegKeepsPanes = (p : PlanData) (c : ScaleData) (i : InputData) (n : ℕ) (b : List (List ℕ)) (until : Until) (stages : List Stage) (start : ℕ → State)
+CompiledLegKeepsPanes = (p : PlanData) (c : ScaleData) (i : InputData) (n : ℕ) (b : List (List ℕ)) (saves : List (List (List ℕ))) (until : Until) (stages : List Stage) (start : ℕ → State)
     → IsPlan p → IsScale p c → IsCompiled p c stages → IsInput i → IsOrderly i.time i.sources → BelongsTo p i → IsCut i.sources b → IsCut i.sources (cut_to i until) → (until ≡ TillAsked → ⊥)
-    → let l = layout_to p i n until stages in IsLegStart p l start → AreAt (input_of p i) l start (counts_at p b) → HaveOwnPanes l start (length (records_before i.sources b)) → (h : History p l start) → IsComplete h
+    → let l = layout_to p i n saves until stages in IsLegStart p l start → AreAt (input_of p i) l start (counts_at p b) → HaveOwnPanes l start (length (records_before i.sources b)) → (h : History p l start) → IsComplete h
     → AreAt (input_of p i) l h.end (counts_at p (cut_to i until)) × HaveMarks (input_of p i) l h.end (counts_at p (cut_to i until)) × HaveOwnPanes l h.end (length (records_before i.sources (cut_to i until)))

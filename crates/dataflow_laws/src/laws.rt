@@ -14,8 +14,9 @@ ghost use Rattle.dataflow_laws.specs.Laws.{DrainedIsExact, LegIsExact, LegReache
 ghost use Rattle.dataflow_laws.specs.Legs.{LegBetweenIsExact, LegsAreExact};
 ghost use Rattle.dataflow_laws.specs.Savepoints.{SavepointIsExact};
 ghost use Rattle.dataflow_laws.specs.Inputs.{InputIsAdmitted, LegDelivers, SoFarDelivers, LegsDeliverDue, LegsDeliverAll};
-ghost use Rattle.dataflow_laws.specs.Compiled.{CompiledLegDelivers, CompiledLegDeliversAll, CompiledLegSoFar};
+ghost use Rattle.dataflow_laws.specs.Compiled.{CompiledLegDelivers, CompiledLegDeliversAt, CompiledLegDeliversAll, CompiledLegSoFar};
 ghost use Rattle.dataflow_laws.specs.Moments.{CompiledLegIsAtACut, CompiledEdgesKeepWatermarks, CompiledWindowsHaveTheWatermark, CompiledWindowsFireOnce};
+ghost use Rattle.dataflow_laws.specs.Kept.{SavepointDelivers, CompiledSavepointDelivers};
 ghost use Rattle.dataflow_laws.specs.Owned.{CompiledLegKeepsPanes};
 
 /// A task makes a step only where the step's conditions hold.
@@ -147,6 +148,17 @@ pub fn savepoint_is_exact()
     ensures { SavepointIsExact }
 {}
 
+/// The same in the words of an input: the rows that became due from the leg's start to the cut of the savepoint, each once,
+/// the snapshot there and its watermarks.
+pub fn savepoint_delivers()
+    ensures { SavepointDelivers }
+{}
+
+/// So it is on the compiled layout of a plan.
+pub fn compiled_savepoint_delivers()
+    ensures { CompiledSavepointDelivers }
+{}
+
 /// Whatever layout deals the input, its tasks admit the entries: they have the plan's width and times in range, and at
 /// most 2^40 records together.
 pub fn input_is_admitted()
@@ -181,6 +193,12 @@ pub fn legs_deliver_all()
 /// was to come to: the end of the input, or a cut.
 pub fn compiled_leg_delivers()
     ensures { CompiledLegDelivers }
+{}
+
+/// However such a leg is to end, also where a stop may be asked for: at the cut that its tasks have come to when all are done,
+/// it has delivered just the rows that became due, each once, and leaves the snapshot.
+pub fn compiled_leg_delivers_at()
+    ensures { CompiledLegDeliversAt }
 {}
 
 /// One that starts from nothing and runs to the end has delivered all rows of the plan, each once, and nothing else.

@@ -11,12 +11,16 @@ ghost use Rattle.fault_places.specs.Answer.{AnswersCheck};
 
 use crate::telling::{Notes, write_places};
 use crate::{input, plan, scale};
+use input_texts::InputFault;
 use json::Scratch;
-use logical_plan::{Plan, PlanFault};
-use plan_scale::{Scale, ScaleFault};
+use layout_rules::{Scale, ScaleFault};
+use logical_plan::{PlanFault, ReadPlan};
+use plan_model::Plan;
+use plan_scale::ReadScale;
 use std::alloc::{AllocError, Global};
 use std::io::Write;
-use stream_input::{Input, InputFault};
+use stream_input::ReadInput;
+use stream_model::Input;
 use text_places::{Findings, Placed, breach_in, first_value, spots_of};
 
 /// A text that was refused, by its fault: a plan, or a scale or an input of a plan.

@@ -6,7 +6,9 @@ use crate::seeing::whole_of;
 use crate::telling::Notes;
 use columns::MOST_ROWS;
 use json::Token;
+use plan_model::is_time;
 use std::alloc::{AllocError, Global};
+use stream_model::is_late_time;
 use text_places::{Part, Placed};
 
 /// What is asked of each entry.
@@ -147,10 +149,6 @@ fn cell_of(cells: &[Part<'_>], column: usize) -> Option<i64> {
     cells.get(column).and_then(|cell| whole_of(&cell.value))
 }
 
-fn is_time(time: i64) -> bool {
-    -(1 << 62) <= time && time < 1 << 62
-}
-
 /// Tells of a time or a watermark that is out of range.
 fn check_time(notes: &mut Notes, what: &str, value: &Placed<'_>) -> Result<(), AllocError> {
     match whole_of(value) {
@@ -180,7 +178,7 @@ fn check_late(
     before: Option<i64>,
 ) -> Result<(), AllocError> {
     match (time, before) {
-        (Some(time), Some(watermark)) if time <= watermark => {
+        (Some(time), Some(watermark)) if is_late_time(watermark, time) => {
             let sentence = format!(in notes.alloc;
                 "this row comes late: its time {time} is not above the watermark {watermark} before it"
             )?;

@@ -4,11 +4,10 @@ use crate::entries::{Test, check_entries, check_forms};
 use crate::forms::tell_other;
 use crate::owner::Owner;
 use crate::telling::{Notes, behind};
+use input_texts::InputFault;
 use json::Token;
-use logical_plan::Plan;
-use plan_model::SourceSpec;
+use plan_model::{Plan, SourceSpec};
 use std::alloc::AllocError;
-use stream_input::InputFault;
 use text_places::{Part, Placed, part_named};
 
 /// Tells of the values that are of another form than an input's.

@@ -6,10 +6,8 @@ use crate::seeing::member_of;
 use crate::telling::{Notes, Range, behind, check_range};
 use json::Token;
 use key_groups::MOST_SUBTASKS;
-use layout_rules::MOST_CAPACITY;
-use logical_plan::Plan;
-use plan_model::{FilterSpec, SourceSpec};
-use plan_scale::ScaleFault;
+use layout_rules::{MOST_CAPACITY, ScaleFault};
+use plan_model::{FilterSpec, Plan, SourceSpec};
 use std::alloc::AllocError;
 use text_places::{Part, Placed, part_named};
 

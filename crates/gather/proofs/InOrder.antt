@@ -8,7 +8,7 @@ use Rattle.std.specs.BTreeSet.{insert_key}
 use Rattle.std.proofs.lemmas.List.{map_more}
 use Rattle.std.proofs.lemmas.List.Sums.{fold_push}
 use Rattle.byte_fields.proofs.Exact.{both, and_true}
-use Rattle.logical_plan.specs.PlanRecord.{ascending}
+use Rattle.plan_record.specs.PlanRecord.{ascending}
 
 ascending_more : {A K : Type 0} (cmp : K → K → Ordering) (f : A → K) (xs : List A) (i : ℕ) (d : A) → i < length xs
     → ascending cmp (map f (take (i + 1) xs)) ≡ insert_key cmp (ascending cmp (map f (take i xs))) (f (get_or xs i d))

@@ -36,7 +36,7 @@ use Rattle.savepoint_codec.specs.declared.savepoint.SavedPartition.{SavedPartiti
 use Rattle.savepoint_codec.specs.declared.savepoint.SavedSource.{SavedSource}
 use Rattle.savepoint_codec.specs.declared.savepoint.SavedGroup.{SavedGroup}
 use Rattle.savepoint_codec.specs.Fields.{is_less, is_uid_after, partition_field, partitions_field, source_field, source_after, sources_field, kind_field, kinds_field, pane_field, is_pane_after, count_field, number_of_kind, numbers_field, entry_field, entry_after, entries_field, is_number_after, group_number, group_field, group_after, groups_field}
-use Rattle.logical_plan.specs.Laws.{IsInOrder}
+use Rattle.plan_record.specs.Laws.{IsInOrder}
 use Rattle.gather.specs.Saved.{saved_entry, saved_group, saved_source, partitions_under}
 use Rattle.gather.specs.Sources.{AreTyped, IsTypedPartition}
 

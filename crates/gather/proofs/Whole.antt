@@ -21,8 +21,8 @@ use Rattle.plan_model.specs.PlanData.{PlanData, IsPlan}
 use Rattle.plan_model.specs.Rows.{pane_cmp}
 use Rattle.plan_model.specs.Uids.{is_uid}
 use Rattle.plan_model.proofs.Facts.{uid_fits}
-use Rattle.logical_plan.specs.Laws.{AscendingIsInOrder}
-use Rattle.logical_plan.specs.PlanRecord.{plan_record}
+use Rattle.plan_record.specs.Laws.{AscendingIsInOrder}
+use Rattle.plan_record.specs.PlanRecord.{plan_record}
 use Rattle.layout_rules.specs.Layouts.{partition_counts}
 use Rattle.layout_rules.specs.declared.stage.Stage.{Stage}
 use Rattle.aggregates.specs.declared.kind.Kind.{Kind}

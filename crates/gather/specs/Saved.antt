@@ -10,7 +10,7 @@ use Rattle.plan_model.specs.declared.spec.Pane.{Pane}
 use Rattle.plan_model.specs.Aggregates.{Aggregated}
 use Rattle.plan_model.specs.PlanData.{PlanData, uids}
 use Rattle.plan_model.specs.Rows.{pane_cmp}
-use Rattle.logical_plan.specs.PlanRecord.{ascending, plan_record}
+use Rattle.plan_record.specs.PlanRecord.{ascending, plan_record}
 use Rattle.aggregates.specs.Kinds.{kind_of}
 use Rattle.savepoint_codec.specs.EntriesData.{EntryData}
 use Rattle.savepoint_codec.specs.declared.savepoint.SavedPartition.{SavedPartition}

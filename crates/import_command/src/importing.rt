@@ -6,9 +6,9 @@ use crate::names::{NameFile, no_names};
 use crate::words::{ImportWords, entry_rule};
 use import_columns::Column;
 use imports::{ImportFault, ImportRule, check_columns, check_sources, import_files, read_columns};
-use logical_plan::Plan;
 use name_table::NameTable;
 use new_files::{NewFile, NewStream};
+use plan_model::Plan;
 use std::random::RandomSource;
 use std::rt::Files;
 

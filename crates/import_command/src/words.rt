@@ -1,5 +1,6 @@
 //! The words of an import.
 
+use columns::MOST_ROWS;
 use field_values::are_digits;
 use import_entries::EntryRule;
 use imports::{ImportCode, ImportFault, refused};
@@ -20,12 +21,9 @@ pub struct ImportWords<'a> {
     pub bound: Option<&'a str>,
     /// The file for late rows.
     pub late: Option<&'a str>,
-    /// The most rows of an entry.
+    /// The most rows of an entry: as many as there can be, where no word says so.
     pub rows: Option<&'a str>,
 }
-
-/// The most rows of an entry where no word says so.
-const ROWS: u32 = 4096;
 
 /// The number that digits write, if it has 64 bits.
 fn number_of(word: &str) -> Option<u64> {
@@ -67,7 +65,7 @@ pub(crate) fn entry_rule(alloc: Global, words: &ImportWords<'_>) -> Result<Entry
     let bound = bound_of(alloc, words.bound)?;
     let rows = match words.rows {
         Some(word) => number_of(word).unwrap_or(0),
-        None => u64::from(ROWS),
+        None => MOST_ROWS as u64,
     };
     match rule_with(rows, bound) {
         Some(rule) => Ok(rule),

@@ -5,9 +5,10 @@ use Rattle.std.proofs.lemmas.List.{take-append-le}
 use Rattle.std.proofs.Math.Seq.{take-append_seam}
 use Rattle.std.proofs.lemmas.Bool.Decides.{nat_tests}
 use Rattle.lane_kernels.specs.Compare.{greatest_of}
+use Rattle.plan_model.specs.Windows.{is_time}
 use Rattle.import_entries.specs.declared.place.Place.TheVariants.{Joins, Begins}
 use Rattle.import_entries.specs.declared.progress.Progress.{Progress}
-use Rattle.import_entries.specs.Entries.{open_rows, closed_times, settled_times, begins, progress_of, place_fault, place_said, late_said, mark_said, is_time}
+use Rattle.import_entries.specs.Entries.{open_rows, closed_times, settled_times, begins, progress_of, place_fault, place_said, late_said, mark_said}
 
 mod_next : (m n : ℕ) → m % n + 1 < n → (m + 1) % n ≡ m % n + 1
 mod_next m n h =

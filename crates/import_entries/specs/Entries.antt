@@ -1,6 +1,8 @@
 -- How the rows of a partition become entries, by their times in order.
-use Rattle.std.specs.Prelude.{◌≡◌, ℕ, ◌+◌, ◌-◌, ◌%◌, ◌^◌, ◌==◌, Bool, ◌&&◌, ◌||◌, not, List, [], ◌∷◌, ◌++◌, length, take, ℤ, pos, neg_ℤ, ◌-ℤ◌, int_le, int_lt, Option, Some, None, Result, Ok, Err, if◌then◌else◌}
+use Rattle.std.specs.Prelude.{◌≡◌, ℕ, ◌+◌, ◌-◌, ◌%◌, ◌==◌, Bool, ◌||◌, not, List, [], ◌∷◌, ◌++◌, length, take, ℤ, pos, ◌-ℤ◌, Option, Some, None, Result, Ok, Err, if◌then◌else◌}
 use Rattle.lane_kernels.specs.Compare.{greatest_of}
+use Rattle.plan_model.specs.Windows.{is_time}
+use Rattle.stream_model.specs.Late.{is_late_time}
 use Rattle.import_entries.specs.declared.place.Place.{Place}
 use Rattle.import_entries.specs.declared.place.Place.TheVariants.{Joins, Begins}
 use Rattle.import_entries.specs.declared.place.PlaceFault.{PlaceFault}
@@ -27,19 +29,15 @@ begins n times = (open_rows n times == 0) || (open_rows n times == n)
 unfoldable pub settled_times : ℕ → List ℤ → List ℤ
 settled_times n times = if begins n times then times else closed_times n times
 
--- -2^62 to 2^62 - 1
-abbrev pub is_time : ℤ → Bool
-is_time t = int_le (neg_ℤ (pos (2 ^ 62))) t && int_lt t (pos (2 ^ 62))
-
 -- the greatest time less the bound less 1, where it is a time
 abbrev pub mark_said : Option ℕ → Option ℤ → Option ℤ
 mark_said (Some bound) (Some latest) = if is_time ((latest -ℤ pos bound) -ℤ pos 1) then Some ((latest -ℤ pos bound) -ℤ pos 1) else None
 mark_said bound latest = None
 
--- a time at or below a watermark is late
+-- why a row with this time goes nowhere behind such a watermark, if it is late
 abbrev pub late_said : Option ℤ → ℤ → Option PlaceFault
 late_said None time = None
-late_said (Some mark) time = if int_le time mark then Some (Late time mark) else None
+late_said (Some mark) time = if is_late_time mark time then Some (Late time mark) else None
 
 -- why the next row goes nowhere, if it does not
 unfoldable pub place_fault : ℕ → Option ℕ → List ℤ → ℤ → Option PlaceFault

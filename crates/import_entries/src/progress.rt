@@ -2,10 +2,13 @@
 
 ghost use Rattle.std.specs.Prelude.{◌≡◌, ◌<◌, ◌≤◌, ◌⊎◌, IsTrue, ◌∷◌, ◌++◌, [], ℤ, List, ℕ, Some};
 ghost use Rattle.lane_kernels.specs.Compare.{greatest_of};
-ghost use Rattle.import_entries.specs.Entries.{progress_of, is_time, mark_said, late_said, IsPlaced};
+ghost use Rattle.plan_model.specs.Windows.{is_time};
+ghost use Rattle.import_entries.specs.Entries.{progress_of, mark_said, late_said, IsPlaced};
 
 use crate::place::{Place, PlaceFault};
 use crate::rule::EntryRule;
+use plan_model::is_time;
+use stream_model::is_late_time;
 
 /// What is known of the rows of a partition so far.
 #[derive(Clone, Copy, Debug, PartialEq, Eq)]
@@ -16,13 +19,6 @@ pub struct Progress {
     latest: Option<i64>,
     /// The greatest time of the entries before the last.
     closed: Option<i64>,
-}
-
-/// Whether records may have the time.
-fn is_time(time: i64) -> bool
-    ensures { result ≡ is_time time }
-{
-    -(1i64 << 62) <= time && time < 1i64 << 62
 }
 
 /// The watermark behind rows with this greatest time. One below all times says nothing, and is left out.
@@ -49,7 +45,7 @@ fn late(mark: Option<i64>, time: i64) -> Option<PlaceFault>
     ensures { result ≡ late_said mark time }
 {
     match mark {
-        Some(mark) if time <= mark => Some(PlaceFault::Late(time, mark)),
+        Some(mark) if is_late_time(mark, time) => Some(PlaceFault::Late(time, mark)),
         _ => None,
     }
 }

@@ -1,7 +1,9 @@
-use logical_plan::Plan;
+use input_texts::InputFault;
+use logical_plan::ReadPlan;
+use plan_model::Plan;
 use std::process::Abort;
 use std::test::Fail;
-use stream_input::{InputFault, sources_in};
+use stream_input::sources_in;
 
 const PLAN: &str =
     r#"{"columns":3,"maxParallelism":128,"time":0,"key":1,"sources":[{"uid":"s","partitions":2}],"window":{"uid":"w","size":10,"slide":10,"offset":0,"aggregates":[{"fn":"count"},{"fn":"sum","column":2}]}}"#;

@@ -1,7 +1,10 @@
-use logical_plan::Plan;
+use input_texts::InputFault;
+use logical_plan::ReadPlan;
+use plan_model::Plan;
 use std::process::Abort;
 use std::test::Fail;
-use stream_input::{Input, InputFault};
+use stream_input::ReadInput;
+use stream_model::Input;
 
 const PLAN: &str =
     r#"{"columns":3,"maxParallelism":128,"time":0,"key":1,"sources":[{"uid":"s","partitions":2},{"uid":"a","partitions":1}],"window":{"uid":"w","size":10,"slide":10,"offset":0,"aggregates":[{"fn":"count"}]}}"#;

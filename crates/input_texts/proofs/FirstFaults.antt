@@ -11,7 +11,7 @@ use Rattle.std.specs.Cmp.Lexicographic.{slice_cmp, nat_list_eq_equiv}
 use Rattle.std.specs.FinMap.Entries as entries
 use Rattle.std.specs.List.{All, list_all, list_any, find, zip}
 use Rattle.std.specs.Option.{option_map_or, option_or}
-use Rattle.plan_model.specs.declared.limits.TheConstants.{MOST_RECORDS}
+use Rattle.plan_model.specs.declared.limits.TheConstants.{MOST_PARTITIONS, MOST_RECORDS}
 use Rattle.plan_model.specs.declared.spec.SourceSpec.{SourceSpec}
 use Rattle.plan_model.specs.PlanData.{PlanData, IsPlan}
 use Rattle.stream_model.specs.InputData.{records_in_source}
@@ -135,11 +135,11 @@ module _ (plan : PlanData) (text : InputText) where
   counts [] = refl
   counts (s ∷ ss) = ap (λ b. (length (partitions_under s.uid text) == s.partitions) && b) (counts ss)
 
-  narrow : (ss : List SourceSpec) → All (λ s. s.partitions ≤ 64) ss → list_all (λ s. length (partitions_under s.uid text) == s.partitions) ss ≡ true → All (λ x. IfSome x.late (λ p. p.0 < 2 ^ 32)) (map found_of ss)
+  narrow : (ss : List SourceSpec) → All (λ s. s.partitions ≤ MOST_PARTITIONS) ss → list_all (λ s. length (partitions_under s.uid text) == s.partitions) ss ≡ true → All (λ x. IfSome x.late (λ p. p.0 < 2 ^ 32)) (map found_of ss)
   narrow [] few many = λ k d lt. absurd (omega arith)
   narrow (s ∷ ss) few many =
       let parts = and_parts (length (partitions_under s.uid text) == s.partitions) (list_all (λ o. length (partitions_under o.uid text) == o.partitions) ss) many in
-      let small : s.partitions ≤ 64 = few 0 s (omega arith) in
+      let small : s.partitions ≤ MOST_PARTITIONS = few 0 s (omega arith) in
       let same : length (partitions_under s.uid text) ≡ s.partitions = eqb-true (length (partitions_under s.uid text)) s.partitions parts.0 in
       let entries = map (map (entry_of plan.columns)) (partitions_under s.uid text) in
       let le : length entries ≤ 2 ^ 32 = omega (arith, length-map (partitions_under s.uid text) (map (entry_of plan.columns))) in

@@ -5,7 +5,7 @@ use Rattle.std.proofs.lemmas.List.{length-append, take-append-le, get_or_append_
 use Rattle.std.proofs.Math.Seq.{take-append_seam, get_or-append_seam}
 use Rattle.std.proofs.lemmas.List.Sums.{fold-append}
 use Rattle.std.proofs.lemmas.Option.{slice_get-get_or}
-use Rattle.std.specs.Prelude.{int_le, slice_get}
+use Rattle.std.specs.Prelude.{slice_get}
 use Rattle.std.specs.Int.{int_max}
 use Rattle.std.specs.List.{list_any, find, fold, range_with_len}
 use Rattle.std.specs.Option.{option_or, option_map_or}
@@ -14,7 +14,7 @@ use Rattle.plain_data.specs.Times.{lowest}
 use Rattle.stream_model.specs.declared.entry.Entry.{Entry}
 use Rattle.stream_model.specs.InputData.{records_of_entry}
 use Rattle.stream_model.specs.Watermarks.{watermark_of_entry, partition_watermark}
-use Rattle.stream_model.specs.Late.{is_late_at, first_late_entry, first_at}
+use Rattle.stream_model.specs.Late.{is_late_time, is_late_at, first_late_entry, first_at}
 
 -- the watermark behind entries
 abbrev pub watermark_over : List Entry → ℤ
@@ -63,7 +63,7 @@ module _ (time : ℕ) (es : List Entry) (e : Entry) where
 
   same_before : (k : ℕ) → 0 ≤ k → k < 0 + length es → is_late_at time (es ++ e ∷ []) k ≡ is_late_at time es k
   same_before k low high =
-      (λ o. list_any (λ r. int_le (at time r) (kept_watermark k (omega arith) o)) (option_map_or records_of_entry (kept_entry k (omega arith) o) []))
+      (λ o. list_any (λ r. is_late_time (kept_watermark k (omega arith) o) (at time r)) (option_map_or records_of_entry (kept_entry k (omega arith) o) []))
 
   last_entry : slice_get (es ++ e ∷ []) (length es) ≡ Some e
   last_entry = slice_get-get_or (es ++ e ∷ []) (length es) e (omega (arith, longer)) ∙ ap (λ x. Some x) (get_or-append_seam es e [] e)
@@ -71,10 +71,10 @@ module _ (time : ℕ) (es : List Entry) (e : Entry) where
   last_watermark : partition_watermark (es ++ e ∷ []) (length es) ≡ watermark_over es
   last_watermark = rw (ne_eqb (length es) (length (es ++ e ∷ [])) (λ same. omega (arith, longer)), take-append_seam es (e ∷ [])) refl
 
-  late_last : is_late_at time (es ++ e ∷ []) (length es) ≡ list_any (λ r. int_le (at time r) (watermark_over es)) (records_of_entry e)
-  late_last = λ o. list_any (λ r. int_le (at time r) (last_watermark o)) (option_map_or records_of_entry (last_entry o) [])
+  late_last : is_late_at time (es ++ e ∷ []) (length es) ≡ list_any (λ r. is_late_time (watermark_over es) (at time r)) (records_of_entry e)
+  late_last = λ o. list_any (λ r. is_late_time (last_watermark o) (at time r)) (option_map_or records_of_entry (last_entry o) [])
 
-  pub late_more : first_late_entry time (es ++ e ∷ []) ≡ option_or (first_late_entry time es) (cond (list_any (λ r. int_le (at time r) (watermark_over es)) (records_of_entry e)) (Some (length es)) None)
+  pub late_more : first_late_entry time (es ++ e ∷ []) ≡ option_or (first_late_entry time es) (cond (list_any (λ r. is_late_time (watermark_over es) (at time r)) (records_of_entry e)) (Some (length es)) None)
   late_more =
       let from_zero : 0 + length es ≡ length es = omega arith in
       let count : length (es ++ e ∷ []) ≡ suc (length es) = omega (arith, longer) in

@@ -5,7 +5,7 @@ use Rattle.std.proofs.lemmas.Int.{ints}
 use Rattle.std.proofs.lemmas.List.{length-map}
 use Rattle.std.proofs.Math.Dec.{eqb-suc-suc}
 use Rattle.std.proofs.lemmas.List.Folds.{list_all-append, list_any-append}
-use Rattle.std.specs.Prelude.{int_le}
+use Rattle.stream_model.specs.Late.{is_late_time}
 use Rattle.std.specs.Int.{int_max}
 use Rattle.std.specs.List.{list_all, list_any}
 use Rattle.std.specs.Result.{IfErr, IsErrAnd}
@@ -172,7 +172,7 @@ module _ (columns time : ℕ) (w : ℤ) where
 
   -- of rows that have the form
   pub rows_so_far : List (List (Option ℤ)) → RowSeen
-  rows_so_far found = record { met = all_met (met_by_row columns time) found; is_late = list_any (λ row. int_le (at time (record_of row)) w) found }
+  rows_so_far found = record { met = all_met (met_by_row columns time) found; is_late = list_any (λ row. is_late_time w (at time (record_of row))) found }
 
   pub rows_more : (found : List (List (Option ℤ))) (row : List (Option ℤ)) → rows_so_far (found ++ row ∷ []) ≡ with_row (rows_so_far found) (row_seen columns time w row)
   unfolding rows_so_far
@@ -183,7 +183,7 @@ module _ (columns time : ℕ) (w : ℤ) where
       is_sized = all_more (λ y. (met_by_row columns time y).is_sized) found row o;
       is_timely = all_more (λ y. (met_by_row columns time y).is_timely) found row o;
     };
-    is_late = any_more (λ y. int_le (at time (record_of y)) w) found row o;
+    is_late = any_more (λ y. is_late_time w (at time (record_of y))) found row o;
   }
 
   pub no_rows : rows_so_far [] ≡ record { met = record { is_wide = true; is_whole = true; is_sized = true; is_timely = true }; is_late = false }
@@ -202,7 +202,7 @@ module _ (columns time : ℕ) (w : ℤ) where
       let long : count ≡ length found = counted ∙ sym (each_length (list_text cell_text) ds found is) in
       ap (λ s. Some s) (ap (λ a. of_rows a count w) all_is ∙ ap (λ n. of_rows (rows_so_far found) n w) long ∙ (λ o. record {
         met = (rows_seen columns time w found).met;
-        is_late = sym (any_map (λ r. int_le (at time r) w) record_of found) o;
+        is_late = sym (any_map (λ r. is_late_time w (at time r)) record_of found) o;
         watermark = sym (low_max low) o;
         records = sym (length-map found record_of) o;
       }))

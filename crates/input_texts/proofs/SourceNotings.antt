@@ -6,14 +6,13 @@ use Rattle.std.proofs.lemmas.List.Concat.{flat_map-cons}
 use Rattle.std.specs.Int.{int_max}
 use Rattle.std.specs.List.{list_any, flat_map}
 use Rattle.std.specs.Option.{option_or}
-use Rattle.std.specs.Prelude.{int_le}
 use Rattle.serde_json.specs.Data.{Data}
 use Rattle.json_parts.specs.Parts.{each, list_text}
 use Rattle.plain_data.specs.Record.{at}
 use Rattle.stream_model.specs.declared.entry.Entry.{Entry}
 use Rattle.stream_model.specs.InputData.{records_of_entry, records_in, records_in_source}
 use Rattle.stream_model.specs.Watermarks.{watermark_of_entry}
-use Rattle.stream_model.specs.Late.{first_late_entry, first_at}
+use Rattle.stream_model.specs.Late.{is_late_time, first_late_entry, first_at}
 use Rattle.input_texts.specs.declared.text.EntryText.{EntryText}
 use Rattle.input_texts.specs.InputText.{entry_text}
 use Rattle.input_texts.specs.Said.{entry_of}
@@ -44,7 +43,7 @@ module _ (columns time : ℕ) where
       let long : length (entries es) ≡ place = length-map es (entry_of columns) ∙ sym placed in
       let late : first_late_entry time (entries (es ++ e ∷ [])) ≡ option_or (first_late_entry time (entries es)) (cond (entry_seen columns time w e).is_late (Some place) None) =
       ap (first_late_entry time) (entries_more es e) ∙ late_more time (entries es) (entry_of columns e)
-      ∙ (λ o. option_or (first_late_entry time (entries es)) (cond (list_any (λ r. int_le (at time r) (sym marked o)) (records_of_entry (entry_of columns e))) (Some (long o)) None)) in
+      ∙ (λ o. option_or (first_late_entry time (entries es)) (cond (list_any (λ r. is_late_time (sym marked o) (at time r)) (records_of_entry (entry_of columns e))) (Some (long o)) None)) in
       let records = ap (λ xs. length (records_in xs)) (entries_more es e) ∙ counted_more records_of_entry (entries es) (entry_of columns e) in
       λ o. record {
         met = record {

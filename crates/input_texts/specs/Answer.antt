@@ -2,8 +2,8 @@
 use Rattle.std.specs.Prelude.{ℕ, Bool, true, false, List, Result, Ok, Err}
 use Rattle.std.specs.Option.{option_map_or, ok_or}
 use Rattle.json_parts.specs.Parts.{json_of}
-use Rattle.json_parts.specs.Answer.{value_or_fault}
-pub use Rattle.json_parts.specs.Answer.{Fails, Gives}
+use Rattle.answers.specs.Answer.{value_or_fault}
+pub use Rattle.answers.specs.Answer.{Fails, Gives}
 use Rattle.plan_model.specs.PlanData.{PlanData}
 use Rattle.input_texts.specs.declared.fault.InputFault.{InputFault}
 use Rattle.input_texts.specs.declared.fault.InputFault.TheVariants.{NotJson, Member, Memory}

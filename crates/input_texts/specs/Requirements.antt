@@ -1,11 +1,12 @@
 -- What an input must meet, and the fault where it does not, in the order in which they are decided.
-use Rattle.std.specs.Prelude.{ℕ, ◌^◌, ℤ, pos, neg_ℤ, int_le, int_lt, Bool, true, ◌&&◌, ◌==◌, nat_le, List, [], ◌∷◌, length, Option, is_some, bytes_eq}
+use Rattle.std.specs.Prelude.{ℕ, Bool, true, ◌&&◌, ◌==◌, nat_le, List, [], ◌∷◌, length, Option, is_some, bytes_eq}
 use Rattle.std.specs.List.{list_all, list_any}
 use Rattle.std.specs.Option.{option_map}
-use Rattle.json_parts.specs.Answer.{otherwise}
+use Rattle.answers.specs.Answer.{otherwise}
 use Rattle.plain_data.specs.Record.{at}
 use Rattle.columns.specs.declared.TheConstants.{MOST_ROWS}
 use Rattle.plan_model.specs.PlanData.{PlanData}
+use Rattle.plan_model.specs.Windows.{is_time}
 use Rattle.plan_model.specs.declared.limits.TheConstants.{MOST_RECORDS}
 use Rattle.input_texts.specs.declared.fault.InputFault.{InputFault}
 use Rattle.input_texts.specs.declared.fault.InputFault.TheVariants.{Source, Partitions, Width, Number, Rows, TimeRange, TooMany}
@@ -42,11 +43,7 @@ abbrev pub is_sized : EntryText → Bool
 is_sized (rows found) = nat_le 1 (length found) && nat_le (length found) MOST_ROWS
 is_sized (watermark t) = true
 
--- -2^62 to 2^62 - 1
-abbrev pub is_time : ℤ → Bool
-is_time t = int_le (neg_ℤ (pos (2 ^ 62))) t && int_lt t (pos (2 ^ 62))
-
--- the time of each row, and a watermark, is in that range
+-- the time of each row, and a watermark, is in range
 abbrev pub is_timely : ℕ → EntryText → Bool
 is_timely time (rows found) = list_all (λ row. is_time (at time (record_of row))) found
 is_timely time (watermark t) = is_time (number_of t)

@@ -1,5 +1,5 @@
 -- What is noted of a part of a text, of which nothing is kept. Of a part of another form nothing is noted.
-use Rattle.std.specs.Prelude.{◌≡◌, ℕ, ◌+◌, ℤ, int_le, true, ◌&&◌, ◌||◌, ◌==◌, nat_le, List, length, map, Option, Some, None, option_and_then, is_some, bytes_eq, codes, if◌then◌else◌}
+use Rattle.std.specs.Prelude.{◌≡◌, ℕ, ◌+◌, ℤ, true, ◌&&◌, ◌||◌, ◌==◌, nat_le, List, length, map, Option, Some, None, option_and_then, is_some, bytes_eq, codes, if◌then◌else◌}
 use Rattle.std.specs.Int.{int_max}
 use Rattle.std.specs.List.{list_all, list_any}
 use Rattle.std.specs.Option.{option_map, option_or}
@@ -13,12 +13,13 @@ use Rattle.columns.specs.declared.TheConstants.{MOST_ROWS}
 use Rattle.plan_model.specs.PlanData.{PlanData}
 use Rattle.stream_model.specs.InputData.{records_of_entry, records_in, records_in_source}
 use Rattle.stream_model.specs.Watermarks.{watermark_of_entry}
-use Rattle.stream_model.specs.Late.{first_late_entry, first_at}
+use Rattle.stream_model.specs.Late.{is_late_time, first_late_entry, first_at}
 use Rattle.input_texts.specs.declared.text.EntryText.{EntryText}
 use Rattle.input_texts.specs.declared.text.EntryText.TheVariants.{Rows as rows, Watermark as watermark}
 use Rattle.input_texts.specs.InputText.{entry_text}
 use Rattle.input_texts.specs.Said.{record_of, entry_of}
-use Rattle.input_texts.specs.Requirements.{is_wide, is_whole, is_sized, is_time, is_timely}
+use Rattle.plan_model.specs.Windows.{is_time}
+use Rattle.input_texts.specs.Requirements.{is_wide, is_whole, is_sized, is_timely}
 pub use Rattle.input_texts.specs.declared.seen.Seen.{Seen}
 pub use Rattle.input_texts.specs.declared.seen.RowSeen.{RowSeen}
 pub use Rattle.input_texts.specs.declared.seen.EntrySeen.{EntrySeen}
@@ -49,13 +50,13 @@ all_met met xs = record { is_wide = list_all (λ x. (met x).is_wide) xs; is_whol
 
 -- of a row, where w is the watermark before it
 abbrev pub row_seen : ℕ → ℕ → ℤ → List (Option ℤ) → RowSeen
-row_seen columns time w row = record { met = met_by_row columns time row; is_late = int_le (at time (record_of row)) w }
+row_seen columns time w row = record { met = met_by_row columns time row; is_late = is_late_time w (at time (record_of row)) }
 
 -- of an entry behind others of which w is the watermark
 abbrev pub entry_seen : ℕ → ℕ → ℤ → EntryText → EntrySeen
 entry_seen columns time w e = record {
   met = met_by_entry columns time e;
-  is_late = list_any (λ r. int_le (at time r) w) (records_of_entry (entry_of columns e));
+  is_late = list_any (λ r. is_late_time w (at time r)) (records_of_entry (entry_of columns e));
   watermark = int_max w (watermark_of_entry (entry_of columns e));
   records = length (records_of_entry (entry_of columns e));
 }

@@ -22,8 +22,7 @@ use crate::seen::SourceSeen;
 use crate::slots::{empty_slots, place_of, put};
 use json::{Reader, Scratch};
 use json_tokens::{MOST_DEPTH, Miss, open_object};
-use logical_plan::Plan;
-use plan_model::{MOST_RECORDS, SourceSpec};
+use plan_model::{MOST_RECORDS, Plan, SourceSpec};
 use std::alloc::{AllocError, Global};
 use std::collections::BTreeSet;
 

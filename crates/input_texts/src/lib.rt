@@ -18,6 +18,6 @@ mod text;
 
 pub use fault::InputFault;
 pub use finding::check_text;
-pub use numbers::{are_times, is_time, number_at, number_of};
+pub use numbers::{number_at, number_of};
 pub use slots::{empty_slots, place_of, put};
 pub use text::{EntryText, SourceText, partitions_of, text_of_input};

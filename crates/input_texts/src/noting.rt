@@ -13,12 +13,13 @@ ghost use Rattle.input_texts.specs.Said as said;
 ghost use Rattle.input_texts.specs.Seen as seen;
 ghost use Rattle.input_texts.specs.Seen.{Notes, joined, member_text, named_by, slot_of};
 
-use crate::numbers::{is_time, number_of as number_or_zero};
+use crate::numbers::number_of as number_or_zero;
 use crate::seen::{EntrySeen, Named, PartitionSeen, RowSeen, Seen, SourceSeen, both, nothing};
 use columns::MOST_ROWS;
 use json::Reader;
 use json_tokens::{Miss, next_cell, open_list, open_object, pass_value};
-use logical_plan::Plan;
+use plan_model::{Plan, is_time};
+use stream_model::is_late_time;
 
 /// So many and so many more. There is no memory for a text of more parts than 64 bits count.
 fn sum(count: u64, more: u64) -> Result<u64, Miss>
@@ -69,7 +70,7 @@ fn cells_noted(
     };
     Ok(RowSeen {
         met,
-        is_late: time <= watermark,
+        is_late: is_late_time(watermark, time),
     })
 }
 

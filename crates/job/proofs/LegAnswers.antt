@@ -1,7 +1,7 @@
 -- What a leg answers, from what reading its texts answers.
 use Rattle.std.proofs.Common.{◌≡◌, ◌∙◌, Bool, true, false, Result, Ok, Err, IsErr, IsErrAnd, refl, sym, ap, subst, inl, inr}
 use Rattle.std.specs.Prelude.{◌⊎◌}
-use Rattle.json_parts.specs.Answer.{unless, Fails}
+use Rattle.answers.specs.Answer.{unless, Fails}
 use Rattle.logical_plan.specs.Answer.{plan_of_bytes}
 use Rattle.logical_plan.specs.Answer as plans
 use Rattle.logical_plan.specs.declared.fault.PlanFault.{PlanFault}
@@ -12,8 +12,8 @@ use Rattle.input_texts.specs.declared.fault.InputFault.{InputFault}
 use Rattle.input_texts.specs.declared.fault.InputFault.TheVariants as input
 use Rattle.plan_scale.specs.Answer.{scale_of_bytes}
 use Rattle.plan_scale.specs.Answer as scales
-use Rattle.plan_scale.specs.declared.fault.ScaleFault.{ScaleFault}
-use Rattle.plan_scale.specs.declared.fault.ScaleFault.TheVariants as scale
+use Rattle.layout_rules.specs.declared.fault.ScaleFault.{ScaleFault}
+use Rattle.layout_rules.specs.declared.fault.ScaleFault.TheVariants as scale
 use Rattle.job_texts.specs.declared.fault.JobFault.{JobFault}
 use Rattle.job_texts.specs.declared.fault.JobFault.TheVariants.{Plan, Input, Scale, Memory}
 use Rattle.job_texts.specs.Fault.{plan_fault, input_fault, scale_fault, is_memory}

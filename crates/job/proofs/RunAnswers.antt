@@ -10,13 +10,13 @@ use Rattle.stream_model.specs.PlanRows.{plan_rows}
 use Rattle.leg_lists.specs.Answer as lists
 use Rattle.leg_lists.specs.Answer.{if_legs, legs_of_bytes, legs_of_json, legs_or_fault}
 use Rattle.leg_lists.specs.ChoicesText.{choice_text, choices_of_bytes, choices_said, choices_text}
-use Rattle.leg_lists.specs.declared.choice.Choice.{Choice}
+use Rattle.legs.specs.declared.choice.Choice.{Choice}
 use Rattle.leg_lists.specs.LegsText.{LegSaid, legs_text}
 use Rattle.leg_lists.specs.Said.{◌>>=◌, legs_from}
-use Rattle.leg_lists.specs.Requirements.{are_legs}
-use Rattle.leg_lists.specs.declared.fault.LegFault.{LegFault}
-use Rattle.leg_lists.specs.declared.fault.LegFault.TheVariants as leg
-use Rattle.leg_lists.specs.declared.leg.LegSpec.{LegSpec}
+use Rattle.legs.specs.Requirements.{are_legs}
+use Rattle.legs.specs.declared.fault.LegFault.{LegFault}
+use Rattle.legs.specs.declared.fault.LegFault.TheVariants as leg
+use Rattle.legs.specs.declared.leg.LegSpec.{LegSpec}
 use Rattle.job_texts.specs.declared.fault.JobFault.{JobFault}
 use Rattle.job_texts.specs.Fault.{leg_fault, is_memory}
 use Rattle.job_texts.specs.Text.{IsTextOf}

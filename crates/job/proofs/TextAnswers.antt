@@ -1,7 +1,7 @@
 -- What a call answers that reads texts and writes one, from what reading them gives.
 use Rattle.std.proofs.Common.{◌≡◌, ◌≢◌, ℕ, List, Option, Result, Ok, Err, IsErr, IsErrAnd, MatchResult, refl, sym, ap, subst}
 use Rattle.std.specs.Io.KnownBytes.{Appends}
-use Rattle.json_parts.specs.Answer.{Fails, Gives}
+use Rattle.answers.specs.Answer.{Fails, Gives}
 use Rattle.plan_model.specs.PlanData.{PlanData}
 use Rattle.logical_plan.specs.Answer.{plan_of_bytes}
 use Rattle.plan_scale.specs.Answer.{scale_of_bytes}

@@ -1,8 +1,8 @@
 -- What a call answers that reads texts and does the job that they say.
 use Rattle.std.specs.Prelude.{◌≡◌, ◌⊎◌, Result, Ok, Err}
 use Rattle.std.specs.Result.{result_map_both}
-use Rattle.json_parts.specs.Answer.{unless}
-use Rattle.leg_lists.specs.declared.fault.LegFault.TheVariants.{StopRange, Threads}
+use Rattle.answers.specs.Answer.{unless}
+use Rattle.legs.specs.declared.fault.LegFault.TheVariants.{StopRange, Threads}
 use Rattle.job_texts.specs.declared.fault.JobFault.{JobFault}
 use Rattle.job_texts.specs.declared.fault.JobFault.TheVariants.{Leg, Write}
 use Rattle.job_texts.specs.Fault.{is_memory}

@@ -2,7 +2,7 @@
 use Rattle.std.specs.Prelude.{◌≡◌, ◌+◌, ℕ, List, Option, Some, None, Result, Ok, Err, option_map, string_bytes}
 use Rattle.std.specs.Io.KnownBytes.{Appends}
 use Rattle.std.specs.Option.{option_map_or}
-use Rattle.json_parts.specs.Answer.{unless}
+use Rattle.answers.specs.Answer.{unless}
 use Rattle.plan_model.specs.PlanData.{PlanData}
 use Rattle.plan_model.specs.declared.spec.Row.{Row}
 use Rattle.plan_model.specs.Rows.{AreRowsOf}
@@ -16,9 +16,9 @@ use Rattle.plan_scale.specs.Answer.{scale_of_bytes}
 use Rattle.savepoint_codec.specs.Answer.{savepoint_of_bytes}
 use Rattle.savepoint_codec.specs.Layout.{IsSavepoint, savepoint_bytes}
 use Rattle.savepoint_codec.specs.declared.savepoint.Contents.{Contents}
-use Rattle.leg_lists.specs.declared.stop.Stop.{Stop}
-use Rattle.leg_lists.specs.declared.stop.Stop.TheVariants.{Never, At}
-use Rattle.leg_lists.specs.Stops.{until_of}
+use Rattle.legs.specs.declared.stop.Stop.{Stop}
+use Rattle.legs.specs.declared.stop.Stop.TheVariants.{Never, At}
+use Rattle.legs.specs.Stops.{until_of}
 use Rattle.redistribute.specs.StartData.{StartData, offsets_of}
 use Rattle.redistribute.specs.Snapshots.{start_at}
 use Rattle.redistribute.specs.Begins.{HasSnapshot}

@@ -11,7 +11,7 @@ use Rattle.stream_model.specs.Watermarks.{empty_cut}
 use Rattle.input_texts.specs.Answer.{input_of_bytes}
 use Rattle.leg_lists.specs.Answer.{legs_of_bytes}
 use Rattle.leg_lists.specs.ChoicesText.{choices_of_bytes}
-use Rattle.leg_lists.specs.declared.leg.LegSpec.{LegSpec}
+use Rattle.legs.specs.declared.leg.LegSpec.{LegSpec}
 use Rattle.job_texts.specs.declared.fault.JobFault.{JobFault}
 use Rattle.job_texts.specs.declared.fault.JobFault.TheVariants.{Plan, Input, Memory}
 use Rattle.job_texts.specs.Fault.{leg_fault}

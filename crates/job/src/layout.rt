@@ -1,7 +1,7 @@
 //! The layout of a plan at a scale.
 
 ghost use Rattle.std.specs.Prelude.{◌≡◌, IfOk, string_bytes};
-ghost use Rattle.json_parts.specs.Answer.{Gives};
+ghost use Rattle.answers.specs.Answer.{Gives};
 ghost use Rattle.layout_rules.specs.Scale.{IsScale};
 ghost use Rattle.plan_compiler.specs.LayoutData.{layout_of};
 ghost use Rattle.job.specs.Layout.{TellsLayout, layout_by, layout_said};
@@ -10,8 +10,11 @@ ghost use Rattle.job_texts.specs.LayoutText.{layout_text};
 ghost use Rattle.job_texts.specs.Tells.{KeepsWriter};
 
 use job_texts::{JobFault, text_of_layout, write_text};
-use logical_plan::Plan;
-use plan_compiler::{Scale, compile};
+use layout_rules::Scale;
+use logical_plan::ReadPlan;
+use plan_compiler::compile;
+use plan_model::Plan;
+use plan_scale::ReadScale;
 use std::alloc::{AllocError, Global};
 use std::io::Write;
 

@@ -1,7 +1,7 @@
 //! One leg of a job, from bytes to bytes.
 
 ghost use Rattle.std.specs.Prelude.{◌≡◌, IfOk, option_map};
-ghost use Rattle.json_parts.specs.Answer.{Gives};
+ghost use Rattle.answers.specs.Answer.{Gives};
 ghost use Rattle.layout_rules.specs.Scale.{IsScale};
 ghost use Rattle.redistribute.specs.Begins.{IsStartIn};
 ghost use Rattle.stream_model.specs.InputData.{BelongsTo};
@@ -13,10 +13,11 @@ use crate::reading::read_input;
 use core_steps::Finish;
 use job_legs::saved_bytes;
 use job_texts::{JobFault, read_cut, sort_rows, text_of_rows, write_text};
-use leg_lists::Stop;
-use logical_plan::Plan;
-use plan_compiler::Scale;
-use plan_model::Row;
+use layout_rules::Scale;
+use legs::Stop;
+use logical_plan::ReadPlan;
+use plan_model::{Plan, Row};
+use plan_scale::ReadScale;
 use redistribute::Start;
 use restore::check;
 use savepoint_codec::{Savepoint, decode};
@@ -25,7 +26,7 @@ use std::io::Write;
 use std::sync::Wait;
 use std::thread::Threads;
 use std::time::Clock;
-use stream_input::Input;
+use stream_model::Input;
 use thread_runner::{Gate, run_leg};
 use window_state::HashKeys;
 

@@ -1,7 +1,7 @@
 //! A job in so many subtasks, from bytes to bytes.
 
 ghost use Rattle.std.specs.Prelude.{IfOk, string_bytes};
-ghost use Rattle.json_parts.specs.Answer.{Gives};
+ghost use Rattle.answers.specs.Answer.{Gives};
 ghost use Rattle.layout_rules.specs.Scale.{IsScale};
 ghost use Rattle.stream_model.specs.InputData.{BelongsTo};
 ghost use Rattle.job.specs.Ends.{OnThreads};
@@ -13,14 +13,16 @@ ghost use Rattle.job_texts.specs.Tells.{KeepsWriter};
 use crate::reading::read_input;
 use crate::whole::whole_text;
 use job_texts::{JobFault, read_count, write_text};
-use logical_plan::Plan;
-use plan_compiler::Scale;
+use layout_rules::Scale;
+use logical_plan::ReadPlan;
+use plan_model::Plan;
+use plan_scale::ScaleOfPlan;
 use std::alloc::Global;
 use std::io::Write;
 use std::sync::Wait;
 use std::thread::Threads;
 use std::time::Clock;
-use stream_input::Input;
+use stream_model::Input;
 use thread_runner::Gate;
 use window_state::HashKeys;
 

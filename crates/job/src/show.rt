@@ -1,7 +1,7 @@
 //! A savepoint as text.
 
 ghost use Rattle.std.specs.Prelude.{string_bytes};
-ghost use Rattle.json_parts.specs.Answer.{Gives};
+ghost use Rattle.answers.specs.Answer.{Gives};
 ghost use Rattle.job.specs.Show.{TellsSavepoint, show_said};
 ghost use Rattle.job_texts.specs.Fault.{is_memory};
 ghost use Rattle.job_texts.specs.Tells.{KeepsWriter};

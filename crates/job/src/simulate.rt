@@ -3,7 +3,7 @@
 ghost use Rattle.std.specs.Prelude.{◌≡◌, Ok, Some, length, string_bytes, true};
 ghost use Rattle.std.specs.List.{All};
 ghost use Rattle.layout_rules.specs.Scale.{IsScale};
-ghost use Rattle.leg_lists.specs.Requirements.{are_legs};
+ghost use Rattle.legs.specs.Requirements.{are_legs};
 ghost use Rattle.stream_model.specs.InputData.{BelongsTo};
 ghost use Rattle.job.specs.Ends.{InOneThread};
 ghost use Rattle.job.specs.Run.{Answers, EndsRun, choices_in, legs_in, run_by, run_job, run_said};
@@ -12,12 +12,14 @@ ghost use Rattle.job_texts.specs.Tells.{KeepsWriter};
 use crate::reading::read_input;
 use job_legs::run_legs_by;
 use job_texts::{JobFault, text_of_rows, write_text};
-use leg_lists::{Choice, LegSpec, read_choices, read_legs};
-use logical_plan::Plan;
+use leg_lists::{read_choices, read_legs};
+use legs::{Choice, LegSpec};
+use logical_plan::ReadPlan;
 use plain_data::Items;
+use plan_model::Plan;
 use std::alloc::Global;
 use std::io::Write;
-use stream_input::Input;
+use stream_model::Input;
 use window_state::HashKeys;
 
 /// The text of the rows of legs that run by such choices.

@@ -10,16 +10,15 @@ ghost use Rattle.job.specs.Run.{IsWholeRefusal};
 
 use core_steps::Finish;
 use job_texts::{JobFault, sort_rows, text_of_rows};
-use leg_lists::Stop;
-use logical_plan::Plan;
-use plan_compiler::Scale;
-use plan_model::Row;
+use layout_rules::Scale;
+use legs::Stop;
+use plan_model::{Plan, Row};
 use redistribute::Start;
 use std::alloc::Global;
 use std::sync::Wait;
 use std::thread::Threads;
 use std::time::Clock;
-use stream_input::Input;
+use stream_model::Input;
 use thread_runner::{Gate, run_leg};
 use window_state::HashKeys;
 

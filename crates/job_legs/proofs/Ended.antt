@@ -9,9 +9,9 @@ use Rattle.stream_model.specs.InputData.{InputData, IsInput, BelongsTo}
 use Rattle.stream_model.specs.Laws.{EndIsDue}
 use Rattle.stream_model.specs.PlanRows.{due_rows}
 use Rattle.dataflow_laws.specs.Compiled.{cut_to}
-use Rattle.leg_lists.specs.declared.stop.Stop.{Stop}
-use Rattle.leg_lists.specs.declared.stop.Stop.TheVariants.{Never, At}
-use Rattle.leg_lists.specs.Stops.{until_of}
+use Rattle.legs.specs.declared.stop.Stop.{Stop}
+use Rattle.legs.specs.declared.stop.Stop.TheVariants.{Never, At}
+use Rattle.legs.specs.Stops.{until_of}
 use Rattle.job_legs.specs.Ending.{rows_to}
 
 -- what is due where a leg comes to that never stops is the plan's row

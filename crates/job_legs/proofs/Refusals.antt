@@ -1,10 +1,10 @@
 -- Why legs of a job have no answer, by the way in which they run.
 use Rattle.std.proofs.Common.{◌≡◌, ℕ, true, List, length, Result, Ok, Err, MatchResult, refl, sym, subst, inl, inr}
 use Rattle.stream_model.specs.InputData.{InputData}
-use Rattle.leg_lists.specs.declared.fault.LegFault.{LegFault}
-use Rattle.leg_lists.specs.declared.fault.LegFault.TheVariants.{Threads}
-use Rattle.leg_lists.specs.declared.leg.LegSpec.{LegSpec}
-use Rattle.leg_lists.specs.Requirements.{are_legs}
+use Rattle.legs.specs.declared.fault.LegFault.{LegFault}
+use Rattle.legs.specs.declared.fault.LegFault.TheVariants.{Threads}
+use Rattle.legs.specs.declared.leg.LegSpec.{LegSpec}
+use Rattle.legs.specs.Requirements.{are_legs}
 use Rattle.job_legs.specs.Running.{IsRunRefusal}
 use Rattle.job_legs.specs.Ending.{IsLegsRefusal, IsThreadsRefusal}
 

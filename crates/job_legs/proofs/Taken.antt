@@ -9,10 +9,10 @@ use Rattle.stream_model.specs.InputData.{InputData, IsInput}
 use Rattle.stream_model.specs.Watermarks.{IsCut, IsBefore, full_cut}
 use Rattle.stream_model.specs.PlanRows.{due_rows}
 use Rattle.dataflow_laws.specs.Compiled.{cut_to}
-use Rattle.leg_lists.specs.declared.fault.LegFault.{LegFault}
-use Rattle.leg_lists.specs.declared.stop.Stop.{Stop}
-use Rattle.leg_lists.specs.declared.stop.Stop.TheVariants.{Never, At}
-use Rattle.leg_lists.specs.Stops.{until_of}
+use Rattle.legs.specs.declared.fault.LegFault.{LegFault}
+use Rattle.legs.specs.declared.stop.Stop.{Stop}
+use Rattle.legs.specs.declared.stop.Stop.TheVariants.{Never, At}
+use Rattle.legs.specs.Stops.{until_of}
 use Rattle.redistribute.specs.Stopping.{CanStop}
 use Rattle.savepoint_codec.specs.declared.savepoint.Contents.{Contents}
 use Rattle.core_steps.specs.declared.finish.Finish.{Finish}

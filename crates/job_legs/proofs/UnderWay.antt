@@ -13,14 +13,14 @@ use Rattle.stream_model.specs.PlanRows.{due_rows}
 use Rattle.input_flow.proofs.Facts.{empty_is_cut}
 use Rattle.dataflow_laws.specs.Compiled.{cut_to}
 use Rattle.layout_rules.specs.Scale.{IsScale}
-use Rattle.leg_lists.specs.declared.limits.TheConstants.{MOST_LEGS}
-use Rattle.leg_lists.specs.declared.fault.LegFault.{LegFault}
-use Rattle.leg_lists.specs.declared.leg.LegSpec.{LegSpec}
-use Rattle.leg_lists.specs.declared.cut.Cut.{Cut}
-use Rattle.leg_lists.specs.declared.stop.Stop.{Stop}
-use Rattle.leg_lists.specs.declared.stop.Stop.TheVariants.{Never, At}
-use Rattle.leg_lists.specs.Requirements.{are_legs, is_stop, stops}
-use Rattle.leg_lists.specs.Stops.{until_of}
+use Rattle.legs.specs.declared.limits.TheConstants.{MOST_LEGS}
+use Rattle.legs.specs.declared.fault.LegFault.{LegFault}
+use Rattle.legs.specs.declared.leg.LegSpec.{LegSpec}
+use Rattle.legs.specs.declared.cut.Cut.{Cut}
+use Rattle.legs.specs.declared.stop.Stop.{Stop}
+use Rattle.legs.specs.declared.stop.Stop.TheVariants.{Never, At}
+use Rattle.legs.specs.Requirements.{are_legs, is_stop, stops}
+use Rattle.legs.specs.Stops.{until_of}
 use Rattle.redistribute.specs.Stopping.{CanStop}
 use Rattle.savepoint_codec.specs.declared.savepoint.Contents.{Contents}
 use Rattle.job_legs.specs.Reached.{HasSaved, IsAfter, IsAt, IsLeftBy, IsStepRefusal}

@@ -8,12 +8,12 @@ use Rattle.plan_model.specs.Rows.{AreRowsOf, pane_of, pane_cmp}
 use Rattle.stream_model.specs.InputData.{InputData}
 use Rattle.stream_model.specs.Watermarks.{empty_cut}
 use Rattle.stream_model.specs.PlanRows.{plan_rows, due_rows}
-use Rattle.leg_lists.specs.declared.fault.LegFault.{LegFault}
-use Rattle.leg_lists.specs.declared.fault.LegFault.TheVariants.{StopRange, Legs, Choices, Memory, Threads}
-use Rattle.leg_lists.specs.declared.leg.LegSpec.{LegSpec}
-use Rattle.leg_lists.specs.declared.stop.Stop.{Stop}
-use Rattle.leg_lists.specs.declared.stop.Stop.TheVariants.{Never, At}
-use Rattle.leg_lists.specs.Requirements.{are_legs}
+use Rattle.legs.specs.declared.fault.LegFault.{LegFault}
+use Rattle.legs.specs.declared.fault.LegFault.TheVariants.{StopRange, Legs, Choices, Memory, Threads}
+use Rattle.legs.specs.declared.leg.LegSpec.{LegSpec}
+use Rattle.legs.specs.declared.stop.Stop.{Stop}
+use Rattle.legs.specs.declared.stop.Stop.TheVariants.{Never, At}
+use Rattle.legs.specs.Requirements.{are_legs}
 use Rattle.savepoint_codec.specs.Layout.{savepoint_bytes}
 use Rattle.savepoint_codec.specs.declared.savepoint.Contents.{Contents}
 use Rattle.job_legs.specs.Reached.{IsLeftBy}

@@ -8,12 +8,12 @@ use Rattle.stream_model.specs.Watermarks.{IsCut, empty_cut}
 use Rattle.stream_model.specs.PlanRows.{due_rows}
 use Rattle.dataflow_laws.specs.Inputs.{due_between}
 use Rattle.dataflow_laws.specs.Compiled.{cut_to}
-use Rattle.leg_lists.specs.declared.cut.Cut.{Cut}
-use Rattle.leg_lists.specs.declared.fault.LegFault.{LegFault}
-use Rattle.leg_lists.specs.declared.fault.LegFault.TheVariants.{StopRange, Memory}
-use Rattle.leg_lists.specs.declared.stop.Stop.{Stop}
-use Rattle.leg_lists.specs.declared.stop.Stop.TheVariants.{Never, At}
-use Rattle.leg_lists.specs.Stops.{until_of}
+use Rattle.legs.specs.declared.cut.Cut.{Cut}
+use Rattle.legs.specs.declared.fault.LegFault.{LegFault}
+use Rattle.legs.specs.declared.fault.LegFault.TheVariants.{StopRange, Memory}
+use Rattle.legs.specs.declared.stop.Stop.{Stop}
+use Rattle.legs.specs.declared.stop.Stop.TheVariants.{Never, At}
+use Rattle.legs.specs.Stops.{until_of}
 use Rattle.redistribute.specs.Stopping.{CanStop}
 use Rattle.savepoint_codec.specs.declared.savepoint.Contents.{Contents}
 use Rattle.core_steps.specs.declared.finish.Finish.{Finish}

@@ -4,12 +4,12 @@ use Rattle.plan_model.specs.PlanData.{PlanData}
 use Rattle.stream_model.specs.InputData.{InputData}
 use Rattle.stream_model.specs.Watermarks.{empty_cut}
 use Rattle.dataflow_laws.specs.Compiled.{cut_to}
-use Rattle.leg_lists.specs.declared.fault.LegFault.{LegFault}
-use Rattle.leg_lists.specs.declared.fault.LegFault.TheVariants.{StopRange, Memory}
-use Rattle.leg_lists.specs.declared.leg.LegSpec.{LegSpec}
-use Rattle.leg_lists.specs.declared.stop.Stop.{Stop}
-use Rattle.leg_lists.specs.declared.stop.Stop.TheVariants.{Never}
-use Rattle.leg_lists.specs.Stops.{until_of}
+use Rattle.legs.specs.declared.fault.LegFault.{LegFault}
+use Rattle.legs.specs.declared.fault.LegFault.TheVariants.{StopRange, Memory}
+use Rattle.legs.specs.declared.leg.LegSpec.{LegSpec}
+use Rattle.legs.specs.declared.stop.Stop.{Stop}
+use Rattle.legs.specs.declared.stop.Stop.TheVariants.{Never}
+use Rattle.legs.specs.Stops.{until_of}
 use Rattle.redistribute.specs.Stopping.{CanStop}
 use Rattle.job_legs.specs.Reached.{IsAfter}
 use Rattle.job_legs.specs.declared.running.Reached.{Reached}

@@ -2,8 +2,8 @@
 use Rattle.std.specs.Prelude.{◌⊎◌, ℕ, List, Result, OnOk, IfOk, IfErr}
 use Rattle.std.specs.Borrow.{Bor}
 use Rattle.layout_rules.specs.Scale.{IsScale, ScaleData}
-use Rattle.leg_lists.specs.declared.fault.LegFault.{LegFault}
-use Rattle.leg_lists.specs.declared.stop.Stop.{Stop}
+use Rattle.legs.specs.declared.fault.LegFault.{LegFault}
+use Rattle.legs.specs.declared.stop.Stop.{Stop}
 use Rattle.plan_model.specs.PlanData.{PlanData}
 use Rattle.stream_model.specs.declared.entry.Entry.{Entry}
 use Rattle.stream_model.specs.InputData.{InputData, BelongsTo}

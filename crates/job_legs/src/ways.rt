@@ -1,8 +1,8 @@
 //! The ways in which the legs of a job are run.
 
 ghost use Rattle.std.specs.Prelude.{◌≡◌};
-ghost use Rattle.leg_lists.specs.declared.fault.LegFault.{LegFault as FaultValue};
-ghost use Rattle.leg_lists.specs.declared.fault.LegFault.TheVariants.{Threads};
+ghost use Rattle.legs.specs.declared.fault.LegFault.{LegFault as FaultValue};
+ghost use Rattle.legs.specs.declared.fault.LegFault.TheVariants.{Threads};
 
 /// A way in which legs are run.
 pub(crate) trait Way {

@@ -6,10 +6,12 @@ mod gates;
 #[cfg(test)]
 mod jobs;
 #[cfg(test)]
-mod legs;
+mod lists;
 #[cfg(test)]
 mod meeting;
 #[cfg(test)]
 mod parallel;
+#[cfg(test)]
+mod premises;
 #[cfg(test)]
 mod writers;

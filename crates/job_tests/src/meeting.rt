@@ -4,12 +4,14 @@ use crate::jobs::{INPUT, LEG_OF_TWO, PLAN, ROWS, SCALE_OF_TWO};
 use job::{Gate, HashKeys, job_leg, job_run};
 use job_legs::run_legs;
 use leg_lists::read_legs;
-use logical_plan::Plan;
+use logical_plan::ReadPlan;
+use plan_model::Plan;
 use std::sync::atomic::{AtomicBool, Ordering};
 use std::test::Fail;
 use std::thread;
 use std::time::{Clock, Duration};
-use stream_input::Input;
+use stream_input::ReadInput;
+use stream_model::Input;
 
 /// So many turns one waits for the other, each of a millisecond.
 const LIMIT: u32 = 10_000;

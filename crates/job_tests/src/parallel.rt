@@ -2,7 +2,7 @@
 
 use crate::jobs::{INPUT, PLAN, ROWS};
 use job::{HashKeys, JobFault, OpenGate, job_run_parallel};
-use plan_scale::ScaleFault;
+use layout_rules::ScaleFault;
 use std::alloc::Global;
 use std::fmt::Write;
 use std::random::RandomSource;

@@ -2,7 +2,7 @@
 use Rattle.std.specs.Option.{option_and_then}
 use Rattle.std.specs.Prelude.{◌≡◌, ℕ, ◌^◌, ◌-◌, ◌==◌, List, [], ◌∷◌, Option, Some, None, option_map, Result, Ok, Err}
 use Rattle.std.specs.List.{slice_split}
-use Rattle.leg_lists.specs.declared.cut.Cut.{Cut}
+use Rattle.legs.specs.declared.cut.Cut.{Cut}
 use Rattle.job_texts.specs.declared.fault.JobFault.{JobFault}
 use Rattle.job_texts.specs.declared.fault.JobFault.TheVariants as fault
 use Rattle.job_texts.specs.Group.{number_said}

@@ -4,14 +4,14 @@ use Rattle.logical_plan.specs.declared.fault.PlanFault.{PlanFault}
 use Rattle.logical_plan.specs.declared.fault.PlanFault.TheVariants as plan
 use Rattle.input_texts.specs.declared.fault.InputFault.{InputFault}
 use Rattle.input_texts.specs.declared.fault.InputFault.TheVariants as input
-use Rattle.plan_scale.specs.declared.fault.ScaleFault.{ScaleFault}
-use Rattle.plan_scale.specs.declared.fault.ScaleFault.TheVariants as scale
+use Rattle.layout_rules.specs.declared.fault.ScaleFault.{ScaleFault}
+use Rattle.layout_rules.specs.declared.fault.ScaleFault.TheVariants as scale
 use Rattle.savepoint_codec.specs.declared.fault.SaveFault.{SaveFault}
 use Rattle.savepoint_codec.specs.declared.fault.SaveFault.TheVariants as save
 use Rattle.restore.specs.declared.fault.RestoreFault.{RestoreFault}
 use Rattle.restore.specs.declared.fault.RestoreFault.TheVariants as restore
-use Rattle.leg_lists.specs.declared.fault.LegFault.{LegFault}
-use Rattle.leg_lists.specs.declared.fault.LegFault.TheVariants as leg
+use Rattle.legs.specs.declared.fault.LegFault.{LegFault}
+use Rattle.legs.specs.declared.fault.LegFault.TheVariants as leg
 use Rattle.job_texts.specs.declared.fault.JobFault.{JobFault}
 use Rattle.job_texts.specs.declared.fault.JobFault.TheVariants.{Plan, Input, Scale, Save, Restore, Leg, Memory}
 

@@ -6,7 +6,7 @@ ghost use Rattle.job_texts.specs.Cut.{word_count, source_said, cut_said, each_sa
 
 use crate::fault::JobFault;
 use crate::group::are_digits;
-use leg_lists::Cut;
+use legs::Cut;
 use plain_data::Items;
 use std::alloc::{AllocError, Global};
 

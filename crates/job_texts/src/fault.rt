@@ -2,13 +2,13 @@ ghost use Rattle.std.specs.Prelude.{◌≡◌};
 ghost use Rattle.job_texts.specs.declared.fault.JobFault.TheVariants.{Memory};
 ghost use Rattle.job_texts.specs.Fault.{plan_fault, input_fault, scale_fault, save_fault, restore_fault, leg_fault};
 
-use leg_lists::LegFault;
+use input_texts::InputFault;
+use layout_rules::ScaleFault;
+use legs::LegFault;
 use logical_plan::PlanFault;
-use plan_compiler::ScaleFault;
 use restore::RestoreFault;
 use savepoint_codec::SaveFault;
 use std::alloc::{AllocError, AllocFailed};
-use stream_input::InputFault;
 
 /// Why a call of the job has no answer. [`FaultLine`](crate::FaultLine) is its text.
 #[derive(Clone, Copy, Debug, PartialEq, Eq)]

@@ -6,8 +6,8 @@ ghost use Rattle.layout_rules.specs.Stages.{task_count};
 ghost use Rattle.job_texts.specs.LayoutText as said;
 
 use crate::number::{push_number, push_numbers};
-use logical_plan::Plan;
 use plan_compiler::{Edge, Layout, Operator, Role};
+use plan_model::Plan;
 use std::alloc::{AllocError, Global};
 
 /// The uid of an operator; the sink has none.

@@ -4,14 +4,14 @@ ghost use Rattle.std.specs.Prelude.{◌≡◌, IfOk, string_bytes};
 ghost use Rattle.job_texts.specs.FaultText.{fault_text, leg_text, plan_text, restore_text, save_text, scale_text, status};
 
 use crate::fault::JobFault;
-use leg_lists::LegFault;
+use input_texts::InputFault;
+use layout_rules::ScaleFault;
+use legs::LegFault;
 use logical_plan::PlanFault;
-use plan_compiler::ScaleFault;
 use restore::RestoreFault;
 use savepoint_codec::SaveFault;
 use std::alloc::{AllocError, Global};
 use std::fmt;
-use stream_input::InputFault;
 
 /// The status that the program ends with: 2 for a word of the command line, 4 for want of memory, and
 /// 3 for any other fault.

@@ -1,3 +1,1 @@
-pub mod Facts
-mod Zipped
 mod Scaled

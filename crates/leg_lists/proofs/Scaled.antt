@@ -1,7 +1,7 @@
 -- Reading the scales of legs one after the other, as a loop does.
 use Rattle.std.proofs.Common.{List, ◌++◌, Result, Ok}
-use Rattle.leg_lists.specs.declared.fault.LegFault.{LegFault}
-use Rattle.leg_lists.specs.declared.leg.LegSpec.{LegSpec}
+use Rattle.legs.specs.declared.fault.LegFault.{LegFault}
+use Rattle.legs.specs.declared.leg.LegSpec.{LegSpec}
 use Rattle.leg_lists.specs.Said.{◌>>=◌}
 
 -- the legs that were made before, and those that are still to come

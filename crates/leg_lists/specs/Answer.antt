@@ -3,13 +3,13 @@ use Rattle.std.specs.Prelude.{ℕ, Bool, true, false, List, Result, Ok, Err, if�
 use Rattle.std.specs.Option.{option_map_or}
 use Rattle.serde_json.specs.Data.{Data}
 use Rattle.json_parts.specs.Parts.{json_of}
-pub use Rattle.json_parts.specs.Answer.{Fails, Gives}
+pub use Rattle.answers.specs.Answer.{Fails, Gives}
 use Rattle.plan_model.specs.PlanData.{PlanData}
-use Rattle.leg_lists.specs.declared.fault.LegFault.{LegFault}
-use Rattle.leg_lists.specs.declared.fault.LegFault.TheVariants.{Legs, NotJson, Member, Memory}
-use Rattle.leg_lists.specs.declared.leg.LegSpec.{LegSpec}
+use Rattle.legs.specs.declared.fault.LegFault.{LegFault}
+use Rattle.legs.specs.declared.fault.LegFault.TheVariants.{Legs, NotJson, Member, Memory}
+use Rattle.legs.specs.declared.leg.LegSpec.{LegSpec}
 use Rattle.leg_lists.specs.LegsText.{LegSaid, legs_text}
-use Rattle.leg_lists.specs.Requirements.{are_legs}
+use Rattle.legs.specs.Requirements.{are_legs}
 use Rattle.leg_lists.specs.Said.{◌>>=◌, legs_from}
 
 -- the legs, where they are a list of legs

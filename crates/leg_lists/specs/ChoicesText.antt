@@ -3,9 +3,9 @@ use Rattle.std.specs.Prelude.{◌==◌, ◌^◌, ℕ, nat_lt, List, length, Opti
 use Rattle.std.specs.Option.{option_map_or}
 use Rattle.serde_json.specs.Data.{Data}
 use Rattle.json_parts.specs.Parts.{◌>>=◌, count_text, json_of, list_text}
-use Rattle.leg_lists.specs.declared.choice.Choice.{Choice}
-use Rattle.leg_lists.specs.declared.fault.LegFault.{LegFault}
-use Rattle.leg_lists.specs.declared.fault.LegFault.TheVariants.{Choices}
+use Rattle.legs.specs.declared.choice.Choice.{Choice}
+use Rattle.legs.specs.declared.fault.LegFault.{LegFault}
+use Rattle.legs.specs.declared.fault.LegFault.TheVariants.{Choices}
 
 -- a whole number of 0 to 2^32 - 1
 unfoldable pub choice_text : Data → Option Choice

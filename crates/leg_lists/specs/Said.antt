@@ -5,9 +5,9 @@ use Rattle.serde_json.specs.Data.{Data}
 use Rattle.plan_model.specs.PlanData.{PlanData}
 use Rattle.layout_rules.specs.ScaleData.{ScaleData}
 use Rattle.plan_scale.specs.Answer.{scale_of_json}
-use Rattle.leg_lists.specs.declared.fault.LegFault.{LegFault}
-use Rattle.leg_lists.specs.declared.fault.LegFault.TheVariants.{Scale}
-use Rattle.leg_lists.specs.declared.leg.LegSpec.{LegSpec}
+use Rattle.legs.specs.declared.fault.LegFault.{LegFault}
+use Rattle.legs.specs.declared.fault.LegFault.TheVariants.{Scale}
+use Rattle.legs.specs.declared.leg.LegSpec.{LegSpec}
 use Rattle.leg_lists.specs.LegsText.{LegSaid}
 
 infixl 10 ◌>>=◌

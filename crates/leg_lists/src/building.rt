@@ -8,11 +8,11 @@ ghost use Rattle.leg_lists.specs.LegsText.{leg_said};
 ghost use Rattle.leg_lists.specs.Said as said;
 ghost use Rattle.leg_lists.specs.Answer.{Gives, is_memory};
 
-use crate::fault::LegFault;
-use crate::leg::LegSpec;
 use crate::text::LegText;
-use logical_plan::Plan;
-use plan_scale::{Scale, ScaleFault};
+use layout_rules::{Scale, ScaleFault};
+use legs::{LegFault, LegSpec};
+use plan_model::Plan;
+use plan_scale::ReadScale;
 use serde_json::Value;
 use std::alloc::Global;
 

@@ -1,67 +1,17 @@
-//! Why a leg, or a list of legs, is refused.
+//! The fault of a part.
 
 ghost use Rattle.std.specs.Prelude.{◌≡◌};
-ghost use Rattle.leg_lists.specs.declared.fault.LegFault.TheVariants.{Memory};
-ghost use Rattle.leg_lists.specs.Fault.{fault_of_part};
+ghost use Rattle.leg_lists.specs.Fault as fault;
 
 use json_parts::PartError;
-use plan_scale::ScaleFault;
-use std::alloc::{AllocError, AllocFailed};
-use thiserror::Error;
+use legs::LegFault;
 
-/// Why a leg, or a list of legs, has no answer.
-#[derive(Clone, Copy, Debug, PartialEq, Eq, Error)]
-pub enum LegFault {
-    /// The cut to stop at has another shape than the input, counts fewer entries of a partition than were read
-    /// before the leg, or more than there are.
-    #[error("L1 StopRange")]
-    StopRange,
-    /// No memory was to be had.
-    #[error("L2 Memory")]
-    Memory,
-    /// A list has no leg or more than 1,024, or a leg before the last does not stop.
-    #[error("L3 Legs")]
-    Legs,
-    /// The bytes are no JSON text.
-    #[error("L4 NotJson")]
-    NotJson,
-    /// A part of the list is missing, unknown or of another form.
-    #[error("L5 Member")]
-    Member,
-    /// The choices of steps are no list that has for each leg a list of whole numbers of 32 bits.
-    #[error("L6 Choices")]
-    Choices,
-    /// The system refused a thread. A leg in one thread asks for none.
-    #[error("L7 Threads")]
-    Threads,
-    /// The scale of the leg at this place, from 0, is refused.
-    #[error("{1}")]
-    Scale(usize, ScaleFault),
-}
-
-impl From<PartError> for LegFault {
-    ghost from_gives = { λ part fault. fault ≡ fault_of_part part };
-
-    fn from(part: PartError) -> LegFault {
-        match part {
-            PartError::Form => LegFault::Member,
-            PartError::Memory => LegFault::Memory,
-        }
-    }
-}
-
-impl From<AllocError> for LegFault {
-    ghost from_gives = { λ _ e. e ≡ Memory };
-
-    fn from(_e: AllocError) -> LegFault {
-        LegFault::Memory
-    }
-}
-
-impl<T: Drop> From<AllocFailed<T>> for LegFault {
-    ghost from_gives = { λ _ e. e ≡ Memory };
-
-    fn from(_e: AllocFailed<T>) -> LegFault {
-        LegFault::Memory
+/// Why a text has no list of legs of which a part is not as it has to be.
+pub fn fault_of_part(part: PartError) -> LegFault
+    ensures { result ≡ fault.fault_of_part part }
+{
+    match part {
+        PartError::Form => LegFault::Member,
+        PartError::Memory => LegFault::Memory,
     }
 }

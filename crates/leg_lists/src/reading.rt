@@ -8,12 +8,11 @@ ghost use Rattle.leg_lists.specs.LegsText.{leg_said};
 ghost use Rattle.leg_lists.specs.Answer.{Gives, is_memory, legs_or_fault, legs_of_json, legs_of_bytes};
 
 use crate::building::legs_of;
-use crate::fault::LegFault;
-use crate::leg::LegSpec;
-use crate::requirements::are_legs;
+use crate::fault::fault_of_part;
 use crate::text::{LegText, text_of_legs};
 use json_parts::{PartError, value_of};
-use logical_plan::Plan;
+use legs::{LegFault, LegSpec, are_legs};
+use plan_model::Plan;
 use serde_json::Value;
 use std::alloc::Global;
 
@@ -33,7 +32,10 @@ fn legs_in(alloc: Global, plan: &Plan, value: &Value) -> Result<Vec<LegSpec>, Le
     ensures reads { Gives is_memory (λ legs. legs.items) result (legs_of_json plan.now (view value.now)) }
     ensures belong { IfOk result (λ legs. All (λ leg. IsScale plan.now leg.scale) legs.items) }
 {
-    legs_from(alloc, plan, text_of_legs(alloc, value)?)
+    match text_of_legs(alloc, value) {
+        Ok(texts) => legs_from(alloc, plan, texts),
+        Err(part) => Err(fault_of_part(part)),
+    }
 }
 
 /// The legs of a plan that the bytes are, a JSON text.

@@ -5,9 +5,8 @@ ghost use Rattle.serde_json.specs.View.{view};
 ghost use Rattle.json_parts.specs.Parts.{Gives, each};
 ghost use Rattle.leg_lists.specs.LegsText.{stop_text, stop_or_end, leg_text, legs_text, leg_said};
 
-use crate::cut::Cut;
-use crate::stop::Stop;
 use json_parts::{FromValue, PartError, elements_of, has_only};
+use legs::{Cut, Stop};
 use plain_data::Items;
 use serde_json::Value;
 use std::alloc::Global;

@@ -5,8 +5,8 @@ ghost use Rattle.plan_model.specs.Rows.{AreRowsOf};
 ghost use Rattle.stream_model.specs.InputData.{BelongsTo};
 ghost use Rattle.stream_model.specs.PlanRows.{plan_rows};
 ghost use Rattle.layout_rules.specs.Scale.{IsScale};
-ghost use Rattle.leg_lists.specs.declared.fault.LegFault.TheVariants as fault;
-ghost use Rattle.leg_lists.specs.declared.stop.Stop.TheVariants.{Never};
+ghost use Rattle.legs.specs.declared.fault.LegFault.TheVariants as fault;
+ghost use Rattle.legs.specs.declared.stop.Stop.TheVariants.{Never};
 ghost use Rattle.redistribute.specs.StartData.{offsets_of};
 ghost use Rattle.redistribute.specs.Begins.{IsStartIn, IsFromNothing};
 ghost use Rattle.redistribute.specs.Stopping.{CanStop, IsRefusal};
@@ -15,14 +15,14 @@ ghost use Rattle.core_steps.specs.Ending.{IsEndOf, IsWholeRun};
 
 use crate::running::{follow, run};
 use core_steps::{Finish, Given, World};
-use leg_lists::{Choice, LegFault, Stop};
-use logical_plan::Plan;
+use layout_rules::Scale;
+use legs::{Choice, LegFault, Stop};
 use plain_data::Items;
-use plan_compiler::{Layout, Scale, compile};
-use plan_model::Row;
+use plan_compiler::{Layout, compile};
+use plan_model::{Plan, Row};
 use redistribute::Start;
 use std::alloc::{AllocError, Global};
-use stream_input::Input;
+use stream_model::Input;
 use window_state::HashKeys;
 
 /// What a world comes to that has just opened: the steps that the choices pick are made, then others until there is none.

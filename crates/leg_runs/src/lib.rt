@@ -13,6 +13,4 @@ mod schedule;
 
 pub use core_steps::Finish;
 pub use leg::{run_leg, run_leg_by};
-
-#[cfg(test)]
-mod tests;
+pub use running::follow;

@@ -11,7 +11,7 @@ use crate::order::step_from;
 use crate::schedule::{Schedule, other_end};
 use core_steps::World;
 use dataflow_laws::Step;
-use leg_lists::Choice;
+use legs::Choice;
 use plan_compiler::Layout;
 use std::alloc::{AllocError, Global};
 
@@ -33,8 +33,14 @@ fn next_step(world: &World, layout: &Layout, hints: &mut Vec<Step>) -> Option<St
     step_from(world, layout, 0)
 }
 
-/// Makes the step of each choice in turn, as long as there is one.
-pub(crate) fn follow(
+/// Makes the step of each choice in turn, as long as there is one: of so many steps that could be made, in the order of tasks,
+/// then of `Step`'s kinds, then of partitions or inputs, the one at the choice's place. Choices that are left where no step can be
+/// made any more are not looked at. The layout is the world's.
+///
+/// # Errors
+///
+/// Only where memory runs out. The world may have failed then.
+pub fn follow(
     alloc: Global,
     world: &mut World,
     layout: &Layout,

@@ -10,7 +10,7 @@ ghost use Rattle.core_steps.specs.Answers.{CanMake};
 use crate::order::enabled;
 use core_steps::World;
 use dataflow_laws::Step;
-use leg_lists::Choice;
+use legs::Choice;
 use plan_compiler::Layout;
 use std::alloc::{AllocError, Global};
 

@@ -1,4 +1,5 @@
 mod Snapshot
+mod OneOfACut
 mod Saving
 mod Known
 mod Suiting

@@ -309,9 +309,9 @@ module _ (p : PlanData) (c : ScaleData) (i : InputData) (leg : Leg) (ip : IsPlan
       ∙ one_from q (λ t. panes_in (left t)) 0 n (L.owner q.key) (snapshot p i.sources cut q) (omega arith) (let z = last in omega (arith, z, o)) (λ t z l. by_task owned q t (omega (arith, l)) (task_role S t) refl)
 
 pub tasks_save_the_cut : TasksSaveTheCut
-tasks_save_the_cut p l i n until cut states number ip lo belongs is_cut =
-    let R : LayoutData → Type 0 = λ m. let a = layout_to p i n until m.stages in HaveCut p i a states cut → HaveMarks (input_of p i) a states (counts_at p cut) → IsSavedAt p i cut number (savepoint_left p m.stages states number) in
-    let leg : Leg = leg_of n [] until (entries_of i).size in
+tasks_save_the_cut p l i n saves until cut states number ip lo belongs is_cut =
+    let R : LayoutData → Type 0 = λ m. let a = layout_to p i n saves until m.stages in HaveCut p i a states cut → HaveMarks (input_of p i) a states (counts_at p cut) → IsSavedAt p i cut number (savepoint_left p m.stages states number) in
+    let leg : Leg = leg_of n saves until (entries_of i).size in
     subst R (sym lo.is) (λ has marks. record {
       windows = windows_in (all_left p (stages_of p lo.scale) states);
       snapshot = windows_are p lo.scale i leg ip lo.fits belongs cut is_cut states has.windows;

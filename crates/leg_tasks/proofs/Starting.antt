@@ -68,10 +68,10 @@ opens p s leg stages t =
     state_is p (task_role stages t) (starts_at p s stages t) (parts_at p s stages t) k n (when_false (is_source (task_role stages t)) (length (partitions_of (partition_counts p) stages t)) n)
 
 pub new_tasks_begin : (p : PlanData) (c : ScaleData) (i : InputData) (s : StartData) (n : ℕ) (until : Until) (stages : List Stage) → IsPlan p → IsScale p c → IsCompiled p c stages → BelongsTo p i → IsWithin i until
-    → BeginLeg p i s stages (layout_to p i n until stages) (new_tasks p s (leg_of n [] until (entries_of i).size) stages)
+    → BeginLeg p i s stages (layout_to p i n [] until stages) (new_tasks p s (leg_of n [] until (entries_of i).size) stages)
 new_tasks_begin p c i s n until stages sound scaled compiled belongs_to there =
     let leg : Leg = leg_of n [] until (entries_of i).size in
-    let l : AbstractLayout = layout_to p i n until stages in
+    let l : AbstractLayout = layout_to p i n [] until stages in
     let tasks = new_tasks p s leg stages in
     let count : task_count stages ≡ suc l.sink = sink_is_last p c stages sound scaled compiled in
     let at : (t : ℕ) (d : TaskData) → t ≤ l.sink → get_or tasks t d ≡ new_task p s leg stages t = λ t d m. get_or-map-range_with_len (new_task p s leg stages) 0 (task_count stages) t t d (omega (arith, m, count)) (omega arith) in

@@ -1,10 +1,10 @@
 //! The tasks of a leg, made.
 
-ghost use Rattle.std.specs.Prelude.{◌≡◌, ◌<◌, IfErr, IfOk, OnOk};
+ghost use Rattle.std.specs.Prelude.{[], ◌≡◌, ◌<◌, IfErr, IfOk, OnOk};
 ghost use Rattle.layout_rules.specs.Stages as rule;
 ghost use Rattle.stream_model.specs.InputData.{BelongsTo};
 ghost use Rattle.dataflow_laws.specs.Compiled.{layout_to};
-ghost use Rattle.leg_lists.specs.Stops.{until_of};
+ghost use Rattle.legs.specs.Stops.{until_of};
 ghost use Rattle.redistribute.specs.StartData.{offsets_of};
 ghost use Rattle.redistribute.specs.Begins.{IsStartIn};
 ghost use Rattle.redistribute.specs.Parts.{IsPartFor};
@@ -16,12 +16,12 @@ ghost use Rattle.task_steps.specs.Beginning.{begun};
 ghost use Rattle.leg_tasks.specs.Beginning as begins;
 
 use crate::opening::{Opening, opening_of};
-use leg_lists::LegFault;
-use logical_plan::Plan;
+use legs::LegFault;
 use plan_compiler::Layout;
+use plan_model::Plan;
 use redistribute::{Start, TaskStart, spread};
 use std::alloc::{AllocError, Global};
-use stream_input::Input;
+use stream_model::Input;
 use task_setups::{Leg, setup_of};
 use task_steps::Task;
 use window_state::HashKeys;
@@ -130,7 +130,7 @@ pub fn tasks(
     requires number { leg.now.number ≡ start.now.number }
     ensures stops { OnOk result (CanStop input.now.sources (offsets_of start.now) leg.now.stop) }
     ensures are { IfOk result (λ made. made.items ≡ begins.new_tasks plan.now start.now (leg_over leg.now input.now) layout.now.stages) }
-    ensures begin { IfOk result (λ made. begins.BeginLeg plan.now input.now start.now layout.now.stages (layout_to plan.now input.now leg.now.number (until_of leg.now.stop) layout.now.stages) made.items) }
+    ensures begin { IfOk result (λ made. begins.BeginLeg plan.now input.now start.now layout.now.stages (layout_to plan.now input.now leg.now.number [] (until_of leg.now.stop) layout.now.stages) made.items) }
     ensures refused { IfErr result (λ fault. IsRefusal input.now.sources (offsets_of start.now) leg.now.stop fault) }
 {
     let _columns = plan.columns();

@@ -9,9 +9,9 @@ ghost use Rattle.plan_compiler.specs.LayoutData.{IsLayoutOf};
 ghost use Rattle.leg_tasks.specs.Leaving as left;
 
 use gather::gather;
-use logical_plan::Plan;
 use plain_data::Items;
 use plan_compiler::{Layout, Role};
+use plan_model::Plan;
 use redistribute::{PartitionStart, TaskStart};
 use savepoint_codec::Savepoint;
 use std::alloc::{AllocError, Global};

@@ -7,7 +7,7 @@ ghost use Rattle.window_state.specs.State.{StateData};
 ghost use Rattle.window_state.specs.Parts.{IsPartOf};
 ghost use Rattle.leg_tasks.specs.Beginning as begins;
 
-use logical_plan::Plan;
+use plan_model::Plan;
 use redistribute::{PartitionStart, TaskStart};
 use std::alloc::{AllocError, Global};
 use window_state::{HashKeys, Part, WindowState};

@@ -14,7 +14,7 @@ use Rattle.std.specs.declared.cmp.Ordering.TheVariants.{Less, Equal, Greater}
 use Rattle.std.proofs.lemmas.Bool.{and_parts, cases_eq, cases_Bool, eq-eqb, eqb-true, lt-ltb, ltb-true, ne_eqb}
 use Rattle.std.proofs.lemmas.List.{append-nil, length-map, map-append}
 use Rattle.std.proofs.lemmas.List.Elements.{filter-append}
-use Rattle.json_parts.proofs.Facts.{met_first, no_fault}
+use Rattle.answers.proofs.Facts.{met_first, no_fault}
 use Rattle.byte_fields.specs.declared.fault.FieldFault.TheVariants.{Order, Range}
 use Rattle.byte_fields.specs.Format.{Format, before, where_it}
 use Rattle.byte_fields.specs.Fields.{few_field, u16_field, u64_field}
@@ -28,8 +28,8 @@ use Rattle.plan_model.specs.PlanData.{PlanData}
 use Rattle.plan_model.specs.Rows.{pane_cmp}
 use Rattle.plan_model.specs.Uids.{uid_field}
 use Rattle.plan_model.proofs.Facts.{pane_cmp_total, pane_cmp-IsAntisymmetric}
-use Rattle.logical_plan.specs.Laws.{AscendingIsInOrder}
-use Rattle.logical_plan.specs.PlanRecord.{plan_record}
+use Rattle.plan_record.specs.Laws.{AscendingIsInOrder}
+use Rattle.plan_record.specs.PlanRecord.{plan_record}
 use Rattle.aggregates.specs.declared.kind.Kind.{Kind}
 use Rattle.aggregates.specs.Kinds.{kind_of}
 use Rattle.window_state.specs.declared.parts.Part.{Part}

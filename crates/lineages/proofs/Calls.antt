@@ -20,10 +20,10 @@ use Rattle.input_flow.proofs.Facts.{empty_is_cut}
 use Rattle.dataflow_laws.specs.Compiled.{cut_to}
 use Rattle.dataflow_laws.specs.Inputs.{due_between}
 use Rattle.plan_scale.specs.Answer.{scale_of_bytes}
-use Rattle.leg_lists.specs.declared.cut.Cut.{Cut}
-use Rattle.leg_lists.specs.declared.stop.Stop.{Stop}
-use Rattle.leg_lists.specs.declared.stop.Stop.TheVariants.{Never, At}
-use Rattle.leg_lists.specs.Stops.{until_of}
+use Rattle.legs.specs.declared.cut.Cut.{Cut}
+use Rattle.legs.specs.declared.stop.Stop.{Stop}
+use Rattle.legs.specs.declared.stop.Stop.TheVariants.{Never, At}
+use Rattle.legs.specs.Stops.{until_of}
 use Rattle.savepoint_codec.specs.Answer.{fault_said, savepoint_of_bytes}
 use Rattle.savepoint_codec.specs.Layout.{IsSavepoint, savepoint_bytes, savepoint_format}
 use Rattle.savepoint_codec.specs.declared.savepoint.Contents.{Contents}

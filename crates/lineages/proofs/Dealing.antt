@@ -58,7 +58,7 @@ use Rattle.gather.specs.Laws.{SamePanesSameSavepoint}
 use Rattle.gather.specs.Parts.{panes_in, part_at, is_reader, starts_at, starts_of, saved_start, partition_in, source_in, sources_in, windows_in}
 use Rattle.gather.specs.Saved.{savepoint_of}
 use Rattle.restarts.specs.Laws.{AcceptedHaveGroups}
-use Rattle.logical_plan.specs.Laws.{AscendingIsInOrder}
+use Rattle.plan_record.specs.Laws.{AscendingIsInOrder}
 use Rattle.lineages.specs.Dealing.{SayStart, DealtAreGathered, SavepointsAreGatheredAgain}
 use Rattle.lineages.proofs.Accepted.{is_of_start}
 

@@ -2,7 +2,7 @@
 use Rattle.std.proofs.Common.{◌≡◌, ◌∙◌, ℕ, ◌+◌, ◌≤◌, ◌^◌, List, [], ◌∷◌, ◌++◌, length, Ok, refl, sym, ap, subst, arith}
 use Rattle.std.proofs.lemmas.Bool.{leb-true}
 use Rattle.std.specs.Option.{option_to_list}
-use Rattle.json_parts.proofs.Facts.{met_first, no_fault}
+use Rattle.answers.proofs.Facts.{met_first, no_fault}
 use Rattle.plan_model.specs.PlanData.{PlanData}
 use Rattle.plan_model.specs.Rows.{AreRowsOf}
 use Rattle.plan_model.specs.declared.spec.Row.{Row}
@@ -13,22 +13,20 @@ use Rattle.stream_model.specs.PlanRows.{due_rows}
 use Rattle.input_flow.proofs.Facts.{empty_is_cut}
 use Rattle.dataflow_laws.specs.Compiled.{cut_to}
 use Rattle.dataflow_laws.specs.Inputs.{due_between}
-use Rattle.leg_lists.specs.declared.cut.Cut.{Cut}
-use Rattle.leg_lists.specs.declared.stop.Stop.{Stop}
-use Rattle.leg_lists.specs.declared.stop.Stop.TheVariants.{Never, At}
-use Rattle.leg_lists.specs.Stops.{until_of}
+use Rattle.legs.specs.declared.cut.Cut.{Cut}
+use Rattle.legs.specs.declared.stop.Stop.{Stop}
+use Rattle.legs.specs.declared.stop.Stop.TheVariants.{Never, At}
+use Rattle.legs.specs.Stops.{until_of}
 use Rattle.redistribute.specs.StartData.{StartData, offsets_of}
 use Rattle.redistribute.specs.Begins.{HasSnapshot, IsFromNothing}
 use Rattle.redistribute.specs.Stopping.{CanStop}
-use Rattle.redistribute.specs.Snapshots.{saved_sources}
 use Rattle.savepoint_codec.specs.Layout.{IsSavepoint, savepoint_bytes}
 use Rattle.savepoint_codec.specs.declared.savepoint.Contents.{Contents}
 use Rattle.restore.specs.Answer.{start_of, start_or_fault}
 use Rattle.restore.specs.Requirements.{has_max, has_known_uids, has_all_uids, has_plan, has_partitions, has_offsets, has_watermarks, has_groups, has_open_windows, has_counts, has_number, plan_requirements, input_requirements}
 use Rattle.restore.specs.declared.fault.RestoreFault.TheVariants.{MaxParallelism, UnknownUid, MissingUid, PlanChanged, Partitions, Offset, Watermark, WrongGroup, ClosedWindow, Count, Number}
 use Rattle.restarts.specs.Laws.{IsStartAt, SnapshotsRestart, savepoint_at}
-use Rattle.gather.specs.Laws.{SamePanesSameSavepoint}
-use Rattle.leg_tasks.specs.Saved.{IsSavedAt}
+use Rattle.leg_tasks.specs.Saved.{IsSavedAt, SavedAtIsOne}
 use Rattle.core_steps.specs.Given.{GivenData}
 use Rattle.core_steps.specs.World.{WorldData, IsGiven}
 use Rattle.core_steps.specs.Finishing.{rows_in, savepoint_in}
@@ -159,8 +157,8 @@ headline made p i [] l = elim l [ ]
 
 -- ---- legs from one snapshot to one cut
 
-pub one_savepoint : SamePanesSameSavepoint → OneSavepoint
-one_savepoint same p i cut number end s other w v at bt leg next =
+pub one_savepoint : SavedAtIsOne → OneSavepoint
+one_savepoint one p i cut number end s other w v at bt leg next =
     let a = saved p i s (At end) w leg cut number at end refl in
     let b = saved p i other (At end) v next cut number bt end refl in
-    ap savepoint_bytes (a.is ∙ same p (saved_sources i.sources end.counts) a.windows b.windows (number + 1) (λ q. a.snapshot q ∙ sym (b.snapshot q)) ∙ sym b.is)
+    ap savepoint_bytes (one p i end.counts (number + 1) (savepoint_in w) (savepoint_in v) a b)

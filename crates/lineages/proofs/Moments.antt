@@ -14,9 +14,9 @@ use Rattle.stream_model.specs.PlanRows.{due_rows, plan_rows}
 use Rattle.input_flow.proofs.Facts.{empty_is_cut}
 use Rattle.dataflow_laws.specs.Compiled.{cut_to}
 use Rattle.dataflow_laws.specs.Inputs.{due_between}
-use Rattle.leg_lists.specs.declared.stop.Stop.{Stop}
-use Rattle.leg_lists.specs.declared.stop.Stop.TheVariants.{At}
-use Rattle.leg_lists.specs.Stops.{until_of}
+use Rattle.legs.specs.declared.stop.Stop.{Stop}
+use Rattle.legs.specs.declared.stop.Stop.TheVariants.{At}
+use Rattle.legs.specs.Stops.{until_of}
 use Rattle.redistribute.specs.StartData.{StartData, offsets_of}
 use Rattle.redistribute.specs.Begins.{HasSnapshot}
 use Rattle.savepoint_codec.specs.Layout.{IsSavepoint, savepoint_bytes}

@@ -9,8 +9,8 @@ use Rattle.logical_plan.specs.Answer.{plan_of_bytes}
 use Rattle.stream_model.specs.InputData.{InputData, IsInput, BelongsTo}
 use Rattle.stream_model.specs.Watermarks.{IsOrderly}
 use Rattle.input_texts.specs.Answer.{input_of_bytes}
-use Rattle.leg_lists.specs.declared.stop.Stop.{Stop}
-use Rattle.leg_lists.specs.declared.stop.Stop.TheVariants.{Never, At}
+use Rattle.legs.specs.declared.stop.Stop.{Stop}
+use Rattle.legs.specs.declared.stop.Stop.TheVariants.{Never, At}
 use Rattle.savepoint_codec.specs.Layout.{IsSavepoint, savepoint_bytes}
 use Rattle.savepoint_codec.specs.declared.savepoint.Contents.{Contents}
 use Rattle.redistribute.specs.StartData.{StartData}

@@ -7,7 +7,8 @@ ghost use Rattle.lineages.specs.Steps.{EachStepFalls};
 
 use gather::laws::same_panes_same_savepoint;
 use job_legs::laws::{each_row_adds_up, nothing_due_at_first, rows_add_up};
-use logical_plan::laws::ascending_is_in_order;
+use leg_tasks::laws::saved_at_is_one;
+use plan_record::laws::ascending_is_in_order;
 use redistribute::laws::each_partition_once;
 use restarts::laws::{accepted_have_groups, snapshots_restart};
 use savepoint_codec::laws::one_content;
@@ -93,7 +94,7 @@ pub fn calls_are_exact()
 pub fn one_savepoint()
     ensures { OneSavepoint }
 {
-    let _same = same_panes_same_savepoint();
+    let _one = saved_at_is_one();
 }
 
 /// Of what `redistribute::spread` gives of a start, at a layout of any scale, `gather::gather` gives the start's: how far each

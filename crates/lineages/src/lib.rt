@@ -8,3 +8,6 @@
 #![tactic(auto)]
 
 pub mod laws;
+mod premises;
+
+pub use premises::{leg_of, start_from};

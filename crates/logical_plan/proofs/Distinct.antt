@@ -3,9 +3,10 @@ use Rattle.std.proofs.Common.{◌≡◌, ℕ, ◌+◌, ◌<◌, Bool, true, fals
 use Rattle.std.specs.Prelude.{bytes_eq}
 use Rattle.std.specs.List.{list_any}
 use Rattle.std.specs.Cmp.Lexicographic.{nat_list_eq_equiv}
-use Rattle.std.proofs.lemmas.List.{take_more, map_push, map-append, take-append-drop}
+use Rattle.std.proofs.lemmas.List.{map-append, take-append-drop}
 use Rattle.std.proofs.lemmas.List.Folds.{list_any-append}
 use Rattle.plan_model.specs.Uids.{are_distinct}
+use Rattle.plan_model.proofs.Facts.{front_more}
 
 pub list_any_map : {A B : Type 0} (test : B → Bool) (f : A → B) (xs : List A) → list_any test (map f xs) ≡ list_any (λ x. test (f x)) xs
 list_any_map test f [] = refl
@@ -72,9 +73,6 @@ added_again front all more x r is_false is_new split = rw split (are_distinct_ag
     not_false : (b : Bool) → not b ≡ false → b ≡ true
     not_false true h = refl
     not_false false h = absurd cc
-
-pub front_more : {A B : Type 0} (f : A → B) (xs : List A) (i : ℕ) (d : A) → i < length xs → map f (take (i + 1) xs) ≡ map f (take i xs) ++ f (get_or xs i d) ∷ []
-front_more f xs i d lt = rw (take_more xs i d lt, map_push) refl
 
 front_rest : {A : Type 0} (f : A → List ℕ) (xs : List A) (i : ℕ) (d : A) → i < length xs → map f xs ≡ map f (take i xs) ++ f (get_or xs i d) ∷ map f (drop (i + 1) xs)
 front_rest f xs i d lt =

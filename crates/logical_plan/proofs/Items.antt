@@ -1,7 +1,6 @@
--- Lists that are mapped, and tests of them.
-use Rattle.std.proofs.Common.{◌≡◌, ℕ, ◌+◌, Bool, true, false, cond, not, ◌&&◌, List, [], ◌∷◌, map, refl, ap}
-use Rattle.std.specs.List.{list_all, prefix_len, position}
-use Rattle.std.proofs.lemmas.List.{length-map}
+-- Tests of the parts of a list.
+use Rattle.std.proofs.Common.{◌≡◌, Bool, true, false, ◌&&◌, List, ◌∷◌, refl}
+use Rattle.std.specs.List.{list_all}
 use Rattle.std.proofs.lemmas.List.Folds.{list_all-map, list_all-append}
 use Rattle.logical_plan.specs.declared.text.SourceText.{SourceText}
 use Rattle.logical_plan.specs.declared.text.FilterText.{FilterText}
@@ -18,13 +17,6 @@ and_true false = refl
 pub all_uids : (p : PlanText) → has_uids p ≡ ((list_all (λ (s : SourceText). is_uid s.uid) p.sources && list_all (λ (f : FilterText). is_uid f.uid) p.filters) && is_uid p.window.uid)
 unfolding has_uids
 all_uids p = simp (list_all-append, list_all-map, and_true)
-
-prefix_len_map : {A B : Type 0} (test : B → Bool) (f : A → B) (xs : List A) → prefix_len test (map f xs) ≡ prefix_len (λ x. test (f x)) xs
-prefix_len_map test f [] = refl
-prefix_len_map test f (x ∷ xs) = ap (λ (n : ℕ). cond (test (f x)) (1 + n) 0) (prefix_len_map test f xs)
-
-pub position_map : {A B : Type 0} (test : B → Bool) (f : A → B) (xs : List A) → position test (map f xs) ≡ position (λ x. test (f x)) xs
-position_map test f xs = rw (prefix_len_map (λ y. not (test y)) f xs, length-map) refl
 
 -- a test that all pass, at the first and at the rest
 pub first_passes : {X : Type 0} (test : X → Bool) (xs ys : List X) (x : X) → xs ≡ x ∷ ys → list_all test xs ≡ true → (test x ≡ true) × (list_all test ys ≡ true)

@@ -1,5 +1,5 @@
 -- A text that meets every requirement is a plan's.
-use Rattle.std.proofs.Common.{FitsSigned, ◌≡◌, ℕ, ◌^◌, ◌<◌, ◌≤◌, ℤ, pos, negsuc, neg_ℤ, ◌*ℤ◌, ◌≤ℤ◌, ◌<ℤ◌, Bool, true, false, cond, ◌&&◌, List, map, length, get_or, ◌++◌, [], ◌∷◌, Option, None, Some, refl, ap, sym, ◌∙◌, arith}
+use Rattle.std.proofs.Common.{FitsSigned, ◌≡◌, ℕ, ◌<◌, ◌≤◌, ℤ, pos, negsuc, neg_ℤ, ◌*ℤ◌, ◌≤ℤ◌, ◌<ℤ◌, Bool, true, false, cond, ◌&&◌, List, map, length, get_or, ◌++◌, [], ◌∷◌, Option, None, Some, refl, ap, sym, ◌∙◌, arith}
 use Rattle.std.specs.Int.{w64}
 use Rattle.std.specs.Prelude.{unsigned_abs, int_lt, int_le, nat_le}
 use Rattle.std.specs.List.{All, list_all}
@@ -11,9 +11,10 @@ use Rattle.std.proofs.lemmas.List.Elements.{All-map}
 use Rattle.std.proofs.lemmas.List.Folds.{list_all-append, list_all-map}
 use Rattle.std.proofs.lemmas.List.Sums.{AllPass-from_list_all, list_all-from_AllPass}
 use Rattle.std.specs.Int.Signed.{le_z_yes, lt_z_yes}
-use Rattle.json_parts.specs.Answer.{first_unmet}
-use Rattle.json_parts.proofs.Facts.{met_first}
+use Rattle.answers.specs.Answer.{first_unmet}
+use Rattle.answers.proofs.Facts.{met_first}
 use Rattle.json_parts.specs.Tests.{is_within, is_place}
+use Rattle.plan_model.specs.declared.limits.TheConstants.{MOST_PARTITIONS, LONGEST_WINDOW}
 use Rattle.plan_model.specs.Uids.{is_nat_within, is_uid, are_distinct}
 use Rattle.logical_plan.specs.declared.text.SourceText.{SourceText}
 use Rattle.logical_plan.specs.declared.text.FilterText.{FilterText}
@@ -34,13 +35,13 @@ pub record Meets (t : PlanText) : Type 0 where
   pub aggregate_columns : list_all (is_aggregate_of t.columns) t.window.aggregates ≡ true
   pub max : is_within (pos 1) (pos 32768) t.max ≡ true
   pub sources : is_nat_within 1 8 (length t.sources) ≡ true
-  pub partitions : list_all (λ s. is_within (pos 1) (pos 64) s.partitions) t.sources ≡ true
+  pub partitions : list_all (λ s. is_within (pos 1) (pos MOST_PARTITIONS) s.partitions) t.sources ≡ true
   pub uids : list_all is_uid (text_uids t) ≡ true
   pub distinct : are_distinct (text_uids t) ≡ true
   pub filters : nat_le (length t.filters) 32 ≡ true
   pub having : nat_le (length t.window.having) 32 ≡ true
-  pub size : is_within (pos 1) (pos (2 ^ 40)) t.window.size ≡ true
-  pub slide : is_within (pos 1) (pos (2 ^ 40)) t.window.slide ≡ true
+  pub size : is_within (pos 1) LONGEST_WINDOW t.window.size ≡ true
+  pub slide : is_within (pos 1) LONGEST_WINDOW t.window.slide ≡ true
   pub above : int_lt (neg_ℤ t.window.slide) t.window.offset ≡ true
   pub below : int_lt t.window.offset t.window.slide ≡ true
   pub panes : int_le t.window.size (pos 256 *ℤ t.window.slide) ≡ true
@@ -183,8 +184,8 @@ is_plan t m filter_values having_values =
       max_small = max.1;
       sourced = rw length-map sources.0;
       sources_few = rw length-map sources.1;
-      partitioned = all_map (λ s. is_within (pos 1) (pos 64) s.partitions) source_data (λ s. 1 ≤ s.partitions) t.sources (λ s h. (within 1 64 s.partitions h).0) m.partitions;
-      partitions_few = all_map (λ s. is_within (pos 1) (pos 64) s.partitions) source_data (λ s. s.partitions ≤ 64) t.sources (λ s h. (within 1 64 s.partitions h).1) m.partitions;
+      partitioned = all_map (λ s. is_within (pos 1) (pos MOST_PARTITIONS) s.partitions) source_data (λ s. 1 ≤ s.partitions) t.sources (λ s h. (within 1 MOST_PARTITIONS s.partitions h).0) m.partitions;
+      partitions_few = all_map (λ s. is_within (pos 1) (pos MOST_PARTITIONS) s.partitions) source_data (λ s. s.partitions ≤ MOST_PARTITIONS) t.sources (λ s h. (within 1 MOST_PARTITIONS s.partitions h).1) m.partitions;
       named = rw (same_uids t) (AllPass-from_list_all is_uid (text_uids t) m.uids);
       distinct = rw (same_uids t) m.distinct;
       filters_few = rw length-map (leb-true _ _ m.filters);
@@ -215,10 +216,3 @@ pub having_places : (t : PlanText) → Meets t → list_all (λ h. is_place (pos
 having_places t m =
     let aggregates = nat_within 1 8 (length t.window.aggregates) m.aggregates in
     list_all-from_AllPass (λ h. is_place (pos 8) h.aggregate) t.window.having (λ k d lt. place_below (length t.window.aggregates) 8 (get_or t.window.having k d).aggregate aggregates.1 (AllPass-from_list_all (λ h. is_place (pos (length t.window.aggregates)) h.aggregate) t.window.having m.places k d lt))
-
-pub sources_named : (p : PlanData) → IsPlan p → All (λ s. is_uid s.uid ≡ true) p.sources
-sources_named p sound =
-    let all = list_all-from_AllPass is_uid (uids p) sound.named in
-    let front = (both _ _ (sym (list_all-append is_uid (map (λ s. s.uid) p.sources ++ map (λ f. f.uid) p.filters) (p.window.uid ∷ [])) ∙ all)).0 in
-    let first = (both _ _ (sym (list_all-append is_uid (map (λ s. s.uid) p.sources) (map (λ f. f.uid) p.filters)) ∙ front)).0 in
-    AllPass-from_list_all (λ s. is_uid s.uid) p.sources (sym (list_all-map is_uid (λ s. s.uid) p.sources) ∙ first)

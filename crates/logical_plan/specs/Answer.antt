@@ -3,8 +3,8 @@ use Rattle.std.specs.Prelude.{ℕ, Bool, true, false, List, map, unsigned_abs, R
 use Rattle.std.specs.Option.{option_map_or}
 use Rattle.serde_json.specs.Data.{Data}
 use Rattle.json_parts.specs.Parts.{json_of}
-use Rattle.json_parts.specs.Answer.{value_or_fault}
-pub use Rattle.json_parts.specs.Answer.{Fails, Gives}
+use Rattle.answers.specs.Answer.{value_or_fault}
+pub use Rattle.answers.specs.Answer.{Fails, Gives}
 use Rattle.json_parts.specs.declared.error.PartError.{PartError}
 use Rattle.json_parts.specs.declared.error.PartError.TheVariants as part
 use Rattle.logical_plan.specs.declared.text.SourceText.{SourceText}

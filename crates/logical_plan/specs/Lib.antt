@@ -1,7 +1,3 @@
 pub mod PlanText
 pub mod Requirements
-pub mod Places
 pub mod Answer
-pub mod PlanRecord
-pub mod Alike
-pub mod Laws

@@ -1,7 +1,7 @@
 -- What a plan must meet, and the fault where it does not, in the order in which they are decided.
 use Rattle.std.specs.Prelude.{ℕ, ℤ, pos, neg_ℤ, ◌*ℤ◌, int_le, int_lt, Bool, true, ◌&&◌, nat_le, List, [], ◌∷◌, ◌++◌, map, length, Option}
 use Rattle.std.specs.List.{list_all}
-use Rattle.json_parts.specs.Answer.{otherwise}
+use Rattle.answers.specs.Answer.{otherwise}
 use Rattle.json_parts.specs.Tests.{is_within, is_place}
 use Rattle.key_groups.specs.declared.limits.TheConstants.{MOST_GROUPS}
 use Rattle.plain_data.specs.declared.limits.TheConstants.{MOST_COLUMNS}

@@ -3,20 +3,19 @@
 ghost use Rattle.std.specs.Prelude.{◌≡◌, ◌<◌, FitsSigned, true, None, map, pos, unsigned_abs, IfOk};
 ghost use Rattle.std.specs.Int.{w64};
 ghost use Rattle.std.specs.List.{All, list_all};
-ghost use Rattle.json_parts.specs.Answer.{first_unmet};
+ghost use Rattle.answers.specs.Answer.{first_unmet};
 ghost use Rattle.json_parts.specs.Tests.{is_within, is_place};
 ghost use Rattle.plan_model.specs.Uids.{is_uid};
-ghost use Rattle.logical_plan.specs.Places.{texts};
+ghost use Rattle.plan_model.specs.Places.{texts};
 ghost use Rattle.logical_plan.specs.Requirements.{is_aggregate_of, requirements, text_uids};
 ghost use Rattle.logical_plan.specs.Answer.{source_data, filter_data, aggregate_data, having_data, window_data, plan_data};
 ghost use Rattle.plain_data.specs.declared.limits.TheConstants.{MOST_COLUMNS};
 ghost use Rattle.plan_model.specs.declared.limits.TheConstants.{MOST_PARTITIONS, MOST_AGGREGATES};
 
-use crate::plan::Plan;
 use crate::text::{AggregateText, FilterText, HavingText, PlanText, SourceText, WindowText};
 use indexmap::IndexSet;
 use plain_data::Items;
-use plan_model::{Aggregate, FilterSpec, Having, SourceSpec, Uid, WindowSpec};
+use plan_model::{Aggregate, FilterSpec, Having, Plan, SourceSpec, Uid, WindowSpec};
 use std::alloc::{AllocError, Global};
 
 /// A number that is known to fit.

@@ -3,13 +3,10 @@
 
 mod building;
 mod fault;
-pub mod laws;
 mod places;
-mod plan;
 mod reading;
-mod record;
 mod requirements;
 mod text;
 
 pub use fault::PlanFault;
-pub use plan::Plan;
+pub use reading::ReadPlan;

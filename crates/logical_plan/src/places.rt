@@ -4,7 +4,7 @@ ghost use Rattle.std.specs.Prelude.{◌≡◌, true, false, not, ◌∷◌, [], 
 ghost use Rattle.std.specs.List.{list_any};
 ghost use Rattle.plan_model.specs.Uids.{are_distinct};
 ghost use Rattle.logical_plan.specs.Requirements.{text_uids};
-ghost use Rattle.logical_plan.specs.Places.{texts};
+ghost use Rattle.plan_model.specs.Places.{texts};
 
 use crate::text::{FilterText, PlanText, SourceText};
 use indexmap::IndexSet;

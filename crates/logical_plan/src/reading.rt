@@ -2,9 +2,9 @@
 
 ghost use Rattle.std.specs.Prelude.{◌≡◌, true, false, None, take, drop, MatchResult};
 ghost use Rattle.serde_json.specs.View.{view};
-ghost use Rattle.json_parts.specs.Answer.{first_unmet, unless};
+ghost use Rattle.answers.specs.Answer.{first_unmet, unless};
 ghost use Rattle.plan_model.specs.Uids.{are_distinct};
-ghost use Rattle.logical_plan.specs.Places.{texts};
+ghost use Rattle.plan_model.specs.Places.{texts};
 ghost use Rattle.logical_plan.specs.Requirements.{requirements, text_uids};
 ghost use Rattle.logical_plan.specs.declared.fault.PlanFault.TheVariants.{UidTwice};
 ghost use Rattle.logical_plan.specs.Answer.{Fails, Gives, is_memory, plan_or_fault, plan_of_json, plan_of_bytes};
@@ -12,11 +12,11 @@ ghost use Rattle.logical_plan.specs.Answer.{Fails, Gives, is_memory, plan_or_fau
 use crate::building::plan_of;
 use crate::fault::PlanFault;
 use crate::places::{places_of, uids_of};
-use crate::plan::Plan;
 use crate::requirements;
 use crate::text::{PlanText, text_of_plan};
 use indexmap::IndexSet;
 use json_parts::{PartError, value_of};
+use plan_model::Plan;
 use serde_json::Value;
 use std::alloc::Global;
 
@@ -115,15 +115,20 @@ fn plan_of_value(alloc: Global, value: &Value) -> Result<Plan, PlanFault>
     plan_from(alloc, text)
 }
 
-impl Plan {
+/// What is read from the text of a plan.
+pub trait ReadPlan: Sized {
     /// The plan that the bytes are.
     ///
     /// # Errors
     ///
     /// The first fault of the text, in the order of [`PlanFault`]'s variants, each looked for in the
     /// whole text before the next. [`PlanFault::Memory`] where memory runs out, in place of any other.
+    fn read(alloc: Global, bytes: &[u8]) -> Result<Self, PlanFault>;
+}
+
+impl ReadPlan for Plan {
     #[tactic(auto, unfolding(crate::specs::Answer::plan_of_bytes))]
-    pub fn read(alloc: Global, bytes: &[u8]) -> Result<Plan, PlanFault>
+    fn read(alloc: Global, bytes: &[u8]) -> Result<Plan, PlanFault>
         ensures { Gives is_memory (λ plan. plan) result (plan_of_bytes bytes.now) }
     {
         match value_of(alloc, bytes) {

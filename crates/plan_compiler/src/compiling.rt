@@ -10,10 +10,9 @@ use crate::places::places_of;
 use crate::stages::stages_of;
 use crate::tasks::Tasks;
 use key_groups::MaxParallelism;
-use logical_plan::Plan;
+use layout_rules::Scale;
 use plain_data::Items;
-use plan_model::SourceSpec;
-use plan_scale::Scale;
+use plan_model::{Plan, SourceSpec};
 use std::alloc::{AllocError, Global};
 
 fn partition_counts(alloc: Global, sources: &[SourceSpec]) -> Result<Vec<u32>, AllocError>

@@ -10,4 +10,3 @@ mod tasks;
 pub use compiling::compile;
 pub use layout::Layout;
 pub use layout_rules::{Edge, FilterScale, Operator, Role, Stage, TaskPlace};
-pub use plan_scale::{Scale, ScaleFault};

@@ -10,10 +10,9 @@ ghost use Rattle.layout_rules.specs.Stages.{source_stages};
 ghost use Rattle.plan_compiler.specs.Compiling.{continues};
 
 use crate::tasks::stage_after;
-use layout_rules::{FilterScale, Operator, Stage};
-use logical_plan::Plan;
+use layout_rules::{FilterScale, Operator, Scale, Stage};
 use plain_data::Items;
-use plan_scale::Scale;
+use plan_model::Plan;
 use std::alloc::{AllocError, Global};
 
 fn sources_of(alloc: Global, plan: &Plan) -> Result<Vec<Operator>, AllocError>

@@ -1,4 +1,5 @@
 pub mod Facts
+mod Lists
 mod Aggs
 mod Bags
 mod Counts

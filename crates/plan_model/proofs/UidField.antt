@@ -9,6 +9,7 @@ use Rattle.byte_fields.specs.declared.fault.FieldFault.TheVariants.{Range}
 use Rattle.byte_fields.specs.Fields.{u8_field, few_field}
 use Rattle.byte_fields.specs.Lists.{sized}
 use Rattle.byte_fields.proofs.Exact.{IsExact, both, and_true, where_exact, sized_exact, few_exact}
+use Rattle.plan_model.specs.declared.limits.TheConstants.{LONGEST_UID}
 use Rattle.plan_model.specs.Uids.{is_nat_within, is_uid_byte, is_uid, uid_field}
 
 low : (b : ℕ) → is_uid_byte b ≡ true → b < 128
@@ -21,13 +22,13 @@ ascii_of_uid (b ∷ bytes) h (suc i) = ascii_of_uid bytes (both (is_uid_byte b) 
 
 pub uid_exact : IsExact uid_field
 unfolding uid_field
-uid_exact = where_exact (list_all is_uid_byte) Range (sized (few_field 64)) (sized_exact (few_field 64) (few_exact 64))
+uid_exact = where_exact (list_all is_uid_byte) Range (sized (few_field LONGEST_UID)) (sized_exact (few_field LONGEST_UID) (few_exact LONGEST_UID))
 
 -- each uid has a spelling
 pub uid_fits : (uid : List ℕ) → is_uid uid ≡ true → uid_field.fits uid ≡ true
 unfolding uid_field sized few_field u8_field
 uid_fits uid h =
-    let parts = both (is_nat_within 1 64 (length uid)) (list_all is_uid_byte uid) h in
-    let most = leb-true (length uid) 64 (both (nat_le 1 (length uid)) (nat_le (length uid) 64) parts.0).1 in
+    let parts = both (is_nat_within 1 LONGEST_UID (length uid)) (list_all is_uid_byte uid) h in
+    let most = leb-true (length uid) LONGEST_UID (both (nat_le 1 (length uid)) (nat_le (length uid) LONGEST_UID) parts.0).1 in
     let byte = lt-ltb (length uid) 256 (omega (arith, most)) in
     and_true _ _ (and_true _ _ (and_true _ _ byte parts.0) (eq-eqb (length uid) (length uid) refl)) parts.1

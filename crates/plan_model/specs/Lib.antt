@@ -1,5 +1,6 @@
 pub mod Uids
 pub mod PlanData
+pub mod Places
 pub mod Bag
 pub mod Windows
 pub mod Aggregates

@@ -1,10 +1,11 @@
 -- Which records pass, and in which windows they lie.
-use Rattle.std.specs.Prelude.{◌≡◌, ◌^◌, ℤ, pos, neg_ℤ, ◌+ℤ◌, ◌-ℤ◌, ◌*ℤ◌, ◌≤ℤ◌, ◌<ℤ◌, int_lt, int_le, Bool, ◌&&◌, List}
+use Rattle.std.specs.Prelude.{◌≡◌, ℤ, pos, neg_ℤ, ◌+ℤ◌, ◌-ℤ◌, ◌*ℤ◌, ◌≤ℤ◌, ◌<ℤ◌, int_lt, int_le, Bool, IsTrue, ◌&&◌, List}
 use Rattle.std.specs.Int.{int_rem_euclid}
 use Rattle.std.specs.List.{list_all}
 use Rattle.std.specs.Ordering.{int_eq}
 use Rattle.plain_data.specs.Record.{Record, at}
 use Rattle.lane_kernels.specs.Compare.{holds}
+use Rattle.plan_model.specs.declared.limits.TheConstants.{TIME_LIMIT}
 use Rattle.plan_model.specs.declared.spec.FilterSpec.{FilterSpec}
 use Rattle.plan_model.specs.declared.spec.WindowSpec.{WindowSpec}
 use Rattle.plan_model.specs.declared.spec.Pane.{Pane}
@@ -38,6 +39,8 @@ abbrev pub IsWindowOf : WindowSpec → ℤ → ℤ → Type 0
 IsWindowOf w t s = IsStartOf w s × (s ≤ℤ t) × (t <ℤ (s +ℤ w.size))
 
 -- times in range: -2^62 to 2^62 - 1
-pub record IsTime (t : ℤ) : Type 0 where
-  pub above : neg_ℤ (pos (2 ^ 62)) ≤ℤ t
-  pub below : t <ℤ pos (2 ^ 62)
+abbrev pub is_time : ℤ → Bool
+is_time t = int_le (neg_ℤ TIME_LIMIT) t && int_lt t TIME_LIMIT
+
+abbrev pub IsTime : ℤ → Type 0
+IsTime t = IsTrue (is_time t)

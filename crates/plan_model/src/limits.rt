@@ -13,6 +13,9 @@ pub const MOST_PARTITIONS: u32 = 64;
 /// The most filters, and the most having conditions.
 pub const MOST_CONDITIONS: usize = 32;
 
+/// A time is at least -2^62, and less than 2^62, this limit.
+pub const TIME_LIMIT: i64 = 1 << 62;
+
 /// The greatest size of a window, and the greatest slide.
 pub const LONGEST_WINDOW: i64 = 1 << 40;
 

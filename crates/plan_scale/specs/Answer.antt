@@ -3,12 +3,12 @@ use Rattle.std.specs.Prelude.{ℕ, Bool, true, false, List, Result, Err}
 use Rattle.std.specs.Option.{option_map_or}
 use Rattle.serde_json.specs.Data.{Data}
 use Rattle.json_parts.specs.Parts.{json_of}
-use Rattle.json_parts.specs.Answer.{value_or_fault}
-pub use Rattle.json_parts.specs.Answer.{Fails, Gives}
+use Rattle.answers.specs.Answer.{value_or_fault}
+pub use Rattle.answers.specs.Answer.{Fails, Gives}
 use Rattle.plan_model.specs.PlanData.{PlanData}
 use Rattle.layout_rules.specs.ScaleData.{ScaleData}
-use Rattle.plan_scale.specs.declared.fault.ScaleFault.{ScaleFault}
-use Rattle.plan_scale.specs.declared.fault.ScaleFault.TheVariants.{NotJson, Member, Memory}
+use Rattle.layout_rules.specs.declared.fault.ScaleFault.{ScaleFault}
+use Rattle.layout_rules.specs.declared.fault.ScaleFault.TheVariants.{NotJson, Member, Memory}
 use Rattle.plan_scale.specs.declared.text.ScaleText.{ScaleText}
 use Rattle.plan_scale.specs.ScaleText.{scale_text}
 use Rattle.plan_scale.specs.Said.{scale_of}

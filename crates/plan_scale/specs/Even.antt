@@ -1,16 +1,16 @@
 -- The scale at which each operator of a plan has the same parallelism, as far as the plan lets it.
 use Rattle.std.specs.Prelude.{ℕ, min, max, map, nat_le, Bool, true, ◌&&◌, List, [], ◌∷◌, Result}
 use Rattle.key_groups.specs.declared.limits.TheConstants.{MOST_SUBTASKS}
-use Rattle.json_parts.specs.Answer.{otherwise, value_or_fault}
+use Rattle.answers.specs.Answer.{otherwise, value_or_fault}
 use Rattle.plan_model.specs.declared.spec.SourceSpec.{SourceSpec}
 use Rattle.plan_model.specs.PlanData.{PlanData}
 use Rattle.layout_rules.specs.declared.limits.TheConstants.{MOST_TASKS}
 use Rattle.layout_rules.specs.ScaleData.{ScaleData, scale_data_of}
 use Rattle.layout_rules.specs.Stages.{task_count}
 use Rattle.layout_rules.specs.Rules.{stages_of}
-use Rattle.plan_scale.specs.declared.fault.ScaleFault.{ScaleFault}
-use Rattle.plan_scale.specs.declared.fault.ScaleFault.TheVariants.{Parallelism, Tasks}
-use Rattle.plan_scale.specs.declared.scale.TheConstants.{DEFAULT_CAPACITY}
+use Rattle.layout_rules.specs.declared.fault.ScaleFault.{ScaleFault}
+use Rattle.layout_rules.specs.declared.fault.ScaleFault.TheVariants.{Parallelism, Tasks}
+use Rattle.layout_rules.specs.declared.scale.TheConstants.{DEFAULT_CAPACITY}
 
 abbrev pub most_partitions : List SourceSpec → ℕ
 most_partitions [] = 0

@@ -2,11 +2,11 @@
 use Rattle.std.specs.Prelude.{min, pos, nat_le, Bool, List, [], ◌∷◌, Option, bytes_eq}
 use Rattle.std.specs.List.{list_all, list_any}
 use Rattle.plan_model.specs.PlanData.{PlanData, uids}
-use Rattle.json_parts.specs.Answer.{otherwise}
+use Rattle.answers.specs.Answer.{otherwise}
 use Rattle.json_parts.specs.Tests.{is_within}
 use Rattle.key_groups.specs.declared.limits.TheConstants.{MOST_SUBTASKS}
-use Rattle.plan_scale.specs.declared.fault.ScaleFault.{ScaleFault}
-use Rattle.plan_scale.specs.declared.fault.ScaleFault.TheVariants.{UnknownUid, MissingUid, Parallelism, Ring, Tasks}
+use Rattle.layout_rules.specs.declared.fault.ScaleFault.{ScaleFault}
+use Rattle.layout_rules.specs.declared.fault.ScaleFault.TheVariants.{UnknownUid, MissingUid, Parallelism, Ring, Tasks}
 use Rattle.layout_rules.specs.declared.limits.TheConstants.{MOST_CAPACITY, MOST_TASKS}
 use Rattle.layout_rules.specs.Stages.{task_count}
 use Rattle.layout_rules.specs.Rules.{stages_of}

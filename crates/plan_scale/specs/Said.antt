@@ -5,7 +5,7 @@ use Rattle.std.specs.List.{find}
 use Rattle.plan_model.specs.PlanData.{PlanData}
 use Rattle.layout_rules.specs.declared.stage.FilterScale.{FilterScale}
 use Rattle.layout_rules.specs.ScaleData.{ScaleData, scale_data_of}
-use Rattle.plan_scale.specs.declared.scale.TheConstants.{DEFAULT_CAPACITY}
+use Rattle.layout_rules.specs.declared.scale.TheConstants.{DEFAULT_CAPACITY}
 use Rattle.plan_scale.specs.declared.text.OperatorText.{OperatorText}
 use Rattle.plan_scale.specs.declared.text.ScaleText.{ScaleText}
 

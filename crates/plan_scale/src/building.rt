@@ -4,17 +4,14 @@ ghost use Rattle.std.specs.Prelude.{◌≡◌, true, map, pos, unsigned_abs, IfO
 ghost use Rattle.std.specs.List.{list_all};
 ghost use Rattle.json_parts.specs.Tests.{is_within};
 ghost use Rattle.key_groups.specs.declared.limits.TheConstants.{MOST_SUBTASKS};
-ghost use Rattle.layout_rules.specs.Scale.{IsScale};
 ghost use Rattle.plan_scale.specs.Said as said;
 ghost use Rattle.plan_scale.specs.Requirements as required;
 
-use crate::scale::{DEFAULT_CAPACITY, Scale};
 use crate::text::{OperatorText, ScaleText};
 use json_parts::{Member, member_named};
-use layout_rules::FilterScale;
-use logical_plan::Plan;
+use layout_rules::{FilterScale, Scale};
 use plain_data::Items;
-use plan_model::{FilterSpec, SourceSpec};
+use plan_model::{FilterSpec, Plan, SourceSpec};
 use std::alloc::{AllocError, Global};
 
 /// What stands under a uid, and one subtask where nothing does.
@@ -99,44 +96,4 @@ pub fn scale_of(alloc: Global, plan: &Plan, text: &ScaleText) -> Result<Scale, A
         Items::from_vec(filters),
         parallelism_of(operators, plan.window().uid.as_str()),
     ))
-}
-
-fn single_sources(alloc: Global, specs: &[SourceSpec]) -> Result<Vec<u32>, AllocError>
-    ensures { IfOk result (λ v. v.items ≡ map (λ _. 1) specs.now) }
-{
-    specs.iter().map(|_| 1).collect(alloc)
-}
-
-fn single_filters(alloc: Global, specs: &[FilterSpec]) -> Result<Vec<FilterScale>, AllocError>
-    ensures { IfOk result (λ v. v.items ≡ map (λ _. record { parallelism = 1; chain = true }) specs.now) }
-{
-    specs
-        .iter()
-        .map(|_| FilterScale {
-            parallelism: 1,
-            chain: true,
-        })
-        .collect(alloc)
-}
-
-impl Scale {
-    /// One subtask for each operator, with all operators chained that may be, and rings of 16 messages.
-    ///
-    /// # Errors
-    ///
-    /// Only where memory runs out.
-    #[tactic(auto, using(crate::proofs::Sound::single_is_scale))]
-    pub fn single(alloc: Global, plan: &Plan) -> Result<Scale, AllocError>
-        ensures says { IfOk result (λ scale. scale ≡ said.single_scale plan.now) }
-        ensures belongs { IfOk result (λ scale. IsScale plan.now scale) }
-    {
-        let sources = single_sources(alloc, plan.sources())?;
-        let filters = single_filters(alloc, plan.filters())?;
-        Ok(Scale::new(
-            DEFAULT_CAPACITY,
-            Items::from_vec(sources),
-            Items::from_vec(filters),
-            1,
-        ))
-    }
 }

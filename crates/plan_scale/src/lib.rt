@@ -1,4 +1,4 @@
-//! The scale of a plan: how many subtasks each of its operators has, read from a JSON text by the plan.
+//! The scales of a plan: how many subtasks each of its operators has, read from a JSON text by the plan, or without a text.
 #![tactic(auto)]
 
 mod building;
@@ -6,10 +6,8 @@ mod even;
 mod fault;
 mod reading;
 mod requirements;
-mod scale;
 mod task_count;
 mod text;
 
-pub use fault::ScaleFault;
-pub use layout_rules::FilterScale;
-pub use scale::Scale;
+pub use even::ScaleOfPlan;
+pub use reading::ReadScale;

@@ -9,14 +9,13 @@ ghost use Rattle.plan_scale.specs.Requirements as required;
 ghost use Rattle.plan_scale.specs.Answer.{Gives, is_memory, scale_or_fault, scale_of_json, scale_of_bytes};
 
 use crate::building::scale_of;
-use crate::fault::ScaleFault;
+use crate::fault::fault_of_part;
 use crate::requirements;
-use crate::scale::Scale;
 use crate::task_count::task_count;
 use crate::text::{ScaleText, text_of_scale};
 use json_parts::{PartError, value_of};
-use layout_rules::MOST_TASKS;
-use logical_plan::Plan;
+use layout_rules::{MOST_TASKS, Scale, ScaleFault};
+use plan_model::Plan;
 use serde_json::Value;
 use std::alloc::Global;
 
@@ -54,21 +53,15 @@ fn has_few_tasks(plan: &Plan, text: &ScaleText, scale: &Scale) -> bool
     task_count(scale) <= MOST_TASKS
 }
 
-impl Scale {
+/// What is read from the text of a scale.
+pub trait ReadScale: Sized {
     /// The scale of a plan that a JSON value is.
     ///
     /// # Errors
     ///
     /// The first fault of the value, in the order of [`ScaleFault`]'s variants, each looked for in the
     /// whole value before the next. [`ScaleFault::Memory`] where memory runs out, in place of any other.
-    #[tactic(auto, unfolding(crate::specs::Answer::scale_of_json))]
-    pub fn from_value(alloc: Global, plan: &Plan, value: &Value) -> Result<Scale, ScaleFault>
-        ensures reads { Gives is_memory (λ scale. scale) result (scale_of_json plan.now (view value.now)) }
-        ensures belongs { IfOk result (λ scale. IsScale plan.now scale) }
-    {
-        let text = text_of_scale(alloc, value)?;
-        scale_from(alloc, plan, &text)
-    }
+    fn from_value(alloc: Global, plan: &Plan, value: &Value) -> Result<Self, ScaleFault>;
 
     /// The scale of a plan that the bytes are, a JSON text.
     ///
@@ -76,8 +69,23 @@ impl Scale {
     ///
     /// The first fault of the text, in the order of [`ScaleFault`]'s variants, each looked for in the
     /// whole text before the next. [`ScaleFault::Memory`] where memory runs out, in place of any other.
+    fn read(alloc: Global, plan: &Plan, bytes: &[u8]) -> Result<Self, ScaleFault>;
+}
+
+impl ReadScale for Scale {
+    #[tactic(auto, unfolding(crate::specs::Answer::scale_of_json))]
+    fn from_value(alloc: Global, plan: &Plan, value: &Value) -> Result<Scale, ScaleFault>
+        ensures reads { Gives is_memory (λ scale. scale) result (scale_of_json plan.now (view value.now)) }
+        ensures belongs { IfOk result (λ scale. IsScale plan.now scale) }
+    {
+        match text_of_scale(alloc, value) {
+            Ok(text) => scale_from(alloc, plan, &text),
+            Err(part) => Err(fault_of_part(part)),
+        }
+    }
+
     #[tactic(auto, unfolding(crate::specs::Answer::scale_of_bytes))]
-    pub fn read(alloc: Global, plan: &Plan, bytes: &[u8]) -> Result<Scale, ScaleFault>
+    fn read(alloc: Global, plan: &Plan, bytes: &[u8]) -> Result<Scale, ScaleFault>
         ensures reads { Gives is_memory (λ scale. scale) result (scale_of_bytes plan.now bytes.now) }
         ensures belongs { IfOk result (λ scale. IsScale plan.now scale) }
     {

@@ -11,8 +11,7 @@ use crate::text::{OperatorText, ScaleText};
 use json_parts::{Member, has_member};
 use key_groups::MOST_SUBTASKS;
 use layout_rules::MOST_CAPACITY;
-use logical_plan::Plan;
-use plan_model::{FilterSpec, SourceSpec};
+use plan_model::{FilterSpec, Plan, SourceSpec};
 
 /// Whether each member has the uid of an operator of the plan.
 #[tactic(auto, unfolding(crate::specs::Requirements::has_known_uids))]

@@ -5,8 +5,7 @@ ghost use Rattle.std.specs.List.{All};
 ghost use Rattle.key_groups.specs.declared.limits.TheConstants.{MOST_SUBTASKS};
 ghost use Rattle.plan_scale.specs.Tasks as counted;
 
-use crate::scale::Scale;
-use layout_rules::FilterScale;
+use layout_rules::{FilterScale, Scale};
 
 fn only_parallelism(sources: &[u32]) -> Option<u32>
     ensures { result ≡ counted.only_parallelism sources.now }

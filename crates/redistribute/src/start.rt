@@ -4,13 +4,12 @@ ghost use Rattle.std.specs.Prelude.{◌≡◌, map, IfOk};
 ghost use Rattle.redistribute.specs.Snapshots.{saved_partition, saved_source};
 
 use aggregates::Kind;
-use logical_plan::Plan;
 use plain_data::Items;
+use plan_model::Plan;
 use savepoint_codec::{SavedGroup, SavedPartition};
 use std::alloc::{AllocError, Global};
 use std::marker::Model;
-use stream_input::Input;
-use stream_model::{Entry, Partition};
+use stream_model::{Entry, Input, Partition};
 
 /// What a leg of a job begins with: the number of the savepoint that it goes on from, how far each partition of each
 /// source was read, with its watermark there, and what stands in the windows, by key group. Sources stand in plan order.

@@ -4,9 +4,9 @@ ghost use Rattle.std.specs.Prelude.{◌≤◌, ◌↔◌, IsTrue, map};
 ghost use Rattle.std.specs.List.{AllZip};
 
 use crate::start::Start;
-use leg_lists::{Cut, LegFault, Stop};
+use legs::{Cut, LegFault, Stop};
 use savepoint_codec::SavedPartition;
-use stream_input::Input;
+use stream_model::Input;
 
 /// Whether there is a count for each partition of a source, none below the entries that were read.
 fn are_reached(partitions: &[SavedPartition], counts: &[u64]) -> bool
@@ -21,7 +21,7 @@ fn are_reached(partitions: &[SavedPartition], counts: &[u64]) -> bool
 
 impl Start {
     ghost use Rattle.std.specs.Prelude.{◌≡◌, ◌↔◌, IsTrue, MatchResult};
-    ghost use Rattle.leg_lists.specs.declared.fault.LegFault.TheVariants.{StopRange};
+    ghost use Rattle.legs.specs.declared.fault.LegFault.TheVariants.{StopRange};
     ghost use Rattle.stream_model.specs.Watermarks.{IsBefore};
     ghost use Rattle.redistribute.specs.StartData.{offsets_of};
     ghost use Rattle.redistribute.specs.Stopping.{CanStop};

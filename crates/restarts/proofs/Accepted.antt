@@ -3,7 +3,7 @@ use Rattle.std.proofs.Common.{length, subst, get_or}
 use Rattle.std.specs.Prelude.{◌==◌}
 use Rattle.std.proofs.lemmas.Bool.{and_parts, eqb-true}
 use Rattle.std.proofs.lemmas.List.Sums.{AllPass-from_list_all}
-use Rattle.json_parts.proofs.Facts.{met_first, no_fault}
+use Rattle.answers.proofs.Facts.{met_first, no_fault}
 use Rattle.restore.specs.declared.fault.RestoreFault.TheVariants.{MaxParallelism, UnknownUid, MissingUid, PlanChanged, Partitions, Offset, Watermark, WrongGroup}
 use Rattle.restore.specs.Answer.{start_of}
 use Rattle.restore.specs.Requirements.{are_kinds, is_in_group, has_max, has_known_uids, has_all_uids, has_plan, has_partitions, has_offsets, has_watermarks, has_groups, plan_requirements, input_requirements}

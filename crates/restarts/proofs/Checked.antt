@@ -1,7 +1,7 @@
 -- The check of a savepoint at a cut, with the snapshot of the cut in its windows, answers the start there, unless memory runs out.
 use Rattle.std.proofs.Common.{◌≡◌, Bool, true, false, Result, Ok, Err, refl, subst}
-use Rattle.json_parts.specs.Answer.{unless}
-use Rattle.logical_plan.specs.Laws.{AscendingIsInOrder}
+use Rattle.answers.specs.Answer.{unless}
+use Rattle.plan_record.specs.Laws.{AscendingIsInOrder}
 use Rattle.redistribute.specs.StartData.{StartData}
 use Rattle.restore.specs.declared.fault.RestoreFault.{RestoreFault}
 use Rattle.restore.specs.Answer.{is_memory, start_of}

@@ -43,10 +43,7 @@ holder P p q rs a h e =
 
 -- a time in range reaches only such windows
 reached : (w : WindowSpec) (s t : ℤ) → IsTime t → is_within w s t ≡ true → is_reached w s ≡ true
-reached w s t h e =
-    let l = h.above in
-    let u = h.below in
-    grind (arith, ints)
+reached w s t h e = grind (arith, ints)
 
 -- what is known of what stands in a pane of a snapshot
 pub record IsLeft (p : PlanData) (i : InputData) (cut : List (List ℕ)) (q : Pane) (a : Aggregated) : Type 0 where

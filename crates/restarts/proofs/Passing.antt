@@ -5,9 +5,9 @@ use Rattle.std.specs.Cmp.Lexicographic.{nat_list_eq_equiv}
 use Rattle.std.specs.FinMap.{FinMap}
 use Rattle.std.proofs.lemmas.Bool.{and_from, eq-eqb, le-leb}
 use Rattle.std.proofs.lemmas.List.{length-map}
-use Rattle.json_parts.specs.Answer.{first_unmet}
-use Rattle.logical_plan.specs.Laws.{AscendingIsInOrder}
-use Rattle.logical_plan.specs.PlanRecord.{plan_record}
+use Rattle.answers.specs.Answer.{first_unmet}
+use Rattle.plan_record.specs.Laws.{AscendingIsInOrder}
+use Rattle.plan_record.specs.PlanRecord.{plan_record}
 use Rattle.layout_rules.specs.Layouts.{partition_counts}
 use Rattle.plan_model.specs.Aggregates.{Aggregated}
 use Rattle.plan_model.specs.PlanData.{PlanData}

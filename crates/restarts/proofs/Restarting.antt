@@ -5,7 +5,7 @@ use Rattle.std.proofs.lemmas.Bool.{eqb-true}
 use Rattle.std.proofs.lemmas.Nat.{mod_below}
 use Rattle.key_groups.specs.Groups.{key_group, hash_code}
 use Rattle.lane_kernels.specs.Mix.{murmur_hash}
-use Rattle.logical_plan.specs.Laws.{AscendingIsInOrder}
+use Rattle.plan_record.specs.Laws.{AscendingIsInOrder}
 use Rattle.plan_model.specs.Aggregates.{Aggregated}
 use Rattle.plan_model.specs.PlanData.{PlanData}
 use Rattle.plan_model.specs.Rows.{pane_cmp}

@@ -13,7 +13,7 @@ use Rattle.byte_fields.specs.Fields.{is_i64, i64_field}
 use Rattle.byte_fields.proofs.Exact.{and_true, fits_long}
 use Rattle.plain_data.specs.Record.{Record, at}
 use Rattle.plain_data.specs.Times.{lowest, highest}
-use Rattle.logical_plan.specs.Laws.{AscendingIsInOrder}
+use Rattle.plan_record.specs.Laws.{AscendingIsInOrder}
 use Rattle.plan_model.specs.declared.spec.Aggregate.{Aggregate}
 use Rattle.plan_model.specs.declared.spec.Pane.{Pane}
 use Rattle.plan_model.specs.Aggregates.{Aggregated, aggregate_of}
@@ -49,10 +49,7 @@ chosen true y z h k = h
 chosen false y z h k = k
 
 time_fits : (t : ℤ) → IsTime t → is_i64 t ≡ true
-time_fits t h =
-    let l = h.above in
-    let u = h.below in
-    grind (arith, ints)
+time_fits t h = grind (arith, ints)
 
 module _ (columns time : ℕ) where
   abbrev E : Entry → Type 0

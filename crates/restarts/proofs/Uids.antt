@@ -12,7 +12,7 @@ use Rattle.plan_model.specs.declared.spec.Aggregate.{Aggregate}
 use Rattle.plan_model.specs.declared.spec.SourceSpec.{SourceSpec}
 use Rattle.plan_model.specs.PlanData.{PlanData, IsPlan, uids}
 use Rattle.plan_model.specs.Uids.{are_distinct}
-use Rattle.logical_plan.specs.Laws.{AscendingIsInOrder}
+use Rattle.plan_record.specs.Laws.{AscendingIsInOrder}
 use Rattle.aggregates.specs.Kinds.{kind_of}
 use Rattle.layout_rules.specs.Layouts.{partition_counts}
 use Rattle.savepoint_codec.specs.Fields.{kind_code}

@@ -2,7 +2,7 @@
 
 ghost use Rattle.restarts.specs.Laws.{SnapshotsPass, SnapshotsRestart, ChecksGoOn, SnapshotsAreSavepoints, AcceptedHaveGroups};
 
-use logical_plan::laws::ascending_is_in_order;
+use plan_record::laws::ascending_is_in_order;
 
 /// A savepoint at a cut of an input, with the snapshot of the cut in its windows, meets all that is required of one, so a job of
 /// the plan on the input can go on from it.

@@ -6,12 +6,12 @@ ghost use Rattle.restarts.specs.Laws.{IsStartAt};
 ghost use Rattle.restarts.specs.Restart.{CanRestart};
 
 use crate::laws::checks_go_on;
-use logical_plan::Plan;
+use plan_model::Plan;
 use redistribute::Start;
 use restore::{RestoreFault, check};
 use savepoint_codec::Savepoint;
 use std::alloc::{AllocError, Global};
-use stream_input::Input;
+use stream_model::Input;
 
 /// The fault of a check that refuses nothing.
 fn no_memory(_fault: RestoreFault) -> AllocError

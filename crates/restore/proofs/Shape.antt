@@ -5,8 +5,8 @@ use Rattle.std.specs.List.{list_all}
 use Rattle.std.specs.Result.{IsErrAnd}
 use Rattle.std.specs.Option.{option_or, option_map_or}
 use Rattle.std.proofs.lemmas.Bool.{eqb-true, and_parts}
-use Rattle.json_parts.specs.Answer.{unless, Fails, Gives, first_unmet, value_or_fault}
-use Rattle.json_parts.proofs.Facts.{met_first, no_fault}
+use Rattle.answers.specs.Answer.{unless, Fails, Gives, first_unmet, value_or_fault}
+use Rattle.answers.proofs.Facts.{met_first, no_fault}
 use Rattle.plan_model.specs.declared.spec.SourceSpec.{SourceSpec}
 use Rattle.plan_model.specs.PlanData.{PlanData}
 use Rattle.savepoint_codec.specs.declared.savepoint.SavedSource.{SavedSource}

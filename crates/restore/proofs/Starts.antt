@@ -6,7 +6,7 @@ use Rattle.std.specs.Ordering.{int_eq}
 use Rattle.std.proofs.lemmas.Bool.{eqb-true, leb-true, and_parts}
 use Rattle.std.proofs.lemmas.Int.{ints}
 use Rattle.std.proofs.lemmas.List.Sums.{AllPass-from_list_all}
-use Rattle.json_parts.proofs.Facts.{met_first}
+use Rattle.answers.proofs.Facts.{met_first}
 use Rattle.plain_data.specs.Times.{lowest}
 use Rattle.plan_model.specs.declared.spec.Aggregate.{Aggregate}
 use Rattle.plan_model.specs.declared.spec.WindowSpec.{WindowSpec}

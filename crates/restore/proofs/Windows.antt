@@ -4,6 +4,7 @@ use Rattle.std.proofs.lemmas.Int.{ints}
 use Rattle.std.specs.Prelude.{int_le, neg_ℤ}
 use Rattle.std.specs.Int.{int_rem_euclid}
 use Rattle.std.specs.Ordering.{int_eq}
+use Rattle.plan_model.specs.declared.limits.TheConstants.{TIME_LIMIT, LONGEST_WINDOW}
 use Rattle.plan_model.specs.declared.spec.WindowSpec.{WindowSpec}
 use Rattle.plan_model.specs.PlanData.{IsWindow}
 use Rattle.plan_model.specs.Windows.{is_start}
@@ -11,10 +12,10 @@ use Rattle.plan_model.specs.Rows.{is_due}
 use Rattle.window_state.specs.Windows.{IsStart}
 use Rattle.restore.specs.Requirements.{is_reached}
 
-above : (w : WindowSpec) (s : ℤ) → w.size ≤ℤ pos (2 ^ 40) → is_reached w s ≡ true → neg_ℤ (pos (2 ^ 62 + 2 ^ 40)) <ℤ s
+above : (w : WindowSpec) (s : ℤ) → w.size ≤ℤ LONGEST_WINDOW → is_reached w s ≡ true → neg_ℤ (TIME_LIMIT +ℤ LONGEST_WINDOW) <ℤ s
 above w s b h = grind (arith, ints)
 
-below : (w : WindowSpec) (s : ℤ) → is_reached w s ≡ true → s <ℤ pos (2 ^ 62)
+below : (w : WindowSpec) (s : ℤ) → is_reached w s ≡ true → s <ℤ TIME_LIMIT
 below w s h = grind (arith, ints)
 
 pub starts_within : (w : WindowSpec) (s : ℤ) → IsWindow w → is_reached w s ≡ true → IsStart s
@@ -32,10 +33,10 @@ zero_test (pos n) d = zero_nat _
 zero_test (negsuc n) d = zero_nat _
 
 module _ (w : WindowSpec) (s : ℤ) (p : IsWindow w) (h : is_reached w s ≡ true) where
-  low : neg_ℤ (pos (2 ^ 62 + 2 ^ 40)) <ℤ s
+  low : neg_ℤ (TIME_LIMIT +ℤ LONGEST_WINDOW) <ℤ s
   low = above w s p.size_small h
 
-  high : s <ℤ pos (2 ^ 62)
+  high : s <ℤ TIME_LIMIT
   high = below w s h
 
   plain : to_z w64 (of_z w64 s) ≡ s

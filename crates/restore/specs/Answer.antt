@@ -1,7 +1,7 @@
 -- What the check of a savepoint answers.
 use Rattle.std.specs.Prelude.{Bool, true, false, List, Option, Result}
-use Rattle.json_parts.specs.Answer.{value_or_fault}
-pub use Rattle.json_parts.specs.Answer.{Gives}
+use Rattle.answers.specs.Answer.{value_or_fault}
+pub use Rattle.answers.specs.Answer.{Gives}
 use Rattle.plan_model.specs.PlanData.{PlanData}
 use Rattle.savepoint_codec.specs.declared.savepoint.Contents.{Contents}
 use Rattle.stream_model.specs.InputData.{InputData}

@@ -2,14 +2,15 @@
 use Rattle.std.specs.Prelude.{ℕ, ◌==◌, ◌^◌, ℤ, pos, ◌-ℤ◌, int_le, int_lt, nat_le, Bool, not, ◌&&◌, List, [], ◌∷◌, ◌++◌, length, Option, bytes_eq}
 use Rattle.std.specs.List.{list_all, list_any, zip}
 use Rattle.std.specs.Ordering.{int_eq}
-use Rattle.json_parts.specs.Answer.{otherwise}
+use Rattle.answers.specs.Answer.{otherwise}
 use Rattle.key_groups.specs.Groups.{key_group}
+use Rattle.plan_model.specs.declared.limits.TheConstants.{TIME_LIMIT}
 use Rattle.plan_model.specs.declared.spec.Aggregate.{Aggregate}
 use Rattle.plan_model.specs.declared.spec.WindowSpec.{WindowSpec}
 use Rattle.plan_model.specs.PlanData.{PlanData}
 use Rattle.plan_model.specs.Windows.{is_start}
 use Rattle.plan_model.specs.Rows.{is_due}
-use Rattle.logical_plan.specs.PlanRecord.{plan_record}
+use Rattle.plan_record.specs.PlanRecord.{plan_record}
 use Rattle.aggregates.specs.declared.kind.Kind.{Kind}
 use Rattle.aggregates.specs.Kinds.{kind_of}
 use Rattle.savepoint_codec.specs.Fields.{kind_code}
@@ -76,7 +77,7 @@ is_in_group max group e = key_group max e.pane.key == group
 
 -- a time in range can have a window that begins at s: one that ends after -2^62, and begins before 2^62
 abbrev pub is_reached : WindowSpec → ℤ → Bool
-is_reached w s = int_le (pos 1 -ℤ w.size -ℤ pos (2 ^ 62)) s && int_lt s (pos (2 ^ 62))
+is_reached w s = int_le (pos 1 -ℤ w.size -ℤ TIME_LIMIT) s && int_lt s TIME_LIMIT
 
 -- the entry's window is one of the plan's, which has not fired by the watermark
 abbrev pub is_open : WindowSpec → ℤ → EntryData → Bool

@@ -20,12 +20,12 @@ use crate::partitions::{Reached, all_partitions, have_offsets, have_watermarks};
 use crate::requirements;
 use crate::saved::saved_sources;
 use key_groups::MaxParallelism;
-use logical_plan::Plan;
 use plain_data::Items;
+use plan_model::Plan;
 use redistribute::Start;
 use savepoint_codec::{Contents, SavedPartition, Savepoint};
 use std::alloc::Global;
-use stream_input::Input;
+use stream_model::Input;
 
 /// Whether each entry stands in the key group of its key.
 #[tactic(auto, unfolding(crate::specs::Requirements::has_groups))]

@@ -10,7 +10,7 @@ ghost use Rattle.restore.specs.EntryTest.{passes};
 ghost use Rattle.restore.specs.Requirements as required;
 
 use key_groups::{MaxParallelism, group_of};
-use plan_model::WindowSpec;
+use plan_model::{TIME_LIMIT, WindowSpec};
 use savepoint_codec::{Entries, Entry, SavedGroup};
 
 /// What is asked of each entry.
@@ -29,7 +29,7 @@ fn is_reached(window: &WindowSpec, start: i64) -> bool
     requires { IsWindow window.now }
     ensures { result ≡ required.is_reached window.now start }
 {
-    1 - window.size - (1 << 62) <= start && start < 1 << 62
+    1 - window.size - TIME_LIMIT <= start && start < TIME_LIMIT
 }
 
 /// Whether a window of the operator begins so.

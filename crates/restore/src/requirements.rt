@@ -9,8 +9,8 @@ ghost use Rattle.restore.specs.Requirements as required;
 
 use crate::saved;
 use aggregates::Kind;
-use logical_plan::Plan;
-use plan_model::{Aggregate, SourceSpec};
+use plan_model::{Aggregate, Plan, SourceSpec};
+use plan_record::Recorded;
 use savepoint_codec::{Contents, SavedSource};
 use std::alloc::{AllocError, Global};
 

@@ -1,11 +1,12 @@
 -- What is answered of sources that meet the requirements up to the range of times.
-use Rattle.std.proofs.Common.{◌≡◌, ℕ, ◌^◌, Bool, true, false, cond, List, Option, Some, None, Ok, Err, option_and_then, length, refl, ap, ◌∙◌}
+use Rattle.std.proofs.Common.{◌≡◌, ℕ, Bool, true, false, cond, List, Option, Some, None, Ok, Err, option_and_then, length, refl, ap, ◌∙◌}
 use Rattle.std.specs.Prelude.{nat_le, IsUtf8}
 use Rattle.std.specs.Str.{is_utf8}
 use Rattle.std.proofs.lemmas.Str.{IsUtf8-from_is_utf8, is_utf8-from_IsUtf8}
 use Rattle.serde_json.specs.Data.{Data}
 use Rattle.serde_json.specs.Read.{read}
 use Rattle.json_parts.specs.Parts.{json_of}
+use Rattle.plan_model.specs.declared.limits.TheConstants.{MOST_RECORDS}
 use Rattle.plan_model.specs.PlanData.{PlanData}
 use Rattle.stream_model.specs.declared.entry.Entry.{Entry}
 use Rattle.input_texts.specs.declared.fault.InputFault.TheVariants.{NotJson, Member, TooMany}
@@ -25,7 +26,7 @@ unfolding requirements late_record
 late_said plan sources text place of h = let late = rw of.1 at h in rw (of.0.named, of.0.counted, of.0.wide, of.0.whole, of.0.sized, of.0.timely, late) refl
 
 pub many_said : (plan : PlanData) (sources : List (List (List Entry))) (text : InputText) → AreOf plan sources text → first_late plan.window.time sources ≡ None
-    → nat_le (length (all_records sources)) (2 ^ 40) ≡ false → input_or_fault plan text ≡ Err TooMany
+    → nat_le (length (all_records sources)) MOST_RECORDS ≡ false → input_or_fault plan text ≡ Err TooMany
 unfolding requirements late_record is_few
 many_said plan sources text of none h =
     let late = rw of.1 at none in
@@ -33,7 +34,7 @@ many_said plan sources text of none h =
     rw (of.0.named, of.0.counted, of.0.wide, of.0.whole, of.0.sized, of.0.timely, late, many) refl
 
 pub none_said : (plan : PlanData) (sources : List (List (List Entry))) (text : InputText) → AreOf plan sources text → first_late plan.window.time sources ≡ None
-    → nat_le (length (all_records sources)) (2 ^ 40) ≡ true → input_or_fault plan text ≡ Ok (input_data_of plan.columns plan.window.time sources)
+    → nat_le (length (all_records sources)) MOST_RECORDS ≡ true → input_or_fault plan text ≡ Ok (input_data_of plan.columns plan.window.time sources)
 unfolding requirements late_record is_few
 none_said plan sources text of none h =
     let late = rw of.1 at none in

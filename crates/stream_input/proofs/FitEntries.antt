@@ -12,7 +12,8 @@ use Rattle.stream_model.specs.declared.entry.Entry.TheVariants.{Watermark}
 use Rattle.input_texts.specs.declared.text.EntryText.TheVariants.{Rows as rows, Watermark as watermark}
 use Rattle.input_texts.specs.InputText.{rows_text, watermark_text, entry_text}
 use Rattle.input_texts.specs.Said.{record_of}
-use Rattle.input_texts.specs.Requirements.{is_wide, is_whole, is_time}
+use Rattle.plan_model.specs.Windows.{is_time}
+use Rattle.input_texts.specs.Requirements.{is_wide, is_whole}
 use Rattle.stream_input.specs.Fit.{if_fit, fit_entry}
 use Rattle.input_texts.proofs.Facts.{all_weaker}
 use Rattle.stream_input.proofs.Refines.{is_row, list_refines, row_refines}

@@ -15,7 +15,8 @@ use Rattle.json_tokens.specs.Rows.{joined}
 use Rattle.stream_model.specs.declared.entry.Entry.TheVariants.{Rows}
 use Rattle.input_texts.specs.declared.text.EntryText.TheVariants.{Rows as rows}
 use Rattle.input_texts.specs.Said.{number_of, record_of}
-use Rattle.input_texts.specs.Requirements.{is_wide, is_whole, is_time, is_timely}
+use Rattle.plan_model.specs.Windows.{is_time}
+use Rattle.input_texts.specs.Requirements.{is_wide, is_whole, is_timely}
 use Rattle.stream_input.specs.Fit.{column_in_cells, is_fit, if_fit}
 use Rattle.input_texts.proofs.Facts.{list_all_map}
 

@@ -1,26 +1,26 @@
 -- What is read of a text that meets every requirement is an input of the plan.
-use Rattle.std.proofs.Common.{option_map, ◌≡◌, ℕ, ◌^◌, ◌≤◌, ℤ, pos, neg_ℤ, ◌≤ℤ◌, ◌<ℤ◌, true, ◌==◌, map, length, get_or, List, [], ◌∷◌, Option, Some, None, Result, Ok, Err, IsOk, subst, refl, ◌∙◌, arith}
+use Rattle.std.proofs.Common.{option_map, ◌≡◌, ℕ, ◌≤◌, true, ◌==◌, map, length, get_or, List, [], ◌∷◌, Option, Some, None, Result, Ok, Err, IsOk, subst, refl, ◌∙◌, arith}
 use Rattle.std.proofs.lemmas.Bool.{and_parts, eqb-true, leb-true}
-use Rattle.std.proofs.lemmas.Int.{ints}
 use Rattle.std.proofs.lemmas.List.{length-map}
 use Rattle.std.proofs.lemmas.List.Elements.{All-map}
 use Rattle.std.proofs.lemmas.List.Sums.{AllPass-from_list_all}
-use Rattle.std.specs.Prelude.{int_le, int_lt}
 use Rattle.std.specs.List.{All, list_all}
 use Rattle.std.specs.Option.{option_map_or, option_or}
 use Rattle.plain_data.specs.Record.{at}
+use Rattle.plan_model.specs.declared.limits.TheConstants.{MOST_SOURCES, MOST_PARTITIONS, MOST_RECORDS}
 use Rattle.plan_model.specs.declared.spec.SourceSpec.{SourceSpec}
 use Rattle.plan_model.specs.PlanData.{PlanData, IsPlan}
+use Rattle.plan_model.specs.Windows.{is_time}
 use Rattle.stream_model.specs.declared.entry.Entry.{Entry}
 use Rattle.input_texts.specs.declared.fault.InputFault.{InputFault}
-use Rattle.json_parts.specs.Answer.{first_unmet}
-use Rattle.json_parts.proofs.Facts.{met_first, no_fault}
+use Rattle.answers.specs.Answer.{first_unmet}
+use Rattle.answers.proofs.Facts.{met_first, no_fault}
 use Rattle.stream_model.specs.InputData.{InputData, IsTime, IsEntry, IsInput, BelongsTo, all_records}
 use Rattle.input_texts.specs.declared.text.EntryText.{EntryText}
 use Rattle.input_texts.specs.declared.text.EntryText.TheVariants.{Rows as rows, Watermark as watermark}
 use Rattle.input_texts.specs.InputText.{InputText}
-use Rattle.input_texts.specs.Said.{record_of, number_of, entry_of, partitions_under, sources_of, input_of}
-use Rattle.input_texts.specs.Requirements.{is_time, is_timely, requirements, has_sources, has_partitions, has_width, has_numbers, has_rows, has_times, late_record, is_few}
+use Rattle.input_texts.specs.Said.{record_of, entry_of, partitions_under, sources_of, input_of}
+use Rattle.input_texts.specs.Requirements.{is_timely, requirements, has_sources, has_partitions, has_width, has_numbers, has_rows, has_times, late_record, is_few}
 use Rattle.stream_model.specs.Watermarks.{IsOrderly}
 use Rattle.stream_model.specs.Late.{first_late}
 use Rattle.input_texts.specs.Fault.{late_fault}
@@ -28,21 +28,10 @@ use Rattle.input_texts.specs.Answer.{if_ok, text_of_bytes, input_or_fault, input
 use Rattle.stream_model.proofs.Facts.{orderly}
 use Rattle.stream_input.proofs.Tables.{passes_under}
 
-le_from : (a b : ℤ) → int_le a b ≡ true → a ≤ℤ b
-le_from a b h = grind (arith, ints)
-
-lt_from : (a b : ℤ) → int_lt a b ≡ true → a <ℤ b
-lt_from a b h = grind (arith, ints)
-
-time_from : (t : ℤ) → is_time t ≡ true → IsTime t
-time_from t h =
-    let parts = and_parts (int_le (neg_ℤ (pos (2 ^ 62))) t) (int_lt t (pos (2 ^ 62))) h in
-    record { above = le_from (neg_ℤ (pos (2 ^ 62))) t parts.0; below = lt_from t (pos (2 ^ 62)) parts.1 }
-
 entry_sound : (columns time : ℕ) (e : EntryText) → is_timely time e ≡ true → IsEntry columns time (entry_of columns e)
 entry_sound columns time (rows found) timely =
-    (refl, All-map (λ r. IsTime (at time r)) record_of found (λ k d h. time_from _ (AllPass-from_list_all (λ row. is_time (at time (record_of row))) found timely k d h)))
-entry_sound columns time (watermark t) timely = time_from (number_of t) timely
+    (refl, All-map (λ r. IsTime (at time r)) record_of found (λ k d h. AllPass-from_list_all (λ row. is_time (at time (record_of row))) found timely k d h))
+entry_sound columns time (watermark t) timely = timely
 
 entries_sound : (columns time : ℕ) (es : List EntryText) → list_all (is_timely time) es ≡ true → All (IsEntry columns time) (map (entry_of columns) es)
 entries_sound columns time es timely =
@@ -60,21 +49,21 @@ sources_sound plan text timely =
     All-map (λ (ps : List (List Entry)). All (λ es. All (IsEntry plan.columns plan.window.time) es) ps) (λ (s : SourceSpec). map (map (entry_of plan.columns)) (partitions_under s.uid text)) plan.sources
     (λ k d h. partitions_sound plan.columns plan.window.time _ (passes_under (is_timely plan.window.time) _ text timely))
 
-few_from : (plan : PlanData) (text : InputText) → is_few plan text ≡ true → length (all_records (sources_of plan text)) ≤ 2 ^ 40
+few_from : (plan : PlanData) (text : InputText) → is_few plan text ≡ true → length (all_records (sources_of plan text)) ≤ MOST_RECORDS
 unfolding is_few
-few_from plan text h = leb-true (length (all_records (sources_of plan text))) (2 ^ 40) h
+few_from plan text h = leb-true (length (all_records (sources_of plan text))) MOST_RECORDS h
 
-pub partitions_few : (plan : PlanData) (text : InputText) → IsPlan plan → has_partitions plan text ≡ true → All (λ ps. length ps ≤ 64) (sources_of plan text)
+pub partitions_few : (plan : PlanData) (text : InputText) → IsPlan plan → has_partitions plan text ≡ true → All (λ ps. length ps ≤ MOST_PARTITIONS) (sources_of plan text)
 unfolding has_partitions
 partitions_few plan text p met =
-    All-map (λ (ps : List (List Entry)). length ps ≤ 64) (λ (s : SourceSpec). map (map (entry_of plan.columns)) (partitions_under s.uid text)) plan.sources
+    All-map (λ (ps : List (List Entry)). length ps ≤ MOST_PARTITIONS) (λ (s : SourceSpec). map (map (entry_of plan.columns)) (partitions_under s.uid text)) plan.sources
     (λ k d h.
     let counted = eqb-true _ _ (AllPass-from_list_all (λ (s : SourceSpec). length (partitions_under s.uid text) == s.partitions) plan.sources met k d h) in
     let few = p.partitions_few k d h in
     let long = length-map (partitions_under (get_or plan.sources k d).uid text) (map (entry_of plan.columns)) in
     omega arith)
 
-pub sources_few : (plan : PlanData) (text : InputText) → IsPlan plan → length (sources_of plan text) ≤ 8
+pub sources_few : (plan : PlanData) (text : InputText) → IsPlan plan → length (sources_of plan text) ≤ MOST_SOURCES
 sources_few plan text p = rw (length-map plan.sources (λ (s : SourceSpec). map (map (entry_of plan.columns)) (partitions_under s.uid text))) p.sources_few
 
 partitions_are : (columns : ℕ) (text : InputText) (specs : List SourceSpec) → list_all (λ s. length (partitions_under s.uid text) == s.partitions) specs ≡ true

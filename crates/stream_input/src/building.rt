@@ -10,8 +10,8 @@ ghost use Rattle.input_texts.specs.Requirements.{is_wide, is_sized, has_width, h
 
 use columns::Batch;
 use input_texts::{EntryText, SourceText, number_at, number_of, partitions_of};
-use logical_plan::Plan;
 use plain_data::Items;
+use plan_model::Plan;
 use std::alloc::{AllocError, Global};
 use stream_model::{Entry, Partition, Source};
 

@@ -11,8 +11,8 @@ ghost use Rattle.input_texts.specs.Requirements.{is_wide, is_whole};
 ghost use Rattle.stream_model.specs.declared.entry.Entry.TheVariants.{Rows};
 
 use columns::{Batch, MOST_ROWS};
-use input_texts::are_times;
 use json_tokens::Miss;
+use plan_model::are_times;
 use std::alloc::{AllocError, Global};
 
 fn put_column(

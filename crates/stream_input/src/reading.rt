@@ -2,7 +2,7 @@
 
 ghost use Rattle.std.specs.Prelude.{◌≡◌, option_and_then, Err, IfOk, IfErr, IsErr, IsOk, MatchResult};
 ghost use Rattle.json_parts.specs.Parts.{json_of};
-ghost use Rattle.stream_model.specs.InputData.{input_data_of};
+ghost use Rattle.stream_model.specs.InputData.{BelongsTo, input_data_of};
 ghost use Rattle.input_texts.specs.InputText.{InputText, input_text};
 ghost use Rattle.stream_input.specs.Fit.{AreOf, IsRead};
 ghost use Rattle.input_texts.specs.Answer.{Fails, Gives, is_memory, text_of_bytes, input_or_fault, input_of_bytes};
@@ -12,10 +12,10 @@ use crate::tokens::sources_in;
 use input_texts::{InputFault, SourceText, check_text, text_of_input};
 use json_parts::{PartError, value_of};
 use json_tokens::Miss;
-use logical_plan::Plan;
 use plain_data::Items;
+use plan_model::Plan;
 use std::alloc::Global;
-use stream_model::{Source, first_late, is_few};
+use stream_model::{Input, Source, first_late, is_few};
 
 /// The partitions of each source, in the order of the plan, that the bytes say.
 pub fn sources_read(alloc: Global, plan: &Plan, bytes: &[u8]) -> Result<Items<Source>, InputFault>
@@ -117,4 +117,25 @@ fn orderly(plan: &Plan, sources: Items<Source>) -> Result<Items<Source>, InputFa
         return Err(InputFault::TooMany);
     }
     Ok(sources)
+}
+
+/// What is read from the text of an input.
+pub trait ReadInput: Sized {
+    /// The input that the bytes are, a JSON text, for the sources of a plan.
+    ///
+    /// # Errors
+    ///
+    /// The first fault in the order of [`InputFault`], each over the whole document before the next.
+    /// [`InputFault::Memory`] where memory runs out, in place of any other.
+    fn read(alloc: Global, plan: &Plan, bytes: &[u8]) -> Result<Self, InputFault>;
+}
+
+impl ReadInput for Input {
+    fn read(alloc: Global, plan: &Plan, bytes: &[u8]) -> Result<Input, InputFault>
+        ensures reads { Gives is_memory (λ i. i) result (input_of_bytes plan.now bytes.now) }
+        ensures belongs { IfOk result (λ i. BelongsTo plan.now i) }
+    {
+        let sources = sources_read(alloc, plan, bytes)?;
+        Ok(Input::new(plan.columns(), plan.window().time, sources))
+    }
 }

@@ -13,11 +13,10 @@ ghost use Rattle.stream_input.specs.Fit.{fit_entry, IsSlots, IsRead};
 
 use crate::cells::batch_at;
 use columns::MOST_ROWS;
-use input_texts::{empty_slots, is_time, place_of, put};
+use input_texts::{empty_slots, place_of, put};
 use json_tokens::{MOST_DEPTH, Miss, Scanner, scan_rows};
-use logical_plan::Plan;
 use plain_data::Items;
-use plan_model::{MOST_PARTITIONS, SourceSpec};
+use plan_model::{MOST_PARTITIONS, Plan, SourceSpec, is_time};
 use std::alloc::Global;
 use stream_model::{Entry, Partition, Source};
 

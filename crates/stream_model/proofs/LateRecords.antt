@@ -15,7 +15,7 @@ use Rattle.stream_model.specs.InputData.{records_of_entry}
 use Rattle.stream_model.specs.Watermarks.{watermark_of_entry, partition_watermark, IsOrderlyPartition, IsOrderly}
 use Rattle.plain_data.specs.Times.{lowest}
 use Rattle.stream_model.specs.Laws.{WatermarkGoesOn}
-use Rattle.stream_model.specs.Late.{is_late_at, first_late_entry, first_at, first_late}
+use Rattle.stream_model.specs.Late.{is_late_time, is_late_at, first_late_entry, first_at, first_late}
 
 -- the watermark of the first n entries, before the end
 abbrev pub watermark_before : List Entry → ℕ → ℤ
@@ -36,7 +36,7 @@ watermark_goes_on p n d short =
 
 -- entry n is late where it has a record with at most the watermark of the entries before it
 pub late_here : (time : ℕ) (entries : List Entry) (n : ℕ) (e : Entry) (w : ℤ) → n < length entries → e ≡ get_or entries n e → w ≡ watermark_before entries n
-    → is_late_at time entries n ≡ list_any (λ r. int_le (at time r) w) (records_of_entry e)
+    → is_late_at time entries n ≡ list_any (λ r. is_late_time w (at time r)) (records_of_entry e)
 late_here time entries n e w h is so_far =
     rw (watermark_at entries n h, slice_get_read entries (length entries) n e refl h is, so_far) refl
 
@@ -77,10 +77,10 @@ none_in_range test from (suc len) n h low high =
 above : (a b : ℤ) → int_le a b ≡ false → b <ℤ a
 above a b h = grind (arith, ints)
 
-all_above : (time : ℕ) (w : ℤ) (rs : List Record) → list_any (λ r. int_le (at time r) w) rs ≡ false → All (λ r. w <ℤ at time r) rs
+all_above : (time : ℕ) (w : ℤ) (rs : List Record) → list_any (λ r. is_late_time w (at time r)) rs ≡ false → All (λ r. w <ℤ at time r) rs
 all_above time w [] h = λ k d lt. absurd (omega arith)
 all_above time w (r ∷ rs) h =
-    let parts = or_parts (int_le (at time r) w) (list_any (λ x. int_le (at time x) w) rs) h in
+    let parts = or_parts (is_late_time w (at time r)) (list_any (λ x. is_late_time w (at time x)) rs) h in
     All-cons (λ x. w <ℤ at time x) r rs (above (at time r) w parts.0) (all_above time w rs parts.1)
 
 orderly_partition : (time : ℕ) (entries : List Entry) → first_late_entry time entries ≡ None → IsOrderlyPartition time entries

@@ -1,5 +1,5 @@
 -- What is due at the end, and what one cut leaves to the next.
-use Rattle.std.proofs.Common.{◌≡◌, ℕ, ℤ, pos, ◌+ℤ◌, ◌-ℤ◌, ◌≤ℤ◌, ◌^◌, Bool, true, false, List, [], ◌∷◌, map, take, length, Option, Some, None, refl, sym, ap, subst, ◌∙◌, inl, inr, arith, if◌then◌else◌}
+use Rattle.std.proofs.Common.{◌≡◌, ℕ, ℤ, pos, ◌+ℤ◌, ◌-ℤ◌, ◌≤ℤ◌, Bool, true, false, List, [], ◌∷◌, map, take, length, Option, Some, None, refl, sym, ap, subst, ◌∙◌, inl, inr, arith, if◌then◌else◌}
 use Rattle.std.specs.Int.RustNames.{int_le}
 use Rattle.std.specs.List.{All, AllByRecursion}
 use Rattle.std.specs.Option.{option_and_then}
@@ -8,6 +8,7 @@ use Rattle.std.proofs.lemmas.Bool.{cases_Bool, eq-eqb}
 use Rattle.std.proofs.lemmas.Int.{ints}
 use Rattle.std.proofs.lemmas.List.Elements.{All-nil, All-append, All-take, All-head, All-tail, All-filter, All-weaker}
 use Rattle.plain_data.specs.Record.{Record, at}
+use Rattle.plan_model.specs.declared.limits.TheConstants.{LONGEST_WINDOW}
 use Rattle.plan_model.specs.declared.spec.Pane.{Pane}
 use Rattle.plan_model.specs.declared.spec.WindowSpec.{WindowSpec}
 use Rattle.plan_model.specs.PlanData.{PlanData, IsPlan}
@@ -37,7 +38,7 @@ each_entry P Q ss h all =
 
 pub watermark_low : (columns time : ℕ) (e : Entry) → IsEntry columns time e → watermark_of_entry e ≤ℤ highest
 watermark_low columns time (Rows batch) h = omega (arith, ints)
-watermark_low columns time (Watermark t) h = let b = h.below in omega (arith, ints, b)
+watermark_low columns time (Watermark t) h = grind (arith, ints)
 
 watermarks_low : (i : InputData) → IsInput i → AllByRecursion (AllByRecursion (λ p. All (λ e. watermark_of_entry e ≤ℤ highest) p)) i.sources
 watermarks_low i h = each_entry (IsEntry i.columns i.time) (λ e. watermark_of_entry e ≤ℤ highest) i.sources (watermark_low i.columns i.time) h.entries
@@ -74,8 +75,8 @@ module _ (time : ℕ) where
   timely (s ∷ ss) (c ∷ cs) h = All-append Timely (records_before_in s c) (records_before ss cs) (timely_source s c h.0) (timely ss cs h.1)
 
 -- a window that is not due at the greatest watermark begins after each time
-too_late : (w : WindowSpec) (s t : ℤ) → w.size ≤ℤ pos (2 ^ 40) → IsTime t → int_le (s +ℤ w.size -ℤ pos 1) highest ≡ false → is_within w s t ≡ false
-too_late w s t size h late = let b = h.below in grind (arith, ints, size, b, late)
+too_late : (w : WindowSpec) (s t : ℤ) → w.size ≤ℤ LONGEST_WINDOW → IsTime t → int_le (s +ℤ w.size -ℤ pos 1) highest ≡ false → is_within w s t ≡ false
+too_late w s t size h late = grind (arith, ints, size, h, late)
 
 nothing_late : (plan : PlanData) (records : List Record) (q : Pane) → IsPlan plan → All (λ r. IsTime (at plan.window.time r)) records → is_due plan.window highest q.start ≡ false → plan_aggregate plan records q ≡ None
 nothing_late plan records q sound times late =

@@ -1,5 +1,5 @@
 -- Records that come too late: after a watermark that says that none with such a time comes any more.
-use Rattle.std.specs.Prelude.{ℕ, suc, Bool, List, [], ◌∷◌, length, Option, None, int_le, slice_get}
+use Rattle.std.specs.Prelude.{ℕ, suc, ℤ, Bool, List, [], ◌∷◌, length, Option, None, int_le, slice_get}
 use Rattle.std.specs.List.{list_any, find, range_with_len}
 use Rattle.std.specs.Option.{option_map, option_map_or, option_or}
 use Rattle.plain_data.specs.Record.{at}
@@ -7,9 +7,13 @@ use Rattle.stream_model.specs.declared.entry.Entry.{Entry}
 use Rattle.stream_model.specs.InputData.{records_of_entry}
 use Rattle.stream_model.specs.Watermarks.{partition_watermark}
 
+-- a time is late behind a watermark that it is not above
+abbrev pub is_late_time : ℤ → ℤ → Bool
+is_late_time watermark time = int_le time watermark
+
 -- whether entry n has a record whose time is not greater than the watermark before it
 abbrev pub is_late_at : ℕ → List Entry → ℕ → Bool
-is_late_at time entries n = list_any (λ r. int_le (at time r) (partition_watermark entries n)) (option_map_or records_of_entry (slice_get entries n) [])
+is_late_at time entries n = list_any (λ r. is_late_time (partition_watermark entries n) (at time r)) (option_map_or records_of_entry (slice_get entries n) [])
 
 -- the first such entry of a partition
 abbrev pub first_late_entry : ℕ → List Entry → Option ℕ

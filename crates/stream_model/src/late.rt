@@ -1,11 +1,11 @@
 //! Records that come too late.
 
-ghost use Rattle.std.specs.Prelude.{◌≡◌, ◌<◌, ◌≤◌, length, int_le};
+ghost use Rattle.std.specs.Prelude.{◌≡◌, ◌<◌, ◌≤◌, length};
 ghost use Rattle.std.specs.List.{All, list_any};
 ghost use Rattle.plain_data.specs.Record.{at};
 ghost use Rattle.stream_model.specs.InputData.{records_of_entry, IsEntry};
 ghost use Rattle.stream_model.specs.Late as lateness;
-ghost use Rattle.plan_model.specs.declared.limits.TheConstants.{MOST_SOURCES};
+ghost use Rattle.plan_model.specs.declared.limits.TheConstants.{MOST_SOURCES, MOST_PARTITIONS};
 
 use crate::entry::{Entry, Partition, Source};
 
@@ -15,7 +15,7 @@ pub fn first_late(columns: usize, time: usize, sources: &[Source]) -> Option<(u3
     requires time_in { time < columns }
     requires sound { All (λ ps. All (λ es. All (IsEntry columns time) es) ps) sources.now }
     requires sources_few { length sources.now ≤ MOST_SOURCES }
-    requires partitions_few { All (λ ps. length ps ≤ 64) sources.now }
+    requires partitions_few { All (λ ps. length ps ≤ MOST_PARTITIONS) sources.now }
     ensures { result ≡ lateness.first_late time sources.now }
 {
     for (place, source) in sources.iter().enumerate() {
@@ -29,7 +29,7 @@ pub fn first_late(columns: usize, time: usize, sources: &[Source]) -> Option<(u3
 fn first_in_source(columns: usize, time: usize, partitions: &[Partition]) -> Option<(u32, u64)>
     requires time_in { time < columns }
     requires sound { All (λ es. All (IsEntry columns time) es) partitions.now }
-    requires few { length partitions.now ≤ 64 }
+    requires few { length partitions.now ≤ MOST_PARTITIONS }
     ensures { result ≡ lateness.first_at (lateness.first_late_entry time) partitions.now }
 {
     for (place, partition) in partitions.iter().enumerate() {
@@ -55,20 +55,27 @@ fn first_in_partition(columns: usize, time: usize, entries: &[Entry]) -> Option<
     None
 }
 
-/// Whether a record of the entry has a time that is not greater than the watermark.
+/// Whether a record of the entry is late behind the watermark.
 fn is_late(columns: usize, time: usize, watermark: i64, entry: &Entry) -> bool
     requires time_in { time < columns }
     requires sound { IsEntry columns time entry.now }
-    ensures { result ≡ list_any (λ r. int_le (at time r) watermark) (records_of_entry entry.now) }
+    ensures { result ≡ list_any (λ r. lateness.is_late_time watermark (at time r)) (records_of_entry entry.now) }
 {
     match entry {
-        Entry::Rows(batch) => has_at_most(batch.column(time), watermark),
+        Entry::Rows(batch) => has_late_time(batch.column(time), watermark),
         Entry::Watermark(_) => false,
     }
 }
 
-fn has_at_most(times: &[i64], watermark: i64) -> bool
-    ensures { result ≡ list_any (λ t. int_le t watermark) times.now }
+fn has_late_time(times: &[i64], watermark: i64) -> bool
+    ensures { result ≡ list_any (lateness.is_late_time watermark) times.now }
 {
-    times.iter().any(|time| *time <= watermark)
+    times.iter().any(|time| is_late_time(watermark, *time))
+}
+
+/// Whether a time is late behind a watermark: it is not above it.
+pub fn is_late_time(watermark: i64, time: i64) -> bool
+    ensures { result ≡ lateness.is_late_time watermark time }
+{
+    time <= watermark
 }

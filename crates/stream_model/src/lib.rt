@@ -1,4 +1,4 @@
-//! What an input means: the entries of its partitions, their watermarks, the rows of a plan, and what is due at a cut.
+//! `Input`, and what it means: the entries of its partitions, their watermarks, the rows of a plan, and what is due at a cut.
 //!
 //! An input has for each source its partitions, each a list of entries: rows, or a watermark. A cut has a count of entries
 //! for each partition. `specs/Watermarks` says what the watermark is at a cut, `specs/PlanRows` which rows a plan has on an
@@ -7,11 +7,13 @@
 
 mod count;
 mod entry;
+mod input;
 mod late;
 pub mod laws;
 mod watermark;
 
 pub use count::is_few;
 pub use entry::{Entry, Partition, Source};
-pub use late::first_late;
+pub use input::Input;
+pub use late::{first_late, is_late_time};
 pub use watermark::greatest_watermark;

@@ -2,7 +2,7 @@
 use Rattle.std.specs.Prelude.{ℕ, [], length}
 use Rattle.dataflow_model.specs.Leg as model
 use Rattle.stream_model.specs.InputData.{InputData, partition_at}
-use Rattle.leg_lists.specs.Stops.{until_of}
+use Rattle.legs.specs.Stops.{until_of}
 pub use Rattle.plan_compiler.specs.LayoutData.{IsLayoutOf}
 use Rattle.task_setups.specs.declared.leg.Leg.{Leg}
 

@@ -4,9 +4,8 @@ ghost use Rattle.std.specs.Prelude.{◌≡◌, ◌++◌, [], ◌∷◌, take, dr
 ghost use Rattle.task_setups.specs.Setups as told;
 
 use layout_rules::Operator;
-use logical_plan::Plan;
 use plain_data::Items;
-use plan_model::FilterSpec;
+use plan_model::{FilterSpec, Plan};
 use std::alloc::{AllocError, Global};
 
 fn copied(alloc: Global, filter: &FilterSpec) -> Result<FilterSpec, AllocError>

@@ -2,15 +2,15 @@
 
 ghost use Rattle.std.specs.Prelude.{◌≡◌, IfOk};
 ghost use Rattle.dataflow_model.specs.Leg as model;
-ghost use Rattle.leg_lists.specs.Stops.{until_of};
+ghost use Rattle.legs.specs.Stops.{until_of};
 ghost use Rattle.task_setups.specs.Legs.{sizes_of, leg_over};
 ghost use Rattle.task_setups.specs.Setups as told;
 
 use dataflow_model::Ending;
-use leg_lists::Stop;
+use legs::Stop;
 use plain_data::Items;
 use std::alloc::{AllocError, Global};
-use stream_input::Input;
+use stream_model::Input;
 
 /// A leg that takes no savepoint while it goes on.
 #[derive(Debug, Drop)]

@@ -13,11 +13,11 @@ use crate::leg::{Leg, ending_of, limits_of};
 use dataflow_model::Role;
 use key_groups::{MaxParallelism, Parallelism};
 use layout_rules::{Edge, Operator, Stage};
-use logical_plan::Plan;
 use plain_data::Items;
 use plan_compiler::Layout;
+use plan_model::Plan;
 use std::alloc::{AllocError, Global};
-use stream_input::Input;
+use stream_model::Input;
 use task_steps::{Setup, Split};
 
 /// The source that the tasks of a stage read; 0 where they read none.

@@ -25,7 +25,7 @@ use plan_model::{MOST_RECORDS, Row};
 use std::alloc::{AllocError, Global};
 use std::collections::VecDeque;
 use std::marker::Model;
-use stream_input::Input;
+use stream_model::Input;
 use window_state::{Part, WindowState};
 
 /// One task of a leg: a source, a chain of filters, a window or the sink. It borrows nothing.

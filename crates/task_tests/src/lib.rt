@@ -2,6 +2,12 @@
 #![tactic(auto)]
 
 #[cfg(test)]
+mod choosing;
+#[cfg(test)]
+mod following;
+#[cfg(test)]
 mod making;
+#[cfg(test)]
+mod sharing;
 #[cfg(test)]
 mod worlds;

@@ -3,11 +3,12 @@
 ghost use Rattle.std.specs.Prelude.{IfOk};
 ghost use Rattle.task_setups.specs.Legs.{IsLayoutOf};
 
-use leg_lists::{Cut, Stop};
-use logical_plan::Plan;
+use layout_rules::Scale;
+use legs::{Cut, Stop};
 use plain_data::Items;
 use plan_compiler::{Layout, compile};
-use plan_scale::Scale;
+use plan_model::Plan;
+use plan_scale::ReadScale;
 use std::alloc::{AllocError, Global};
 use std::test::Fail;
 

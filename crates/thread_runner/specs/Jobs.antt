@@ -3,7 +3,7 @@ use Rattle.std.specs.Prelude.{◌≡◌, List, MatchOption}
 use Rattle.std.specs.List.{AllZip}
 use Rattle.stream_model.specs.InputData.{InputData}
 use Rattle.dataflow_model.specs.Steps.{IsDone}
-use Rattle.leg_lists.specs.declared.fault.LegFault.TheVariants.{Memory}
+use Rattle.legs.specs.declared.fault.LegFault.TheVariants.{Memory}
 use Rattle.task_steps.specs.TaskData.{TaskData}
 use Rattle.thread_runner.specs.declared.ends.Sender.{Sender}
 use Rattle.thread_runner.specs.declared.ends.Receiver.{Receiver}

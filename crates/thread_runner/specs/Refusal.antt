@@ -1,9 +1,9 @@
 -- Why a leg on threads has no answer.
 use Rattle.std.specs.Prelude.{◌≡◌, ◌⊎◌, ℕ, List}
 use Rattle.stream_model.specs.declared.entry.Entry.{Entry}
-use Rattle.leg_lists.specs.declared.fault.LegFault.{LegFault}
-use Rattle.leg_lists.specs.declared.fault.LegFault.TheVariants.{Memory, Threads}
-use Rattle.leg_lists.specs.declared.stop.Stop.{Stop}
+use Rattle.legs.specs.declared.fault.LegFault.{LegFault}
+use Rattle.legs.specs.declared.fault.LegFault.TheVariants.{Memory, Threads}
+use Rattle.legs.specs.declared.stop.Stop.{Stop}
 use Rattle.redistribute.specs.Stopping.{CanStop, IsRefusal}
 
 -- for want of memory, or of a thread

@@ -3,7 +3,7 @@
 ghost use Rattle.std.specs.Prelude.{◌≡◌, ◌↔◌, List, map, length, IsFalse, IfOk};
 ghost use Rattle.stream_model.specs.InputData.{BelongsTo};
 ghost use Rattle.layout_rules.specs.Stages.{task_count};
-ghost use Rattle.leg_lists.specs.declared.stop.Stop.TheVariants.{Never};
+ghost use Rattle.legs.specs.declared.stop.Stop.TheVariants.{Never};
 ghost use Rattle.redistribute.specs.StartData.{offsets_of};
 ghost use Rattle.redistribute.specs.Begins.{IsStartIn, IsFromNothing};
 ghost use Rattle.redistribute.specs.Stopping.{CanStop};
@@ -18,7 +18,7 @@ use crate::edges::settle_all;
 use crate::jobs::Done;
 use crate::laws::layouts_have_edges;
 use core_steps::{Finish, Given, finish_of};
-use leg_lists::Stop;
+use legs::Stop;
 use plan_compiler::Layout;
 use std::alloc::{AllocError, Global};
 use task_steps::Task;

@@ -1,7 +1,7 @@
 //! What a worker is handed, and what it hands back.
 
 use crate::rings::{Receiver, Sender};
-use leg_lists::LegFault;
+use legs::LegFault;
 use task_steps::Task;
 
 /// What a worker is handed: a task, and one ring end for each of its inputs and outputs, in their order.

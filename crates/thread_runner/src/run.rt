@@ -10,7 +10,7 @@ use crate::jobs::{Done, Job};
 use crate::waiting::Patience;
 use crate::work::worker;
 use core::thread::Stack;
-use leg_lists::LegFault;
+use legs::LegFault;
 use std::alloc::Global;
 use std::snapshot::Snapshot;
 use std::sync::Wait;
@@ -18,7 +18,7 @@ use std::sync::atomic::{AtomicBool, Ordering};
 use std::thread;
 use std::thread::{Promise, Threads};
 use std::time::Clock;
-use stream_input::Input;
+use stream_model::Input;
 
 /// The stack of a worker, in bytes: no step goes deep, and 256 workers have to start where a process has 1 GB of addresses.
 const STACK: usize = 1 << 20;

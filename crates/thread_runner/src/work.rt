@@ -3,7 +3,7 @@
 ghost use Rattle.std.specs.Prelude.{◌≡◌, ℕ, ◌<◌, List, IfNone, IfSome, OnOk, OnErr, MatchResult};
 ghost use Rattle.stream_model.specs.InputData.{InputData};
 ghost use Rattle.dataflow_model.specs.Steps.{IsDone};
-ghost use Rattle.leg_lists.specs.declared.fault.LegFault.TheVariants.{Memory};
+ghost use Rattle.legs.specs.declared.fault.LegFault.TheVariants.{Memory};
 ghost use Rattle.task_steps.specs.Puts.{IsFirst};
 ghost use Rattle.thread_runner.specs.declared.ends.Receiver.{Receiver};
 ghost use Rattle.thread_runner.specs.declared.ends.Sender.{Sender};
@@ -14,11 +14,11 @@ use crate::gate::Gate;
 use crate::jobs::Done;
 use crate::rings::{Receiver, Sender};
 use crate::waiting::Patience;
-use leg_lists::LegFault;
+use legs::LegFault;
 use std::sync::Wait;
 use std::sync::atomic::{AtomicBool, Ordering};
 use std::time::Clock;
-use stream_input::Input;
+use stream_model::Input;
 use task_steps::{StepFault, Task};
 
 /// Puts the first pending message, if its ring has room.

@@ -4,11 +4,11 @@
 #[cfg(test)]
 mod gates;
 #[cfg(test)]
-mod legs;
-#[cfg(test)]
 mod making;
 #[cfg(test)]
 mod orders;
+#[cfg(test)]
+mod outcomes;
 #[cfg(test)]
 mod rings;
 #[cfg(test)]

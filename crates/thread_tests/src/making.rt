@@ -8,13 +8,14 @@ ghost use Rattle.task_setups.specs.Legs.{IsLayoutOf};
 
 use core_steps::Finish;
 use job_texts::{sort_rows, text_of_rows};
-use leg_lists::{Cut, LegFault, Stop};
+use layout_rules::Scale;
 use leg_runs::run_leg_by;
-use logical_plan::Plan;
+use legs::{Cut, LegFault, Stop};
+use logical_plan::ReadPlan;
 use plain_data::Items;
 use plan_compiler::{Layout, compile};
-use plan_model::Row;
-use plan_scale::Scale;
+use plan_model::{Plan, Row};
+use plan_scale::ReadScale;
 use redistribute::Start;
 use restore::check;
 use savepoint_codec::{decode, encode};
@@ -24,7 +25,8 @@ use std::sync::Wait;
 use std::test::Fail;
 use std::thread::Threads;
 use std::time::Clock;
-use stream_input::Input;
+use stream_input::ReadInput;
+use stream_model::Input;
 use thread_runner::{Gate, OpenGate, run_leg};
 use window_state::HashKeys;
 

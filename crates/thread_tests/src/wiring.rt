@@ -17,10 +17,11 @@ use crate::making::{
 };
 use core_steps::laws::{each_leg_is_sound, tasks_begin_new};
 use core_steps::{Finish, Given, finish_of};
-use leg_lists::{LegFault, Stop};
 use leg_tasks::tasks;
-use logical_plan::Plan;
+use legs::{LegFault, Stop};
+use logical_plan::ReadPlan;
 use plan_compiler::Layout;
+use plan_model::Plan;
 use redistribute::Start;
 use std::alloc::{AllocError, Global};
 use std::process::Abort;
@@ -30,7 +31,8 @@ use std::sync::atomic::{AtomicBool, Ordering};
 use std::test::Fail;
 use std::thread::Threads;
 use std::time::Clock;
-use stream_input::Input;
+use stream_input::ReadInput;
+use stream_model::Input;
 use task_setups::Leg;
 use thread_runner::laws::{
     jobs_are_wired, layouts_have_edges, workers_are_at_end, workers_hand_back_rings,

@@ -199,7 +199,7 @@ sliding w r rest h is =
     }
 
 fits_start : (t : ℤ) (b : ℕ) → IsTime t → b ≤ 2 ^ 40 → FitsSigned w64 (t -ℤ pos b)
-fits_start t b h k = let above = h.above in let below = h.below in grind (arith, ints)
+fits_start t b h k = grind (arith, ints)
 
 -- the start of a window as the code computes it
 pub start_is : (t x : ℤ) (b : ℕ) → FitsSigned w64 x → x ≡ t → IsTime t → b ≤ 2 ^ 40 → to_z w64 (of_z w64 (to_z w64 (of_z w64 x) -ℤ to_z w64 b)) ≡ t -ℤ pos b
@@ -212,10 +212,7 @@ pub sliding_by : (v w : WindowSpec) (r : Record) (rest : ℕ) → w ≡ v → Is
 sliding_by v w r rest same range rem = subst (λ (x : WindowSpec). Sliding v r (held x.slide) (held x.size) rest) (sym same) (sliding v r rest range rem)
 
 pub start_in_range : (t : ℤ) (b : ℕ) → IsTime t → b < 2 ^ 40 → IsStart (t -ℤ pos b)
-start_in_range t b time small =
-    let above = time.above in
-    let below = time.below in
-    record { above = grind (arith, ints, above, small); below = grind (arith, ints, below) }
+start_in_range t b time small = record { above = grind (arith, ints, time, small); below = grind (arith, ints, time) }
 
 pub key_is : (k x : ℤ) → FitsSigned w64 x → x ≡ k → to_z w64 (of_z w64 x) ≡ k
 key_is k x fits is = to_z-of_z w64 x fits ∙ is

@@ -1,5 +1,5 @@
 -- The windows of a state as a function of a pane, and what every state's windows meet.
-use Rattle.std.specs.Prelude.{◌≡◌, ℕ, ℤ, pos, neg_ℤ, ◌+◌, ◌^◌, ◌≤◌, ◌<◌, ◌<ℤ◌, length, map, List, Option, Some, is_some, option_map, Bool, ◌&&◌}
+use Rattle.std.specs.Prelude.{◌≡◌, ℕ, ℤ, neg_ℤ, ◌+ℤ◌, ◌≤◌, ◌<◌, ◌<ℤ◌, length, map, List, Option, Some, is_some, option_map, Bool, ◌&&◌}
 use Rattle.std.specs.Map.{keys_of, lookup}
 use Rattle.std.specs.Ordering.{int_eq, is_eq}
 use Rattle.std.specs.List.{All, IsDistinct, list_any}
@@ -9,7 +9,7 @@ use Rattle.plan_model.specs.declared.spec.Pane.{Pane}
 use Rattle.plan_model.specs.PlanData.{IsWindow, has_column}
 use Rattle.plan_model.specs.Aggregates.{Aggregated}
 use Rattle.plan_model.specs.Rows.{pane_cmp}
-use Rattle.plan_model.specs.declared.limits.TheConstants.{MOST_AGGREGATES}
+use Rattle.plan_model.specs.declared.limits.TheConstants.{TIME_LIMIT, LONGEST_WINDOW, MOST_AGGREGATES}
 use Rattle.aggregates.specs.Kinds.{AccData, kind_of}
 
 -- p is the pane q
@@ -26,8 +26,8 @@ total_at es q = option_map (λ a. a.total) (acc_at es q)
 
 -- the starts of windows of times in range
 pub record IsStart (s : ℤ) : Type 0 where
-  pub above : neg_ℤ (pos (2 ^ 62 + 2 ^ 40)) <ℤ s
-  pub below : s <ℤ pos (2 ^ 62)
+  pub above : neg_ℤ (TIME_LIMIT +ℤ LONGEST_WINDOW) <ℤ s
+  pub below : s <ℤ TIME_LIMIT
 
 -- no pane stands twice, each has the plan's aggregates, and a start in range
 pub record AreWindows (w : WindowSpec) (es : List (Pane × AccData)) : Type 0 where

@@ -3,7 +3,7 @@ use Rattle.std.specs.Ordering.{nat_cmp}
 use Rattle.std.specs.Cmp.Lexicographic.{slice_cmp}
 use Rattle.std.specs.List.{list_all}
 use Rattle.plan_model.specs.Uids.{is_uid}
-use Rattle.logical_plan.specs.PlanRecord.{ascending}
+use Rattle.plan_record.specs.PlanRecord.{ascending}
 use Rattle.gather.proofs.sources.source_uids.Given as goal
 
 abbrev pub invariant-loop-source : goal.invariant-loop-source

@@ -1,7 +1,7 @@
 use Rattle.std.proofs.Common.{◌≡◌, ◌&&◌, Bool, true, false, is_some, map, Some, refl, sym, ap, ◌∙◌}
 use Rattle.std.specs.List.{list_all, list_any}
 use Rattle.std.specs.Result.{is_ok}
-use Rattle.json_parts.specs.Answer.{unless}
+use Rattle.answers.specs.Answer.{unless}
 use Rattle.input_texts.specs.Answer.{is_memory}
 use Rattle.input_texts.specs.Document.{is_other_slot}
 use Rattle.input_texts.specs.Seen.{SourceSeen}

@@ -1,13 +1,13 @@
 use Rattle.std.proofs.Common.{◌≡◌, ◌<◌, ◌==◌, ◌+◌, ◌&&◌, ◌∷◌, ◌++◌, [], cond, true, length, SFits, None, Some, is_some, refl, sym, ap, ap₂, ◌∙◌, to_z-of_z, w64, arith, rules}
 use Rattle.std.proofs.lemmas.List.{length-append}
-use Rattle.std.specs.Prelude.{int_le}
 use Rattle.json.specs.Json.{after_end_array}
 use Rattle.json_parts.specs.Parts.{cell_text}
 use Rattle.json_tokens.specs.Ahead.{part}
 use Rattle.json_tokens.proofs.Facts.{items_begin, items_next, items_over, items_refused}
 use Rattle.plain_data.specs.Record.{at}
 use Rattle.input_texts.specs.Said.{number_of, record_of}
-use Rattle.input_texts.specs.Requirements.{is_time}
+use Rattle.plan_model.specs.Windows.{is_time}
+use Rattle.stream_model.specs.Late.{is_late_time}
 use Rattle.input_texts.proofs.Notings.{all_more, at_more, passed_on}
 use Rattle.input_texts.proofs.noting.cells_noted.Goals as goal
 
@@ -38,7 +38,7 @@ returns-clause-said c =
     let wide = ap₂ (λ a b. a == b) i.2 c.columns.ensures.says in
     let time = i.4 ∙ ap (λ w. at w.time (record_of i.0)) c.window.ensures.says in
     let timely = c.is_time.ensures ∙ ap is_time time in
-    let late = ap₂ int_le time (to_z-of_z {w = w64} {z = c.args.watermark} c.ranges.watermark) in (
+    let late = c.is_late_time.ensures ∙ ap₂ is_late_time (to_z-of_z {w = w64} {z = c.args.watermark} c.ranges.watermark) time in (
       i.0,
       items_over cell_text c.args.depth c.args.reader.now l.reader c.take_end_array.new.self i.0 i.1 (grind arith),
       λ o. record { met = record { is_wide = wide o; is_whole = i.3 o; is_sized = true; is_timely = timely o }; is_late = late o },

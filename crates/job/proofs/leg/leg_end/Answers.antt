@@ -1,7 +1,7 @@
 use Rattle.std.proofs.Common.{◌∙◌, ap}
 use Rattle.dataflow_laws.specs.Inputs.{due_between}
 use Rattle.dataflow_laws.specs.Compiled.{cut_to}
-use Rattle.leg_lists.specs.Stops.{until_of}
+use Rattle.legs.specs.Stops.{until_of}
 use Rattle.redistribute.specs.StartData.{offsets_of}
 use Rattle.job_texts.specs.Text.{text_of_rows}
 use Rattle.job.proofs.leg.leg_end.Goals as goal

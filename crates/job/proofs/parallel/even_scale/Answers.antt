@@ -1,6 +1,6 @@
 use Rattle.std.proofs.Common.{◌∙◌, Err, ap, subst, sym}
 use Rattle.std.specs.Option.{option_map_or}
-use Rattle.json_parts.specs.Answer.{Gives}
+use Rattle.answers.specs.Answer.{Gives}
 use Rattle.plan_scale.specs.Even.{scale_at}
 use Rattle.job_texts.specs.declared.fault.JobFault.TheVariants.{Number, Scale}
 use Rattle.job_texts.specs.Fault.{is_memory, scale_fault}

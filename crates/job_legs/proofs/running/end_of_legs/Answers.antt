@@ -1,4 +1,4 @@
-use Rattle.leg_lists.specs.Stops.{until_of}
+use Rattle.legs.specs.Stops.{until_of}
 use Rattle.stream_model.specs.PlanRows.{due_rows}
 use Rattle.dataflow_laws.specs.Compiled.{cut_to}
 use Rattle.job_legs.specs.Running.{last_stop}

@@ -3,7 +3,7 @@ use Rattle.std.specs.List.{All}
 use Rattle.std.proofs.lemmas.List.Elements.{All-tail}
 use Rattle.std.specs.Vec.Iter.{into_iter_items}
 use Rattle.layout_rules.specs.Scale.{IsScale}
-use Rattle.leg_lists.specs.declared.leg.LegSpec.{LegSpec}
+use Rattle.legs.specs.declared.leg.LegSpec.{LegSpec}
 use Rattle.stream_model.specs.Watermarks.{IsOrderly}
 use Rattle.job_legs.specs.declared.running.Reached.{Reached}
 use Rattle.job_legs.specs.Running.{HaveRun, IsRunRefusal}

@@ -1,5 +1,5 @@
 use Rattle.std.proofs.Common.{◌∙◌, ap, sym, option_map}
-use Rattle.leg_lists.specs.Requirements.{are_legs}
+use Rattle.legs.specs.Requirements.{are_legs}
 use Rattle.job_legs.specs.Ending.{IsJobEnd}
 use Rattle.job_legs.proofs.Refusals.{in_threads}
 use Rattle.job_legs.proofs.running.run_legs.Goals as goal

@@ -1,6 +1,6 @@
 use Rattle.std.proofs.Common.{◌∙◌, ap, sym, length, option_map}
 use Rattle.std.proofs.lemmas.Bool.{eqb-true}
-use Rattle.leg_lists.specs.Requirements.{are_legs}
+use Rattle.legs.specs.Requirements.{are_legs}
 use Rattle.job_legs.specs.Ending.{IsJobEnd}
 use Rattle.job_legs.proofs.Refusals.{by_choices}
 use Rattle.job_legs.proofs.running.run_legs_by.Goals as goal

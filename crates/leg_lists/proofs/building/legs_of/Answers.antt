@@ -2,7 +2,7 @@ use Rattle.std.proofs.Common.{arith}
 use Rattle.std.proofs.lemmas.Grind.{common_steps}
 use Rattle.std.proofs.lemmas.List.Elements.{All-push}
 use Rattle.layout_rules.specs.Scale.{IsScale}
-use Rattle.leg_lists.specs.declared.leg.LegSpec.{LegSpec}
+use Rattle.legs.specs.declared.leg.LegSpec.{LegSpec}
 use Rattle.leg_lists.proofs.building.legs_of.Goals as goal
 
 pub loop-text-preserved : goal.loop-text-preserved

@@ -1,5 +1,5 @@
 use Rattle.std.proofs.Common.{◌≡◌, subst}
-use Rattle.leg_lists.specs.declared.stop.Stop.TheVariants.{Never}
+use Rattle.legs.specs.declared.stop.Stop.TheVariants.{Never}
 use Rattle.redistribute.specs.Begins.{IsFromNothing}
 use Rattle.core_steps.specs.Given.{GivenData}
 use Rattle.core_steps.specs.Ending.{IsEndOf, IsWholeRun}

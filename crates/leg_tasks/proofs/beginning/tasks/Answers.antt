@@ -1,10 +1,10 @@
-use Rattle.std.proofs.Common.{sym, ap, subst}
+use Rattle.std.proofs.Common.{[], sym, ap, subst}
 use Rattle.stream_model.specs.InputData.{InputData}
 use Rattle.layout_rules.specs.Rules.{IsCompiled}
 use Rattle.layout_rules.proofs.Facts.{compiled_ever}
-use Rattle.leg_lists.specs.declared.stop.Stop.{Stop}
-use Rattle.leg_lists.specs.declared.stop.Stop.TheVariants.{Never, At}
-use Rattle.leg_lists.specs.Stops.{until_of}
+use Rattle.legs.specs.declared.stop.Stop.{Stop}
+use Rattle.legs.specs.declared.stop.Stop.TheVariants.{Never, At}
+use Rattle.legs.specs.Stops.{until_of}
 use Rattle.dataflow_laws.specs.Compiled.{layout_to}
 use Rattle.redistribute.specs.StartData.{StartData, offsets_of}
 use Rattle.redistribute.specs.Stopping.{CanStop}
@@ -27,5 +27,5 @@ returns-clause-begin c =
     let leg = c.args.leg.now in
     let made = c.requires.laid_out in
     let compiled : IsCompiled p made.scale l.stages = subst (IsCompiled p made.scale) (sym (ap (λ m. m.stages) made.is)) (compiled_ever p made.scale) in
-    subst (BeginLeg p i s l.stages (layout_to p i leg.number (until_of leg.stop) l.stages)) (sym c.in_ok-tasks_from.ensures)
+    subst (BeginLeg p i s l.stages (layout_to p i leg.number [] (until_of leg.stop) l.stages)) (sym c.in_ok-tasks_from.ensures)
     (new_tasks_begin p made.scale i s leg.number (until_of leg.stop) l.stages c.columns-columns.ensures.sound made.fits compiled c.requires.belongs (stays_within i s leg.stop c.in_ok-check_stop.ensures))

@@ -1,4 +1,4 @@
-use Rattle.logical_plan.specs.Places.{texts}
+use Rattle.plan_model.specs.Places.{texts}
 use Rattle.logical_plan.proofs.Distinct.{next_new, next_again}
 use Rattle.logical_plan.proofs.places.places_of.Goals as goal
 

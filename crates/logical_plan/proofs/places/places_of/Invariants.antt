@@ -1,6 +1,6 @@
 use Rattle.std.proofs.Common.{◌≡◌, true, map, take}
 use Rattle.plan_model.specs.Uids.{are_distinct}
-use Rattle.logical_plan.specs.Places.{texts}
+use Rattle.plan_model.specs.Places.{texts}
 use Rattle.logical_plan.proofs.places.places_of.Given as goal
 
 abbrev pub invariant-loop-uid : goal.invariant-loop-uid

@@ -2,7 +2,7 @@ use Rattle.std.proofs.Common.{◌≤◌, ℕ, ◌<◌, length, get_or, sym, arit
 use Rattle.std.proofs.lemmas.Grind.{common_steps}
 use Rattle.std.proofs.lemmas.Slice.Zip.{AllZip-long}
 use Rattle.savepoint_codec.specs.declared.savepoint.SavedPartition.{SavedPartition}
-use Rattle.leg_lists.proofs.Facts.{all_zip, at_each}
+use Rattle.legs.proofs.Facts.{all_zip, at_each}
 use Rattle.redistribute.proofs.Reached.{mapped, unmapped}
 use Rattle.redistribute.proofs.stopping.are_reached.Goals as goal
 

@@ -1,6 +1,6 @@
 use Rattle.std.proofs.Common.{◌≡◌, List, length, map, Ok, sym, ap, subst, ◌∙◌}
 use Rattle.std.specs.List.{All}
-use Rattle.json_parts.specs.Answer.{Fails}
+use Rattle.answers.specs.Answer.{Fails}
 use Rattle.layout_rules.specs.Layouts.{partition_counts}
 use Rattle.savepoint_codec.specs.declared.savepoint.Contents.{Contents}
 use Rattle.savepoint_codec.specs.declared.savepoint.SavedPartition.{SavedPartition}

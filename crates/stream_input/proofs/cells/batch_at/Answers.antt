@@ -2,7 +2,7 @@ use Rattle.std.proofs.Common.{◌≡◌, ◌/◌, true, length, refl, sym, ap, �
 use Rattle.std.specs.List.{list_all}
 use Rattle.plain_data.specs.Record.{column_of}
 use Rattle.columns.specs.Table.{Table}
-use Rattle.input_texts.specs.Requirements.{is_time}
+use Rattle.plan_model.specs.Windows.{is_time}
 use Rattle.stream_input.proofs.FitRows.{whole_columns, fit_batch}
 use Rattle.stream_input.proofs.cells.batch_at.Goals as goal
 

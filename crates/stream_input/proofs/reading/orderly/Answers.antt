@@ -1,5 +1,6 @@
-use Rattle.std.proofs.Common.{◌≡◌, ℕ, ◌^◌, false, true, Some, None, length, sym}
+use Rattle.std.proofs.Common.{◌≡◌, ℕ, false, true, Some, None, length, sym}
 use Rattle.std.specs.Prelude.{nat_le}
+use Rattle.plan_model.specs.declared.limits.TheConstants.{MOST_RECORDS}
 use Rattle.stream_model.specs.InputData.{all_records}
 use Rattle.stream_model.specs.Late.{first_late}
 use Rattle.stream_input.proofs.Sound.{sources_sound, partitions_few, sources_few}
@@ -26,11 +27,11 @@ returns-in-Some c = λ text of.
 pub returns-then-not-is_few : goal.returns-then-not-is_few
 returns-then-not-is_few c = λ text of.
     let none : first_late c.args.plan.now.window.time c.args.sources ≡ None = rw (c.window.ensures.says, c.as_slice.ensures) at (sym c.in_default.ensures) in
-    let many : nat_le (length (all_records c.args.sources)) (2 ^ 40) ≡ false = rw c.as_slice-2.ensures at (sym c.if-not-is_few.ensures) in
+    let many : nat_le (length (all_records c.args.sources)) MOST_RECORDS ≡ false = rw c.as_slice-2.ensures at (sym c.if-not-is_few.ensures) in
     many_said c.args.plan.now c.args.sources text of none many
 
 pub returns : goal.returns
 returns c = λ text of.
     let none : first_late c.args.plan.now.window.time c.args.sources ≡ None = rw (c.window.ensures.says, c.as_slice.ensures) at (sym c.in_default.ensures) in
-    let few : nat_le (length (all_records c.args.sources)) (2 ^ 40) ≡ true = rw c.as_slice-2.ensures at (sym c.if-not-is_few.ensures) in
+    let few : nat_le (length (all_records c.args.sources)) MOST_RECORDS ≡ true = rw c.as_slice-2.ensures at (sym c.if-not-is_few.ensures) in
     none_said c.args.plan.now c.args.sources text of none few

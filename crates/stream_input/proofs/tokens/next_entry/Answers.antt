@@ -6,7 +6,8 @@ use Rattle.json_tokens.proofs.Facts.{one_member}
 use Rattle.stream_model.specs.declared.entry.Entry.TheVariants.{Rows, Watermark}
 use Rattle.input_texts.specs.declared.text.EntryText.TheVariants.{Rows as rows}
 use Rattle.input_texts.specs.Said.{record_of}
-use Rattle.input_texts.specs.Requirements.{is_wide, is_whole, is_time}
+use Rattle.plan_model.specs.Windows.{is_time}
+use Rattle.input_texts.specs.Requirements.{is_wide, is_whole}
 use Rattle.stream_input.specs.Fit.{if_fit, fit_entry}
 use Rattle.stream_input.proofs.FitEntries.{rows_fit, watermark_fit}
 use Rattle.stream_input.proofs.tokens.next_entry.Goals as goal

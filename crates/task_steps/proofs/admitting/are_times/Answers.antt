@@ -1,12 +1,13 @@
-use Rattle.std.proofs.Common.{[], subst, sym}
+use Rattle.std.proofs.Common.{[], subst, sym, ◌∙◌}
+use Rattle.std.proofs.lemmas.List.Sums.{AllPass-from_list_all, list_all-from_AllPass}
 use Rattle.std.specs.List.{All}
 use Rattle.plain_data.specs.Record.{at}
-use Rattle.plan_model.specs.Windows.{IsTime}
+use Rattle.plan_model.specs.Windows.{IsTime, is_time}
 use Rattle.task_steps.proofs.Lists.{All-of_map, All-to_map}
 use Rattle.task_steps.proofs.admitting.are_times.Goals as goal
 
 pub returns : goal.returns
 returns c = (
-  λ yes. All-of_map (at c.args.time) IsTime c.args.batch.now.rows (subst (All IsTime) c.column.ensures (c.are_times_in.ensures.0 yes)),
-  λ all. c.are_times_in.ensures.1 (subst (All IsTime) (sym c.column.ensures) (All-to_map (at c.args.time) IsTime [] c.args.batch.now.rows all)),
+  λ yes. All-of_map (at c.args.time) IsTime c.args.batch.now.rows (subst (All IsTime) c.column.ensures (AllPass-from_list_all is_time _ (sym c.are_times.ensures ∙ yes))),
+  λ all. c.are_times.ensures ∙ list_all-from_AllPass is_time _ (subst (All IsTime) (sym c.column.ensures) (All-to_map (at c.args.time) IsTime [] c.args.batch.now.rows all)),
 )

@@ -3,7 +3,7 @@ use Rattle.std.specs.List.{AllZip}
 use Rattle.std.proofs.lemmas.Grind.{common_steps}
 use Rattle.std.proofs.lemmas.Slice.Zip.{AllZip-long}
 use Rattle.savepoint_codec.specs.declared.savepoint.SavedPartition.{SavedPartition}
-use Rattle.leg_lists.proofs.Facts.{all_zip, at_each}
+use Rattle.legs.proofs.Facts.{all_zip, at_each}
 use Rattle.redistribute.proofs.Reached.{mapped, unmapped}
 use Rattle.redistribute.proofs.start.Start.is_before.Goals as goal
 

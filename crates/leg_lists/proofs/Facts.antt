@@ -1,2 +1,0 @@
--- PUBLIC: the lemmas that crates above cite. Nothing else of proofs/ is theirs to import.
-pub use Rattle.leg_lists.proofs.Zipped.{all_zip, at_each}

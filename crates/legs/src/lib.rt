@@ -1,0 +1,18 @@
+//! How far a leg of a job goes, to the end of its input or to a cut of it, and in which order its steps are made.
+#![tactic(auto)]
+
+mod choice;
+mod cut;
+mod fault;
+mod leg;
+mod limits;
+mod requirements;
+mod stop;
+
+pub use choice::{Choice, are_choices};
+pub use cut::Cut;
+pub use fault::LegFault;
+pub use leg::LegSpec;
+pub use limits::MOST_LEGS;
+pub use requirements::are_legs;
+pub use stop::Stop;

@@ -1,0 +1,6 @@
+mod Ascending
+mod RecordExact
+mod Members
+mod Named
+mod InOrder
+mod EqualRecords

@@ -1,0 +1,3 @@
+pub mod PlanRecord
+pub mod Alike
+pub mod Laws
