@@ -1,4 +1,6 @@
+pub mod Facts
 mod LegAnswers
 mod LegEnds
 mod RunAnswers
 mod TextAnswers
+mod Written

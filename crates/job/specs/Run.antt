@@ -80,3 +80,13 @@ WritesRows old new job = (text : List ℕ) × IsRunText job text × Appends old 
 
 abbrev pub Answers : (JobFault → Type 0) → Result RunJob JobFault → Result (Unit {0}) JobFault → Option (List ℕ) → Option (List ℕ) → Type 0
 Answers Other said result old new = Does Other CanRunSo (λ job _. WritesRows old new job) said result
+
+-- bytes are a plan and an input of it, and what a writer held has grown by exactly the lines of the plan's rows on the input, one for each key and nonempty window that its conditions keep, in the order of start and key
+pub record WritesPlanRows (plan input : List ℕ) (old new : Option (List ℕ)) : Type 0 where
+  pub read_plan : PlanData
+  pub read_input : InputData
+  pub plan_is : plan_of_bytes plan ≡ Ok read_plan
+  pub input_is : input_of_bytes read_plan input ≡ Ok read_input
+  pub text : List ℕ
+  pub lines : IsTextOf (plan_rows read_plan read_input.sources) text
+  pub grown : Appends old new text

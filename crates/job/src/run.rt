@@ -1,12 +1,12 @@
 //! A job from bytes to bytes.
 
-ghost use Rattle.std.specs.Prelude.{◌≡◌, Ok, Some, None, option_map, string_bytes, true};
+ghost use Rattle.std.specs.Prelude.{◌≡◌, Ok, OnOk, Some, None, option_map, string_bytes, true};
 ghost use Rattle.std.specs.List.{All};
 ghost use Rattle.layout_rules.specs.Scale.{IsScale};
 ghost use Rattle.legs.specs.Requirements.{are_legs};
 ghost use Rattle.stream_model.specs.InputData.{BelongsTo};
 ghost use Rattle.job.specs.Ends.{OnThreads};
-ghost use Rattle.job.specs.Run.{Answers, EndsRun, legs_in, run_by, run_job, run_said, run_with};
+ghost use Rattle.job.specs.Run.{Answers, EndsRun, WritesPlanRows, legs_in, run_by, run_job, run_said, run_with};
 ghost use Rattle.job_texts.specs.Tells.{KeepsWriter};
 
 use crate::reading::read_input;
@@ -152,6 +152,7 @@ pub fn job_run<R: Threads + Wait + Clock + Sync, G: Gate, W: Write>(
     out: &mut W,
 ) -> Result<(), JobFault>
     ensures answers { Answers OnThreads (run_said plan.now input.items (option_map (λ bytes. bytes.now) legs.entry) None) result (W.contents out.old) (W.contents out.new) }
+    ensures whole { legs.entry ≡ None → OnOk result (WritesPlanRows plan.now input.items (W.contents out.old) (W.contents out.new)) }
     ensures kept { KeepsWriter result (W.contents out.old) (W.contents out.new) }
 {
     let text = run_of_texts(rt, alloc, keys, plan, input, legs, gate)?;

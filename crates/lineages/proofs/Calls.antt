@@ -43,6 +43,7 @@ use Rattle.job_legs.specs.Laws.{NothingDueAtFirst, RowsAddUp}
 use Rattle.job_legs.proofs.Facts.{before_end, come_to}
 use Rattle.job.specs.Ends.{and_then, as_job}
 use Rattle.job.specs.Leg.{CanStopSo, IsLegText, IsSavedBy, LegJob, job_with, leg_by, leg_job, leg_on, leg_said, start_said, stop_said}
+use Rattle.job.proofs.Facts.{job_ok, ok_is, then_ok}
 use Rattle.lineages.specs.Lineage.{ComesFrom}
 use Rattle.lineages.specs.Calls.{AreExactCalls, AreGivenAt, AreRead, Calls, CallsAreAnswered, CallsAreExact, IsAnswered, LegCall, SaidComesFrom, written}
 use Rattle.lineages.specs.Calls.Calls.{first, next}
@@ -50,17 +51,6 @@ use Rattle.lineages.proofs.Exact.{bytes_restart}
 use Rattle.lineages.proofs.SavepointExact.{savepoint_exact}
 
 -- ---- what was said
-
-ok_is : {X F : Type 0} (x y : X) → ◌≡◌ {A = Result X F} (Ok x) (Ok y) → x ≡ y
-ok_is x y e = cc
-
-then_ok : {X Y : Type 0} (more : X → Result Y JobFault) (said : Result X JobFault) (y : Y) → and_then more said ≡ Ok y → (x : X) × (said ≡ Ok x) × (more x ≡ Ok y)
-then_ok more (Ok x) y e = (x, refl, e)
-then_ok more (Err fault) y e = absurd cc
-
-job_ok : {X F : Type 0} (fault_of : F → JobFault) (said : Result X F) (x : X) → as_job fault_of said ≡ Ok x → said ≡ Ok x
-job_ok fault_of (Ok y) x e = let same : y ≡ x = cc in ap Ok same
-job_ok fault_of (Err fault) x e = absurd cc
 
 field_ok : {X : Type 0} (said : Result X FieldFault) (x : X) → fault_said said ≡ Ok x → said ≡ Ok x
 field_ok (Ok y) x e = let same : y ≡ x = cc in ap Ok same
