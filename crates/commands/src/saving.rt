@@ -48,7 +48,7 @@ pub fn save<R: Files + Print + RandomSource + AllocGlobal>(
     ensures { IfErr result (λ fault. (fault ≡ JobFault.Write) ⊎ (fault ≡ JobFault.Memory)) }
 {
     match write_whole(rt, path, bytes) {
-        Ok(()) => Ok(()),
+        Ok(_) => Ok(()),
         Err(error) => Err(write_fault(&error)),
     }
 }

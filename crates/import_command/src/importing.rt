@@ -85,9 +85,9 @@ fn import_by<R: Files + Print + RandomSource + AllocGlobal>(
     let late = late_file(rt, words.late)?;
     let answer = write_all(rt, rule, words, &new, late.as_ref(), table);
     if answer.is_err() {
-        new.remove(rt);
+        let _ = new.remove(rt);
         if let Some(late) = &late {
-            late.remove(rt);
+            let _ = late.remove(rt);
         }
     }
     answer

@@ -90,7 +90,7 @@ impl<'w> NameFile<'w> {
 
     /// Lets other imports use it.
     pub(crate) fn release<R: Files>(&self, rt: &R) {
-        self.lock.release(rt);
+        let _ = self.lock.release(rt);
     }
 
     /// What it holds: nothing where there is no file.
@@ -148,7 +148,8 @@ impl<'w> NameFile<'w> {
         match text_of_names(rt.alloc(), names) {
             Ok(text) => {
                 self.check_unchanged(rt, bytes)?;
-                written(rt, self.path, write_whole(rt, self.path, &text))
+                written(rt, self.path, write_whole(rt, self.path, &text))?;
+                Ok(())
             }
             Err(_) => Err(ImportFault::Memory),
         }

@@ -1,6 +1,9 @@
 //! Where what is written to a path goes. For each call of the system a path is copied onto the stack, so functions that make one
 //! have frames of their own.
 
+ghost use Rattle.std.specs.Prelude.{◌≡◌, IfErr};
+ghost use Rattle.std.specs.IoError.{error_kind};
+
 use std::io::ErrorKind;
 use std::rt::Files;
 use std::{fs, io};
@@ -35,7 +38,9 @@ pub(crate) fn folder_and_name(path: &str) -> (&str, &str) {
 }
 
 /// What comes of asking for another path, where only want of memory is told.
-fn found<T>(answer: io::Result<T>) -> io::Result<Option<T>> {
+fn found<T>(answer: io::Result<T>) -> io::Result<Option<T>>
+    ensures { IfErr result (λ error. error_kind error ≡ ErrorKind.OutOfMemory) }
+{
     match answer {
         Ok(value) => Ok(Some(value)),
         Err(error) if error.kind() == ErrorKind::OutOfMemory => Err(error),
@@ -45,23 +50,24 @@ fn found<T>(answer: io::Result<T>) -> io::Result<Option<T>> {
 
 /// The path of what a path leads to over symbolic links, if something is there.
 #[inline(never)]
-fn canonical<R: Files + AllocGlobal>(rt: &R, path: &str) -> io::Result<Option<String>> {
+fn canonical<R: Files + AllocGlobal>(rt: &R, path: &str) -> io::Result<Option<String>>
+    ensures { IfErr result (λ error. error_kind error ≡ ErrorKind.OutOfMemory) }
+{
     match found(fs::canonicalize(rt, path))? {
         Some(path) => Ok(Some(path.into_string())),
         None => Ok(None),
     }
 }
 
-/// Whether a path's folder is that of what this program has open.
-fn is_own(own: Option<String>, folder: &str) -> bool {
-    match own {
-        Some(own) => own.as_str() == folder,
-        None => false,
-    }
+/// Whether what was found is at this path.
+fn is_at(found: Option<String>, path: &str) -> bool {
+    found.is_some_and(|found| found.as_str() == path)
 }
 
 /// The place of a path in a folder of what programs have open: no name there is that of a file.
-fn open_place<R: Files + AllocGlobal>(rt: &R, path: &str) -> io::Result<Option<Place>> {
+fn open_place<R: Files + AllocGlobal>(rt: &R, path: &str) -> io::Result<Option<Place>>
+    ensures { IfErr result (λ error. error_kind error ≡ ErrorKind.OutOfMemory) }
+{
     let (folder, name) = folder_and_name(path);
     let Some(folder) = canonical(rt, folder)? else {
         return Ok(None);
@@ -69,7 +75,7 @@ fn open_place<R: Files + AllocGlobal>(rt: &R, path: &str) -> io::Result<Option<P
     if !folder.as_str().starts_with("/proc/") {
         return Ok(None);
     }
-    if name == "1" && is_own(canonical(rt, OPEN_FILES)?, folder.as_str()) {
+    if name == "1" && is_at(canonical(rt, OPEN_FILES)?, folder.as_str()) {
         return Ok(Some(Place::Standard));
     }
     Ok(Some(Place::Standing(String::from_str(rt.alloc(), path)?)))
@@ -77,7 +83,9 @@ fn open_place<R: Files + AllocGlobal>(rt: &R, path: &str) -> io::Result<Option<P
 
 /// The path that the symbolic link at a path leads to, if one is there.
 #[inline(never)]
-fn next_path<R: Files + AllocGlobal>(rt: &R, path: &str) -> io::Result<Option<String>> {
+fn next_path<R: Files + AllocGlobal>(rt: &R, path: &str) -> io::Result<Option<String>>
+    ensures { IfErr result (λ error. error_kind error ≡ ErrorKind.OutOfMemory) }
+{
     let Some(target) = found(fs::read_link(rt, path))? else {
         return Ok(None);
     };
@@ -90,7 +98,9 @@ fn next_path<R: Files + AllocGlobal>(rt: &R, path: &str) -> io::Result<Option<St
 }
 
 /// The place to which symbolic links lead from a path, if it is one without a file's name.
-fn place_by_links<R: Files + AllocGlobal>(rt: &R, path: &str) -> io::Result<Option<Place>> {
+fn place_by_links<R: Files + AllocGlobal>(rt: &R, path: &str) -> io::Result<Option<Place>>
+    ensures { IfErr result (λ error. error_kind error ≡ ErrorKind.OutOfMemory) }
+{
     let mut at = String::from_str(rt.alloc(), path)?;
     for _ in 0..MOST_LINKS {
         if let Some(place) = open_place(rt, at.as_str())? {
@@ -111,7 +121,9 @@ fn is_no_file<R: Files>(rt: &R, path: &str) -> bool {
 }
 
 /// Where what is written to a path goes.
-pub(crate) fn place_of<R: Files + AllocGlobal>(rt: &R, path: &str) -> io::Result<Place> {
+pub(crate) fn place_of<R: Files + AllocGlobal>(rt: &R, path: &str) -> io::Result<Place>
+    ensures { IfErr result (λ error. error_kind error ≡ ErrorKind.OutOfMemory) }
+{
     if let Some(place) = place_by_links(rt, path)? {
         return Ok(place);
     }
@@ -130,12 +142,11 @@ pub(crate) fn place_of<R: Files + AllocGlobal>(rt: &R, path: &str) -> io::Result
 /// # Errors
 ///
 /// Only where there is no memory.
-pub fn is_standard_output<R: Files + AllocGlobal>(rt: &R, path: &str) -> io::Result<bool> {
+pub fn is_standard_output<R: Files + AllocGlobal>(rt: &R, path: &str) -> io::Result<bool>
+    ensures { IfErr result (λ error. error_kind error ≡ ErrorKind.OutOfMemory) }
+{
     let Place::Named(path) = place_of(rt, path)? else {
         return Ok(false);
     };
-    match canonical(rt, STANDARD)? {
-        Some(standard) => Ok(standard.as_str() == path.as_str()),
-        None => Ok(false),
-    }
+    Ok(is_at(canonical(rt, STANDARD)?, path.as_str()))
 }
