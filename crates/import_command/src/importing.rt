@@ -1,5 +1,8 @@
 //! From the words of an import to the input.
 
+ghost use Rattle.std.specs.Prelude.{◌≡◌, true, OnOk};
+ghost use Rattle.import_command.specs.Apart.{are_apart};
+
 use crate::apart::check_apart;
 use crate::keeping::{keep_late, late_file, late_rows, named, written};
 use crate::names::{NameFile, no_names};
@@ -18,7 +21,9 @@ fn rule_of<'i, R: AllocGlobal>(
     plan: &'i Plan,
     words: &'i ImportWords<'i>,
     columns: &'i [Column<'i>],
-) -> Result<ImportRule<'i>, ImportFault> {
+) -> Result<ImportRule<'i>, ImportFault>
+    ensures { OnOk result (are_apart words.now ≡ true) }
+{
     check_columns(rt.alloc(), columns, plan.columns(), words.names.is_some())?;
     let entries = entry_rule(rt.alloc(), words)?;
     check_sources(rt.alloc(), words.sources, plan.sources())?;
@@ -119,8 +124,11 @@ pub fn import<R: Files + Print + RandomSource + AllocGlobal>(
     rt: &R,
     plan: &Plan,
     words: &ImportWords<'_>,
-) -> Result<(), ImportFault> {
+) -> Result<(), ImportFault>
+    ensures { OnOk result (are_apart words.now ≡ true) }
+{
     let columns = read_columns(rt.alloc(), words.columns)?;
     let rule = rule_of(rt, plan, words, &columns)?;
-    import_alone(rt, rule, words)
+    import_alone(rt, rule, words)?;
+    Ok(())
 }
