@@ -6,6 +6,7 @@ ghost use Rattle.commands.specs.Answers as answers;
 ghost use Rattle.commands.specs.Answers.{AnswersRun, AnswersSimulate, AnswersLeg, ComesOfLeg, AnswersLayout, AnswersShow, AnswersGroup, AnswersExplain};
 
 use crate::files::{file, optional_file};
+use crate::installed::commit;
 use crate::saving::{check_apart, save};
 use job::{
     HashKeys, JobFault, OpenGate, job_group, job_layout, job_leg, job_run, job_run_parallel,
@@ -287,13 +288,16 @@ pub fn explain<R: Print + AllocGlobal>(rt: &R, code: &str) -> Result<(), TextFau
     user_texts::explain(code, &mut writer(rt))
 }
 
-/// Prints the version of the program and its toolchain.
+/// Prints the version of the program and its toolchain, and the commit that it is of, where it is installed.
 ///
 /// # Errors
 ///
 /// `Write` where standard output takes no more.
-pub fn version<R: Print + AllocGlobal>(rt: &R) -> Result<(), TextFault>
+pub fn version<R: Files + Print + AllocGlobal>(rt: &R) -> Result<(), TextFault>
     ensures { IfErr result (λ fault. fault ≡ TextFault.Write) }
 {
-    write_version(&mut writer(rt))
+    match commit(rt) {
+        Some(commit) => write_version(&mut writer(rt), Some(commit.as_str().trim_end())),
+        None => write_version(&mut writer(rt), None),
+    }
 }

@@ -7,6 +7,7 @@ mod command;
 mod fault;
 mod files;
 mod importing;
+mod installed;
 mod performing;
 mod saving;
 

@@ -8,5 +8,5 @@ mod version;
 mod writing;
 
 pub use page::{FaultPage, explain};
-pub use version::{VERSION, write_version};
+pub use version::{LONGEST_COMMIT, VERSION, write_version};
 pub use writing::TextFault;
