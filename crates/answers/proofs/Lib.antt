@@ -1,1 +1,2 @@
+mod Firsts
 pub mod Facts
