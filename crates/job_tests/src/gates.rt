@@ -1,7 +1,7 @@
 //! Gates that the tasks of a job pass.
 
-use crate::jobs::{INPUT, PLAN, ROWS, SCALE};
-use job::{Gate, HashKeys, job_leg, job_run};
+use crate::jobs::{ROWS, SCALE, rows_of_leg, rows_of_run};
+use job::Gate;
 use std::sync::atomic::{AtomicU64, Ordering};
 use std::test::Fail;
 
@@ -44,48 +44,19 @@ impl Counting {
 
 #[test]
 fn each_task_of_a_run_passes_the_gate(rt: HostRuntime) -> Result<(), Fail> {
-    let alloc = rt.alloc();
     let gate = Counting::new();
-    let keys = HashKeys::random(&rt)?;
-    let input = Vec::from_slice(alloc, INPUT.as_bytes())?;
-    let mut out = Vec::new(alloc);
-    let said = job_run(
-        &rt,
-        alloc,
-        keys,
-        PLAN.as_bytes(),
-        input,
-        None,
-        &gate,
-        &mut out,
-    );
-    assert_eq!(rt; said, Ok(()));
-    assert_eq!(rt; out.as_slice(), ROWS.as_bytes());
+    let rows = rows_of_run(&rt, None, &gate)?;
+    assert_eq!(rt; rows.as_slice(), ROWS.as_bytes());
     assert!(rt; gate.were_passed());
     Ok(())
 }
 
 #[test]
 fn each_task_of_a_leg_passes_the_gate(rt: HostRuntime) -> Result<(), Fail> {
-    let alloc = rt.alloc();
     let gate = Counting::new();
-    let keys = HashKeys::random(&rt)?;
-    let input = Vec::from_slice(alloc, INPUT.as_bytes())?;
-    let mut out = Vec::new(alloc);
-    let said = job_leg(
-        &rt,
-        alloc,
-        keys,
-        PLAN.as_bytes(),
-        input,
-        SCALE.as_bytes(),
-        None,
-        None,
-        &gate,
-        &mut out,
-    );
-    assert_eq!(rt; said, Ok(None));
-    assert_eq!(rt; out.as_slice(), ROWS.as_bytes());
+    let (rows, saved) = rows_of_leg(&rt, SCALE, None, &gate)?;
+    assert_eq!(rt; rows.as_slice(), ROWS.as_bytes());
+    assert_eq!(rt; saved, None);
     assert!(rt; gate.were_passed());
     Ok(())
 }

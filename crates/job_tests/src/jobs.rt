@@ -1,5 +1,12 @@
 //! A job that the tests run.
 
+use job::{Gate, HashKeys, job_leg, job_run};
+use std::random::RandomSource;
+use std::sync::Wait;
+use std::test::Fail;
+use std::thread::Threads;
+use std::time::Clock;
+
 pub const PLAN: &str =
     r#"{"columns":3,"maxParallelism":128,"time":0,"key":1,"sources":[{"uid":"s","partitions":2}],"window":{"uid":"w","size":10,"aggregates":[{"fn":"count"},{"fn":"sum","column":2},{"fn":"least","column":2},{"fn":"greatest","column":2}]}}"#;
 
@@ -21,3 +28,52 @@ pub const LEG_OF_TWO: &str =
     r#"[{"scale":{"ring":4,"operators":{"s":{"parallelism":2},"w":{"parallelism":3}}}}]"#;
 
 pub const ROWS: &str = "0 10 0 1 4 4 4\n0 10 1 1 5 5 5\n10 20 0 1 -3 -3 -3\n10 20 1 2 9 2 7\n";
+
+/// What the job writes, in the legs of a list where there is one.
+pub fn rows_of_run<G: Gate>(
+    rt: &(impl AllocGlobal + RandomSource + Threads + Wait + Clock + Sync),
+    legs: Option<&[u8]>,
+    gate: &G,
+) -> Result<Vec<u8>, Fail> {
+    let alloc = rt.alloc();
+    let keys = HashKeys::random(rt)?;
+    let input = Vec::from_slice(alloc, INPUT.as_bytes())?;
+    let mut out = Vec::new(alloc);
+    job_run(
+        rt,
+        alloc,
+        keys,
+        PLAN.as_bytes(),
+        input,
+        legs,
+        gate,
+        &mut out,
+    )?;
+    Ok(out)
+}
+
+/// What the first leg of the job writes at a scale, and the savepoint that it leaves where it is to stop.
+pub fn rows_of_leg<G: Gate>(
+    rt: &(impl AllocGlobal + RandomSource + Threads + Wait + Clock + Sync),
+    scale: &str,
+    stop: Option<&str>,
+    gate: &G,
+) -> Result<(Vec<u8>, Option<Vec<u8>>), Fail> {
+    let alloc = rt.alloc();
+    let keys = HashKeys::random(rt)?;
+    let input = Vec::from_slice(alloc, INPUT.as_bytes())?;
+    let mut out = Vec::new(alloc);
+    let saved = job_leg(
+        rt,
+        alloc,
+        keys,
+        PLAN.as_bytes(),
+        input,
+        scale.as_bytes(),
+        None,
+        stop,
+        gate,
+        &mut out,
+    )?;
+    Ok((out, saved))
+}

@@ -1,7 +1,7 @@
 //! That the tasks of a job run side by side: two sources, of which each waits for the other before its first read.
 
-use crate::jobs::{INPUT, LEG_OF_TWO, PLAN, ROWS, SCALE_OF_TWO};
-use job::{Gate, HashKeys, job_leg, job_run};
+use crate::jobs::{INPUT, LEG_OF_TWO, PLAN, ROWS, SCALE_OF_TWO, rows_of_leg, rows_of_run};
+use job::{Gate, HashKeys};
 use job_legs::run_legs;
 use leg_lists::read_legs;
 use logical_plan::ReadPlan;
@@ -76,49 +76,19 @@ impl<R: Clock + Sync> Gate for Meeting<'_, R> {
 
 #[test]
 fn sources_of_a_run_meet(rt: HostRuntime) -> Result<(), Fail> {
-    let alloc = rt.alloc();
     let gate = Meeting::new(&rt, LIMIT);
-    let keys = HashKeys::random(&rt)?;
-    let input = Vec::from_slice(alloc, INPUT.as_bytes())?;
-    let mut out = Vec::new(alloc);
-    let legs = Some(LEG_OF_TWO.as_bytes());
-    let said = job_run(
-        &rt,
-        alloc,
-        keys,
-        PLAN.as_bytes(),
-        input,
-        legs,
-        &gate,
-        &mut out,
-    );
-    assert_eq!(rt; said, Ok(()));
-    assert_eq!(rt; out.as_slice(), ROWS.as_bytes());
+    let rows = rows_of_run(&rt, Some(LEG_OF_TWO.as_bytes()), &gate)?;
+    assert_eq!(rt; rows.as_slice(), ROWS.as_bytes());
     assert!(rt; gate.took_place() && !gate.gave_up());
     Ok(())
 }
 
 #[test]
 fn sources_of_a_leg_meet(rt: HostRuntime) -> Result<(), Fail> {
-    let alloc = rt.alloc();
     let gate = Meeting::new(&rt, LIMIT);
-    let keys = HashKeys::random(&rt)?;
-    let input = Vec::from_slice(alloc, INPUT.as_bytes())?;
-    let mut out = Vec::new(alloc);
-    let said = job_leg(
-        &rt,
-        alloc,
-        keys,
-        PLAN.as_bytes(),
-        input,
-        SCALE_OF_TWO.as_bytes(),
-        None,
-        None,
-        &gate,
-        &mut out,
-    );
-    assert_eq!(rt; said, Ok(None));
-    assert_eq!(rt; out.as_slice(), ROWS.as_bytes());
+    let (rows, saved) = rows_of_leg(&rt, SCALE_OF_TWO, None, &gate)?;
+    assert_eq!(rt; rows.as_slice(), ROWS.as_bytes());
+    assert_eq!(rt; saved, None);
     assert!(rt; gate.took_place() && !gate.gave_up());
     Ok(())
 }

@@ -5,9 +5,9 @@ ghost use Rattle.redistribute.specs.Begins.{IsStartIn};
 ghost use Rattle.stream_model.specs.InputData.{BelongsTo};
 ghost use Rattle.task_setups.specs.Legs.{IsLayoutOf};
 
-use crate::jobs::{INPUT, OTHER_PLAN, PLAN, SCALE};
+use crate::jobs::{INPUT, OTHER_PLAN, PLAN, SCALE, rows_of_leg};
 use core_steps::{Finish, Given, World};
-use job::{HashKeys, OpenGate, job_leg};
+use job::{HashKeys, OpenGate};
 use job_texts::JobFault;
 use layout_rules::Scale;
 use leg_runs::follow;
@@ -176,23 +176,8 @@ fn check_other(rt: &(impl AllocGlobal + Abort), bytes: &[u8]) -> Result<(), Fail
 
 #[test]
 fn a_start_comes_from_the_bytes_of_a_leg(rt: HostRuntime) -> Result<(), Fail> {
-    let alloc = rt.alloc();
-    let keys = HashKeys::random(&rt)?;
-    let input = Vec::from_slice(alloc, INPUT.as_bytes())?;
-    let mut out = Vec::new(alloc);
-    let said = job_leg(
-        &rt,
-        alloc,
-        keys,
-        PLAN.as_bytes(),
-        input,
-        SCALE.as_bytes(),
-        None,
-        Some("2,2"),
-        &OpenGate,
-        &mut out,
-    );
-    let Ok(Some(bytes)) = said else {
+    let (_, saved) = rows_of_leg(&rt, SCALE, Some("2,2"), &OpenGate)?;
+    let Some(bytes) = saved else {
         assert!(rt; false, "the leg leaves no savepoint");
         return Ok(());
     };
