@@ -1,7 +1,6 @@
 mod Filled
 mod Windows
 mod Ranges
-mod InOrder
 mod Owned
 mod Spelled
 mod RecordLength

@@ -18,7 +18,7 @@ use Rattle.plan_model.specs.Uids.{is_uid, is_uid_byte, is_nat_within, uid_field}
 use Rattle.plan_model.specs.declared.limits.TheConstants.{LONGEST_UID}
 use Rattle.plan_record.specs.declared.record.Condition.{Condition}
 use Rattle.plan_record.specs.PlanRecord.{ascending, filter_condition, having_condition, condition_cmp, condition_field, aggregate_code, aggregate_field, head_of, head_field, span_of, span_field, record_field, plan_record}
-use Rattle.gather.proofs.InOrder.{length-ascending}
+use Rattle.plan_record.proofs.Facts.{length-ascending}
 
 byte_long : (n : ℕ) → length (u8_field.spell n) ≡ 1
 unfolding u8_field

@@ -37,7 +37,7 @@ use Rattle.gather.specs.Parts.{panes_in, panes_in_group, windows_in, source_in, 
 use Rattle.gather.specs.Buckets.{entry_of, IsTyped}
 use Rattle.gather.specs.Sources.{AreTyped}
 use Rattle.gather.proofs.Filled.{All-first, All-second}
-use Rattle.gather.proofs.InOrder.{length-ascending}
+use Rattle.plan_record.proofs.Facts.{length-ascending}
 use Rattle.gather.proofs.Owned.{all_kinds, all_counted}
 use Rattle.gather.proofs.RecordLength.{record_short}
 use Rattle.gather.proofs.Spelled.{IsEntryOk, counted_entry, group_links, groups_fit, kinds_fit, same_eqb, sources_fit, source_uids_are, all_named}

@@ -1,20 +1,18 @@
 -- Keys that are put in order one after the other.
-use Rattle.std.proofs.Common.{◌≡◌, ℕ, ◌+◌, ◌<◌, ◌≤◌, Bool, true, false, cond, ◌&&◌, List, [], ◌∷◌, ◌++◌, map, length, take, get_or, refl, ap, sym, ◌∙◌, arith}
+use Rattle.std.proofs.Common.{◌≡◌, ℕ, ◌+◌, ◌<◌, ◌≤◌, Bool, true, false, cond, List, [], ◌∷◌, map, length, take, get_or, refl, ap, sym, ◌∙◌, arith}
 use Rattle.std.specs.List.{fold, list_all}
 use Rattle.std.specs.declared.cmp.Ordering.{Ordering}
 use Rattle.std.specs.declared.cmp.Ordering.TheVariants.{Less, Equal, Greater}
 use Rattle.std.specs.Ordering.{match_ordering}
 use Rattle.std.specs.BTreeSet.{insert_key}
+use Rattle.std.proofs.lemmas.List.{map_more}
+use Rattle.std.proofs.lemmas.List.Sums.{fold_push}
+use Rattle.byte_fields.proofs.Exact.{both, and_true}
 use Rattle.plan_record.specs.PlanRecord.{ascending}
-use Rattle.plan_model.proofs.Facts.{front_more}
-
-fold_last : {A B : Type 0} (f : B → A → B) (b : B) (xs : List A) (x : A) → fold f b (xs ++ x ∷ []) ≡ f (fold f b xs) x
-fold_last f b [] x = refl
-fold_last f b (y ∷ ys) x = fold_last f (f b y) ys x
 
 ascending_more : {A K : Type 0} (cmp : K → K → Ordering) (f : A → K) (xs : List A) (i : ℕ) (d : A) → i < length xs
     → ascending cmp (map f (take (i + 1) xs)) ≡ insert_key cmp (ascending cmp (map f (take i xs))) (f (get_or xs i d))
-ascending_more cmp f xs i d lt = ap (ascending cmp) (front_more f xs i d lt) ∙ fold_last (insert_key cmp) [] (map f (take i xs)) (f (get_or xs i d))
+ascending_more cmp f xs i d lt = ap (ascending cmp) (map_more f xs i d lt) ∙ fold_push (insert_key cmp) [] (map f (take i xs)) (f (get_or xs i d))
 
 -- the keys once that of one more element is in
 pub keys_more : {A K : Type 0} (cmp : K → K → Ordering) (f : A → K) (xs : List A) (i : ℕ) (d : A) (old new : List K) (key : K) → i < length xs → old ≡ ascending cmp (map f (take i xs)) → key ≡ f (get_or xs i d)
@@ -53,20 +51,13 @@ pub one_more : (added : Bool) (m n i : ℕ) → m ≡ n + cond added 1 0 → n �
 one_more true m n i e le = omega arith
 one_more false m n i e le = omega arith
 
-both_true : (a b : Bool) → a ≡ true → b ≡ true → (a && b) ≡ true
-both_true a b p q = rw (p, q) refl
-
-first_true : (a b : Bool) → (a && b) ≡ true → (a ≡ true) × (b ≡ true)
-first_true true b h = (refl, h)
-first_true false b h = absurd cc
-
 -- a key that passes a test, among keys that do
 pub all_insert_key : {K : Type 0} (cmp : K → K → Ordering) (test : K → Bool) (keys : List K) (key : K) → list_all test keys ≡ true → test key ≡ true → list_all test (insert_key cmp keys key) ≡ true
 all_insert_key cmp test [] key all one = rw one refl
 all_insert_key cmp test (x ∷ keys) key all one =
-    let parts = first_true (test x) (list_all test keys) all in
+    let parts = both (test x) (list_all test keys) all in
     elim (cmp key x) as (λ o. list_all test (match_ordering o (key ∷ x ∷ keys) (x ∷ keys) (x ∷ insert_key cmp keys key)) ≡ true) [
-      | Less ↦ both_true (test key) _ one all
+      | Less ↦ and_true (test key) _ one all
       | Equal ↦ all
-      | Greater ↦ both_true (test x) _ parts.0 (all_insert_key cmp test keys key parts.1 one)
+      | Greater ↦ and_true (test x) _ parts.0 (all_insert_key cmp test keys key parts.1 one)
     ]

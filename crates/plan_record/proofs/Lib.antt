@@ -4,3 +4,4 @@ mod Members
 mod Named
 mod InOrder
 mod EqualRecords
+pub mod Facts

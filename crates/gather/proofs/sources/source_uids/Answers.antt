@@ -2,7 +2,7 @@ use Rattle.std.proofs.Common.{ap, map, ◌∙◌}
 use Rattle.std.specs.Ordering.{nat_cmp}
 use Rattle.std.specs.Cmp.Lexicographic.{slice_cmp}
 use Rattle.plan_model.specs.Uids.{is_uid}
-use Rattle.gather.proofs.InOrder.{keys_more, map_insert_key, all_insert_key}
+use Rattle.plan_record.proofs.Facts.{keys_more, map_insert_key, all_insert_key}
 use Rattle.gather.proofs.sources.source_uids.Goals as goal
 
 pub loop-source-preserved : goal.loop-source-preserved
