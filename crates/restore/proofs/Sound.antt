@@ -8,14 +8,15 @@ use Rattle.byte_fields.specs.Fields.{u8_field, u16_field, u64_field, few_field, 
 use Rattle.byte_fields.specs.declared.fault.FieldFault.TheVariants.{Order}
 use Rattle.byte_fields.specs.Format.{where_it, before}
 use Rattle.byte_fields.proofs.Exact.{both, and_true, counted-fits}
-use Rattle.plan_model.specs.Uids.{is_nat_within, uid_field}
+use Rattle.plan_model.specs.Uids.{is_nat_within}
 use Rattle.aggregates.specs.declared.kind.Kind.{Kind}
 use Rattle.aggregates.specs.Kinds.{is_number, are_numbers}
 use Rattle.savepoint_codec.specs.declared.savepoint.SavedGroup.{SavedGroup}
 use Rattle.savepoint_codec.specs.declared.savepoint.Contents.{Contents}
 use Rattle.savepoint_codec.specs.EntriesData.{EntryData}
-use Rattle.savepoint_codec.specs.Fields.{number_field, max_field, sources_field, kind_field, kinds_field, is_pane_after, pane_field, count_field, number_of_kind, numbers_field, entry_field, entry_after, entries_field, group_number, group_field, group_after, groups_field}
-use Rattle.savepoint_codec.specs.Layout.{IsSavepoint, savepoint_format, fields, window_fields, record_field}
+use Rattle.savepoint_codec.specs.Fields.{kind_field, kinds_field, is_pane_after, pane_field, count_field, number_of_kind, numbers_field, entry_field, entry_after, entries_field, group_number, group_field, group_after, groups_field}
+use Rattle.savepoint_codec.specs.Layout.{IsSavepoint}
+use Rattle.savepoint_codec.proofs.Facts.{have_spellings}
 use Rattle.redistribute.specs.StartData.{AreEntries}
 use Rattle.restore.specs.Sound.{IsSoundEntry, IsSoundGroup}
 
@@ -54,17 +55,12 @@ group_sound max kinds few last g h =
     }
 
 pub groups_sound : (s : Contents) → IsSavepoint s → All (IsSoundGroup s.kinds) s.groups
-unfolding savepoint_format fields window_fields kinds_field groups_field
+unfolding kinds_field groups_field
 groups_sound s h =
-    let a = both (number_field.fits s.number) _ h in
-    let b = both (record_field.fits s.plan_record) _ a.1 in
-    let d = both (max_field.fits s.max) _ b.1 in
-    let e = both (sources_field.fits s.sources) _ d.1 in
-    let f = both (uid_field.fits s.window_uid) _ e.1 in
-    let g = both (kinds_field.fits s.kinds) ((groups_field s.max s.kinds).fits s.groups) f.1 in
-    let kinds = both ((few_field 8).fits (length s.kinds)) (list_all kind_field.fits s.kinds) g.0 in
+    let fits = have_spellings s h in
+    let kinds = both ((few_field 8).fits (length s.kinds)) (list_all kind_field.fits s.kinds) fits.kinds in
     let few = few_kinds (length s.kinds) kinds.0 in
-    (counted-fits u16_field (group_after s.max s.kinds) (IsSoundGroup s.kinds) (group_sound s.max s.kinds few) s.groups g.1).1
+    (counted-fits u16_field (group_after s.max s.kinds) (IsSoundGroup s.kinds) (group_sound s.max s.kinds few) s.groups fits.groups).1
 
 -- as a start has them
 pub are_entries : (kinds : List Kind) (groups : List SavedGroup) → All (IsSoundGroup kinds) groups → AreEntries kinds groups

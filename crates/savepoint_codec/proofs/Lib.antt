@@ -3,3 +3,4 @@ mod EntryFacts
 mod LayoutExact
 mod NumbersFacts
 mod Spelled
+pub mod Facts

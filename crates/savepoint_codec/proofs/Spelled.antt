@@ -1,5 +1,5 @@
 -- Counted lists are spelled as their count and their items.
-use Rattle.std.proofs.Common.{◌≡◌, ℕ, zero, suc, ◌+◌, ◌<◌, ℤ, true, List, [], ◌∷◌, ◌++◌, length, get_or, take, slice_get, Option, Some, None, Result, Ok, Err, refl, sym, ap, ◌∙◌, append_assoc, arith}
+use Rattle.std.proofs.Common.{◌≡◌, ℕ, suc, ◌+◌, ◌<◌, ℤ, true, List, [], ◌∷◌, ◌++◌, length, get_or, take, slice_get, Option, Some, None, Result, Ok, Err, refl, sym, ap, ◌∙◌, append_assoc}
 use Rattle.std.specs.Prelude.{OnOk, nat_lt, ◌==◌}
 use Rattle.std.specs.Option.{option_map}
 use Rattle.std.proofs.lemmas.Bool.{ltb-true}
@@ -101,20 +101,36 @@ group_long max kinds last g h =
     let rest = both (number.fits g.group) ((entries_field kinds).fits g.entries.entries) parts.1 in
     (counted-fits (where_it (nat_lt 0) Order u64_field) (entry_after kinds) (IsOfKinds kinds) (entry_long kinds) g.entries.entries rest.1).1
 
-pub short_contents : (s : Contents) → IsSavepoint s → IsShort s
-unfolding savepoint_format fields window_fields record_field sources_field kinds_field groups_field
-short_contents s h =
+-- each field of a savepoint has a spelling
+pub record HaveSpellings (s : Contents) : Type 0 where
+  pub number : number_field.fits s.number ≡ true
+  pub plan_record : record_field.fits s.plan_record ≡ true
+  pub max : max_field.fits s.max ≡ true
+  pub sources : sources_field.fits s.sources ≡ true
+  pub window_uid : uid_field.fits s.window_uid ≡ true
+  pub kinds : kinds_field.fits s.kinds ≡ true
+  pub groups : (groups_field s.max s.kinds).fits s.groups ≡ true
+
+pub have_spellings : (s : Contents) → IsSavepoint s → HaveSpellings s
+unfolding savepoint_format fields window_fields
+have_spellings s h =
     let a = both (number_field.fits s.number) _ h in
     let b = both (record_field.fits s.plan_record) _ a.1 in
     let d = both (max_field.fits s.max) _ b.1 in
     let e = both (sources_field.fits s.sources) _ d.1 in
     let f = both (uid_field.fits s.window_uid) _ e.1 in
     let g = both (kinds_field.fits s.kinds) ((groups_field s.max s.kinds).fits s.groups) f.1 in
-    let sources = counted-fits (few_field 8) source_after HasFewPartitions source_short s.sources e.0 in
-    let kinds = both ((few_field 8).fits (length s.kinds)) (list_all kind_field.fits s.kinds) g.0 in
-    let groups = counted-fits u16_field (group_after s.max s.kinds) (AreOfKinds s.kinds) (group_long s.max s.kinds) s.groups g.1 in
+    record { number = a.0; plan_record = b.0; max = d.0; sources = e.0; window_uid = f.0; kinds = g.0; groups = g.1 }
+
+pub short_contents : (s : Contents) → IsSavepoint s → IsShort s
+unfolding record_field sources_field kinds_field groups_field
+short_contents s h =
+    let fits = have_spellings s h in
+    let sources = counted-fits (few_field 8) source_after HasFewPartitions source_short s.sources fits.sources in
+    let kinds = both ((few_field 8).fits (length s.kinds)) (list_all kind_field.fits s.kinds) fits.kinds in
+    let groups = counted-fits u16_field (group_after s.max s.kinds) (AreOfKinds s.kinds) (group_long s.max s.kinds) s.groups fits.groups in
     record {
-      plan_record = is_short (length s.plan_record) (sized-fits u16_field s.plan_record b.0);
+      plan_record = is_short (length s.plan_record) (sized-fits u16_field s.plan_record fits.plan_record);
       few_sources = is_byte 8 (length s.sources) sources.0;
       sources = sources.1;
       kinds = is_byte 8 (length s.kinds) kinds.0;
