@@ -1,8 +1,8 @@
 -- Each key group stands in the panes of one task.
-use Rattle.std.proofs.Common.{leb, ◌≡◌, ℕ, zero, suc, ◌+◌, ◌-◌, ◌<◌, ◌≤◌, ◌⊎◌, Bool, true, false, cond, List, [], ◌∷◌, ◌++◌, length, map, get_or, refl, sym, ap, subst, ◌∙◌, inl, inr, arith}
+use Rattle.std.proofs.Common.{◌≡◌, ℕ, zero, suc, ◌+◌, ◌-◌, ◌<◌, ◌≤◌, ◌⊎◌, Bool, false, cond, List, [], ◌∷◌, ◌++◌, length, map, get_or, refl, sym, ap, subst, ◌∙◌, inl, inr, arith}
 use Rattle.std.specs.List.{All, filter, flat_map}
 use Rattle.std.specs.List.Sorted.{IsStrictlySortedBy}
-use Rattle.std.proofs.lemmas.Bool.{cases_Bool, cases_lt, le-leb, eqb-true}
+use Rattle.std.proofs.lemmas.Bool.{cases_Bool, cases_lt, eqb-true}
 use Rattle.std.proofs.lemmas.List.{map-append, append-nil, length-map}
 use Rattle.std.proofs.lemmas.List.Elements.{All-append, All-nil, filter-append}
 use Rattle.key_groups.specs.Groups.{key_group}
@@ -12,8 +12,6 @@ use Rattle.plan_model.specs.declared.spec.Pane.{Pane}
 use Rattle.plan_model.specs.PlanData.{PlanData, IsPlan}
 use Rattle.plan_model.specs.Rows.{pane_cmp}
 use Rattle.plan_model.specs.declared.limits.TheConstants.{MOST_RECORDS}
-use Rattle.plain_data.specs.Times.{lowest}
-use Rattle.dataflow_model.specs.declared.message.Message.TheVariants.{End}
 use Rattle.dataflow_model.specs.declared.role.Role.TheVariants as role
 use Rattle.dataflow_model.specs.Role.{is_window}
 use Rattle.dataflow_model.specs.AbstractLayout.{AbstractLayout, IsLayout}
@@ -23,7 +21,7 @@ use Rattle.layout_rules.specs.declared.stage.Stage.{Stage}
 use Rattle.layout_rules.specs.Rules.{window_of, stages_of}
 use Rattle.layout_rules.specs.Scale.{ScaleData, IsScale}
 use Rattle.layout_rules.specs.Stages.{parallelism_at, role_of, stage_at, stage_of, subtask_of, task_role, task_count, groups_of}
-use Rattle.layout_rules.specs.Layouts.{Entries, abstract_layout}
+use Rattle.layout_rules.specs.Layouts.{abstract_layout}
 use Rattle.layout_rules.proofs.Facts.{compiled_ever, compiled_is_layout, stages_are_bounded, row_is, row_at, is_subtask}
 use Rattle.plan_compiler.specs.LayoutData.{LayoutData, IsLayoutOf}
 use Rattle.aggregates.specs.declared.kind.Kind.{Kind}
@@ -31,15 +29,9 @@ use Rattle.aggregates.specs.Kinds.{kind_of}
 use Rattle.window_state.specs.declared.parts.Part.{Part}
 use Rattle.redistribute.specs.declared.task_start.TaskStart.{TaskStart}
 use Rattle.redistribute.specs.declared.task_start.TaskStart.TheVariants.{Source, Chain, Window, Sink}
+use Rattle.redistribute.proofs.Facts.{last_row, nothing}
 use Rattle.gather.specs.Saved.{is_in_group}
 use Rattle.gather.specs.Parts.{panes_in, part_at, panes_in_group, ArePanes, IsPartOf, AreParts}
-
-last_row : (f : ℕ → ℕ) (n t : ℕ) → sum_below f n ≤ t → row_of f (suc n) t ≡ n
-last_row f n t l = let e : leb (sum_below f n) t ≡ true = le-leb (sum_below f n) t l in rw e refl
-
--- an input without entries
-abbrev nothing : Entries
-nothing = record { entry = λ x k n. End; brings = λ x k n. lowest; watermark = λ x k n. lowest; size = λ x k. 0 }
 
 module _ (owners : OwnersHaveRanges) (p : PlanData) (c : ScaleData) (ip : IsPlan p) (sc : IsScale p c) where
   abbrev S : List Stage

@@ -1,5 +1,5 @@
 -- Starts at cuts of an input.
-use Rattle.std.proofs.Common.{◌≡◌, ℕ, ◌≤◌, ◌^◌, List, [], ◌∷◌, length, map, refl, sym, ap, subst, ◌∙◌, arith}
+use Rattle.std.proofs.Common.{◌≡◌, ℕ, suc, ◌≤◌, ◌^◌, List, [], ◌∷◌, length, map, refl, sym, ap, subst, ◌∙◌, arith}
 use Rattle.std.specs.Prelude.{Some, None}
 use Rattle.std.specs.List.{AllZip}
 use Rattle.std.specs.FinMap.{get-empty}
@@ -16,7 +16,7 @@ use Rattle.redistribute.specs.Snapshots.{saved_source, saved_sources, start_at}
 use Rattle.redistribute.specs.Begins.{IsStartIn, HasSnapshot}
 
 -- the start at a cut begins there
-offsets_in : (ps : List (List Entry)) (ns : List ℕ) → AllZip (λ p n. n ≤ length p) ps ns → map (λ p. p.offset) (saved_source ps ns) ≡ ns
+pub offsets_in : (ps : List (List Entry)) (ns : List ℕ) → AllZip (λ p n. n ≤ length p) ps ns → map (λ p. p.offset) (saved_source ps ns) ≡ ns
 offsets_in [] [] h = refl
 offsets_in [] (n ∷ ns) h = absurd h
 offsets_in (p ∷ ps) [] h = absurd h
@@ -27,6 +27,19 @@ offsets_at [] [] n h = refl
 offsets_at [] (c ∷ cs) n h = absurd h
 offsets_at (s ∷ ss) [] n h = absurd h
 offsets_at (s ∷ ss) (c ∷ cs) n h = λ j. offsets_in s c h.0 j ∷ offsets_at ss cs n h.1 j
+
+-- each source has all its partitions
+saved_in_source : (ps : List (List Entry)) (ns : List ℕ) → AllZip (λ p n. n ≤ length p) ps ns → length (saved_source ps ns) ≡ length ps
+saved_in_source [] [] h = refl
+saved_in_source [] (n ∷ ns) h = absurd h
+saved_in_source (p ∷ ps) [] h = absurd h
+saved_in_source (p ∷ ps) (n ∷ ns) h = ap suc (saved_in_source ps ns h.1)
+
+pub shaped : (ss : List (List (List Entry))) (cs : List (List ℕ)) → IsCut ss cs → map (λ ps. length ps) (saved_sources ss cs) ≡ map (λ ps. length ps) ss
+shaped [] [] h = refl
+shaped [] (c ∷ cs) h = absurd h
+shaped (s ∷ ss) [] h = absurd h
+shaped (s ∷ ss) (c ∷ cs) h = λ j. saved_in_source s c h.0 j ∷ shaped ss cs h.1 j
 
 pub starts_in : (p : PlanData) (i : InputData) (cut : List (List ℕ)) (n : ℕ) → IsCut i.sources cut → n ≤ 2 ^ 63 → IsStartIn p i (start_at i.sources cut n)
 starts_in p i cut n is_cut few =

@@ -28,7 +28,7 @@ use Rattle.redistribute.specs.Parts.{partition_start, start_of_role, task_start,
 use Rattle.redistribute.specs.Laws.{HasPartition, StandsAt, EachPartitionOnce, NothingElse}
 
 -- from the first number of the last row on, all stand in it
-last_row : (f : ℕ → ℕ) (n t : ℕ) → sum_below f n ≤ t → row_of f (suc n) t ≡ n
+pub last_row : (f : ℕ → ℕ) (n t : ℕ) → sum_below f n ≤ t → row_of f (suc n) t ≡ n
 last_row f n t l = let e : leb (sum_below f n) t ≡ true = le-leb (sum_below f n) t l in rw e refl
 
 counted : (b : Bool) (n m : ℕ) → b ≡ true → n ≡ (if b then n else m)
@@ -176,7 +176,7 @@ module _ (p : PlanData) (c : ScaleData) (e : Entries) (leg : Leg) (ip : IsPlan p
         )
 
 -- an input without entries
-abbrev nothing : Entries
+abbrev pub nothing : Entries
 nothing = record { entry = λ x k n. End; brings = λ x k n. lowest; watermark = λ x k n. lowest; size = λ x k. 0 }
 
 abbrev no_leg : Leg

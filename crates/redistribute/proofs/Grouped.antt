@@ -3,9 +3,9 @@ use Rattle.std.proofs.Common.{◌≡◌, ℕ, zero, suc, Bool, true, false, List
 use Rattle.std.specs.Prelude.{Option, Some, None, if◌then◌else◌}
 use Rattle.std.specs.List.{All, flat_map}
 use Rattle.std.specs.FinMap.{find}
-use Rattle.std.specs.Ordering.{eq_by_cmp, is_eq}
-use Rattle.std.specs.declared.cmp.Ordering.{Ordering}
-use Rattle.std.specs.declared.cmp.Ordering.TheVariants.{Less, Equal, Greater}
+use Rattle.std.specs.Cmp.{Equal-is}
+use Rattle.std.specs.Option.{option_or}
+use Rattle.std.specs.Ordering.{eq_by_cmp}
 use Rattle.std.proofs.lemmas.Bool.{cases_eq}
 use Rattle.plain_data.specs.Times.{lowest}
 use Rattle.key_groups.specs.Groups.{key_group}
@@ -22,15 +22,7 @@ use Rattle.window_state.specs.declared.parts.Part.{Part}
 use Rattle.window_state.specs.Parts.{entries_of}
 use Rattle.redistribute.specs.Begins.{IsOpenEntry, AreOpenGroups}
 use Rattle.redistribute.specs.Parts.{part_of, is_group_of, parts_in_group, IsOpenPart}
-
--- the first of two, or else the second
-abbrev either : {X : Type 0} → Option X → Option X → Option X
-either None y = y
-either (Some x) y = Some x
-
-either_test : {X : Type 0} (b : Bool) (x : X) (y z : Option X) → cond b (Some x) (either y z) ≡ either (cond b (Some x) y) z
-either_test true x y z = refl
-either_test false x y z = refl
+use Rattle.redistribute.proofs.Found.{found_in, found_in_both}
 
 no_test : {X : Type 0} (b : Bool) (x : X) (y : Option X) → (b ≡ true → ⊥) → y ≡ None → cond b (Some x) y ≡ None
 no_test true x y h e = absurd (h refl)
@@ -40,28 +32,16 @@ none_either : {X : Type 0} (b : Bool) → ◌≡◌ {A = Option X} None (if b th
 none_either true = refl
 none_either false = refl
 
-tied : (o : Ordering) → is_eq o ≡ true → o ≡ Equal
-tied Less e = absurd cc
-tied Equal e = refl
-tied Greater e = absurd cc
-
 module _ (p : PlanData) (kinds : List Kind) (q : Pane) where
   abbrev G : ℕ
   G = key_group p.max q.key
 
-  abbrev pub total_in : List Part → Option Aggregated
-  total_in parts = find pane_cmp q (entries_of parts)
-
-  total_of_both : (xs ys : List Part) → total_in (xs ++ ys) ≡ either (total_in xs) (total_in ys)
-  total_of_both [] ys = refl
-  total_of_both (x ∷ xs) ys = ap (cond (eq_by_cmp pane_cmp q x.pane) (Some x.acc.total)) (total_of_both xs ys) ∙ either_test (eq_by_cmp pane_cmp q x.pane) x.acc.total (total_in xs) (total_in ys)
-
   -- in another key group than the pane's nothing stands there
-  other_group : (n : ℕ) (es : List EntryData) → All (IsOpenEntry p kinds n) es → (G ≡ n → ⊥) → total_in (map (part_of kinds) es) ≡ None
+  other_group : (n : ℕ) (es : List EntryData) → All (IsOpenEntry p kinds n) es → (G ≡ n → ⊥) → found_in q (map (part_of kinds) es) ≡ None
   other_group n [] h other = refl
   other_group n (e ∷ es) h other =
-      no_test (eq_by_cmp pane_cmp q e.pane) e.total (total_in (map (part_of kinds) es))
-      (λ t. other (ap (λ z. key_group p.max z.key) (pane_cmp-IsAntisymmetric q e.pane (tied (pane_cmp q e.pane) t)) ∙ (h 0 e (omega arith)).group))
+      no_test (eq_by_cmp pane_cmp q e.pane) e.total (found_in q (map (part_of kinds) es))
+      (λ t. other (ap (λ z. key_group p.max z.key) (pane_cmp-IsAntisymmetric q e.pane ((Equal-is (pane_cmp q e.pane)).0 t)) ∙ (h 0 e (omega arith)).group))
       (other_group n es (λ k d l. h (suc k) d (omega (arith, l))) other)
 
   abbrev within_range : GroupRange → List SavedGroup → List Part
@@ -71,28 +51,28 @@ module _ (p : PlanData) (kinds : List Kind) (q : Pane) where
   all_in gs = flat_map (λ g. map (part_of kinds) g.entries.entries) gs
 
   -- of the pane's own key group
-  own : (b : Bool) (parts : List Part) (x y : Option Aggregated) → x ≡ (if b then y else None) → either (total_in (if b then parts else [])) x ≡ (if b then either (total_in parts) y else None)
-  own true parts x y h = ap (either (total_in parts)) h
+  own : (b : Bool) (parts : List Part) (x y : Option Aggregated) → x ≡ (if b then y else None) → option_or (found_in q (if b then parts else [])) x ≡ (if b then option_or (found_in q parts) y else None)
+  own true parts x y h = ap (option_or (found_in q parts)) h
   own false parts x y h = h
 
   -- of another
-  passed : (b c : Bool) (parts : List Part) (x y : Option Aggregated) → total_in parts ≡ None → x ≡ (if b then y else None) → either (total_in (if c then parts else [])) x ≡ (if b then either (total_in parts) y else None)
-  passed b true parts x y none h = ap (λ z. either z x) none ∙ h ∙ (λ j. if b then either (sym none j) y else None)
-  passed b false parts x y none h = h ∙ (λ j. if b then either (sym none j) y else None)
+  passed : (b c : Bool) (parts : List Part) (x y : Option Aggregated) → found_in q parts ≡ None → x ≡ (if b then y else None) → option_or (found_in q (if c then parts else [])) x ≡ (if b then option_or (found_in q parts) y else None)
+  passed b true parts x y none h = ap (λ z. option_or z x) none ∙ h ∙ (λ j. if b then option_or (sym none j) y else None)
+  passed b false parts x y none h = h ∙ (λ j. if b then option_or (sym none j) y else None)
 
   -- the range has what stands in the pane just where it has the pane's key group
-  pub total_within : (range : GroupRange) (gs : List SavedGroup) → AreOpenGroups p kinds gs → total_in (within_range range gs) ≡ (if is_group_of range G then total_in (all_in gs) else None)
+  pub total_within : (range : GroupRange) (gs : List SavedGroup) → AreOpenGroups p kinds gs → found_in q (within_range range gs) ≡ (if is_group_of range G then found_in q (all_in gs) else None)
   total_within range [] h = none_either (is_group_of range G)
   total_within range (g ∷ gs) h =
       let parts = map (part_of kinds) g.entries.entries in
       let rest = total_within range gs (λ k d l. h (suc k) d (omega (arith, l))) in
       let here : All (IsOpenEntry p kinds g.group) g.entries.entries = h 0 g (omega arith) in
-      total_of_both (parts_in_group kinds range g) (within_range range gs)
+      found_in_both q (parts_in_group kinds range g) (within_range range gs)
       ∙ elim (cases_eq G g.group) [
-        | inl same ↦ (λ j. either (total_in (if is_group_of range (sym same j) then parts else [])) (total_in (within_range range gs))) ∙ own (is_group_of range G) parts (total_in (within_range range gs)) (total_in (all_in gs)) rest
-        | inr other ↦ passed (is_group_of range G) (is_group_of range g.group) parts (total_in (within_range range gs)) (total_in (all_in gs)) (other_group g.group g.entries.entries here other) rest
+        | inl same ↦ (λ j. option_or (found_in q (if is_group_of range (sym same j) then parts else [])) (found_in q (within_range range gs))) ∙ own (is_group_of range G) parts (found_in q (within_range range gs)) (found_in q (all_in gs)) rest
+        | inr other ↦ passed (is_group_of range G) (is_group_of range g.group) parts (found_in q (within_range range gs)) (found_in q (all_in gs)) (other_group g.group g.entries.entries here other) rest
       ]
-      ∙ ap (λ z. if is_group_of range G then z else None) (sym (total_of_both parts (all_in gs)))
+      ∙ ap (λ z. if is_group_of range G then z else None) (sym (found_in_both q parts (all_in gs)))
 
 -- ---- what may stand where a leg begins
 
@@ -123,6 +103,6 @@ pub none_due : (p : PlanData) (q : Pane) → is_due p.window lowest q.start ≡ 
 none_due p q d [] h = refl
 none_due p q d (x ∷ xs) h =
     no_test (eq_by_cmp pane_cmp q x.pane) x.acc.total (find pane_cmp q (entries_of xs))
-    (λ t. let e : q ≡ x.pane = pane_cmp-IsAntisymmetric q x.pane (tied (pane_cmp q x.pane) t) in
+    (λ t. let e : q ≡ x.pane = pane_cmp-IsAntisymmetric q x.pane ((Equal-is (pane_cmp q x.pane)).0 t) in
     let z : true ≡ false = sym d ∙ ap (λ (y : Pane). is_due p.window lowest y.start) e ∙ (h 0 x (omega arith)).early in absurd cc)
     (none_due p q d xs (λ m e o. h (suc m) e (omega (arith, o))))

@@ -1,6 +1,7 @@
 mod Unread
 mod Reached
 mod Dealt
+mod Found
 mod Grouped
 mod Owned
 mod Beginning

@@ -1,39 +1,21 @@
 -- What a cut leaves of an input's partitions is as a savepoint must have it.
-use Rattle.std.proofs.Common.{◌≡◌, ℕ, suc, ◌≤◌, true, List, [], ◌∷◌, length, map, refl, ap}
+use Rattle.std.proofs.Common.{◌≡◌, ℕ, ◌≤◌, true, List, [], ◌∷◌, length, refl}
 use Rattle.std.specs.List.{AllZip, list_all, zip}
 use Rattle.std.proofs.lemmas.Bool.{and_from, le-leb}
 use Rattle.std.proofs.lemmas.Bool.Decides.{Decides-int_eq}
 use Rattle.stream_model.specs.declared.entry.Entry.{Entry}
 use Rattle.stream_model.specs.Watermarks.{IsCut, partition_watermark}
 use Rattle.redistribute.specs.Snapshots.{saved_source, saved_sources}
+use Rattle.redistribute.proofs.Facts.{offsets_in}
 use Rattle.restore.specs.Requirements.{every_partition, is_within, is_watermark}
 use Rattle.restore.specs.Saved.{cut_of}
 
 -- the cut is how far each partition was read
-offsets_in : (ps : List (List Entry)) (ns : List ℕ) → AllZip (λ p n. n ≤ length p) ps ns → map (λ p. p.offset) (saved_source ps ns) ≡ ns
-offsets_in [] [] h = refl
-offsets_in [] (n ∷ ns) h = absurd h
-offsets_in (p ∷ ps) [] h = absurd h
-offsets_in (p ∷ ps) (n ∷ ns) h = ap (λ z. n ∷ z) (offsets_in ps ns h.1)
-
 pub cut_back : (ss : List (List (List Entry))) (cs : List (List ℕ)) → IsCut ss cs → cut_of (saved_sources ss cs) ≡ cs
 cut_back [] [] h = refl
 cut_back [] (c ∷ cs) h = absurd h
 cut_back (s ∷ ss) [] h = absurd h
 cut_back (s ∷ ss) (c ∷ cs) h = λ j. offsets_in s c h.0 j ∷ cut_back ss cs h.1 j
-
--- each source has all its partitions
-shape_in : (ps : List (List Entry)) (ns : List ℕ) → AllZip (λ p n. n ≤ length p) ps ns → length (saved_source ps ns) ≡ length ps
-shape_in [] [] h = refl
-shape_in [] (n ∷ ns) h = absurd h
-shape_in (p ∷ ps) [] h = absurd h
-shape_in (p ∷ ps) (n ∷ ns) h = ap suc (shape_in ps ns h.1)
-
-pub shape : (ss : List (List (List Entry))) (cs : List (List ℕ)) → IsCut ss cs → map (λ ps. length ps) (saved_sources ss cs) ≡ map (λ ps. length ps) ss
-shape [] [] h = refl
-shape [] (c ∷ cs) h = absurd h
-shape (s ∷ ss) [] h = absurd h
-shape (s ∷ ss) (c ∷ cs) h = λ j. shape_in s c h.0 j ∷ shape ss cs h.1 j
 
 -- no more entries were read than there are
 within_in : (ps : List (List Entry)) (ns : List ℕ) → AllZip (λ p n. n ≤ length p) ps ns → list_all is_within (zip (saved_source ps ns) ps) ≡ true

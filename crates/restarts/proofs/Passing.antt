@@ -17,11 +17,12 @@ use Rattle.savepoint_codec.specs.declared.savepoint.SavedPartition.{SavedPartiti
 use Rattle.stream_model.specs.InputData.{InputData}
 use Rattle.stream_model.specs.Watermarks.{merged_watermark, records_before}
 use Rattle.redistribute.specs.Snapshots.{saved_sources}
+use Rattle.redistribute.proofs.Facts.{shaped}
 use Rattle.restore.specs.Answer.{start_of}
 use Rattle.restore.specs.Requirements.{every_partition, every_entry, is_within, is_watermark, is_in_group, is_open, is_counted, has_max, has_known_uids, has_all_uids, has_plan, has_partitions, has_offsets, has_watermarks, has_groups, has_open_windows, has_counts, has_number, plan_requirements, input_requirements, requirements}
 use Rattle.restore.specs.Saved.{saved_sources as saved_of, cut_of}
 use Rattle.restarts.specs.Laws.{IsLeftAt, savepoint_at, SnapshotsPass}
-use Rattle.restarts.proofs.Cuts.{cut_back, shape, within, marks}
+use Rattle.restarts.proofs.Cuts.{cut_back, within, marks}
 use Rattle.restarts.proofs.Grouped.{every_saved, passes_all}
 use Rattle.restarts.proofs.Left.{left}
 use Rattle.restarts.proofs.Uids.{all_under, all_known, all_there, all_partitioned, own_kinds}
@@ -34,7 +35,7 @@ module _ (rising : AscendingIsInOrder) (p : PlanData) (i : InputData) (cut : Lis
   read = saved_sources i.sources cut
 
   pub planned : map (λ ps. length ps) read ≡ partition_counts p
-  planned = shape i.sources cut h.cut ∙ h.belongs.partitions
+  planned = shaped i.sources cut h.cut ∙ h.belongs.partitions
 
   long : length read ≡ length p.sources
   long = sym (length-map read (λ ps. length ps)) ∙ ap length planned ∙ length-map p.sources (λ x. x.partitions)

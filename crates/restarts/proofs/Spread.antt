@@ -1,7 +1,7 @@
 -- The key groups that are saved hold what the windows held.
-use Rattle.std.proofs.Common.{◌≡◌, ℕ, zero, suc, ◌+◌, ◌<◌, ◌≤◌, Bool, true, false, cond, List, [], ◌∷◌, ◌++◌, map, Option, Some, None, refl, sym, ap, ◌∙◌, inl, inr, arith}
+use Rattle.std.proofs.Common.{◌≡◌, ℕ, zero, suc, ◌+◌, ◌<◌, ◌≤◌, cond, List, [], ◌∷◌, ◌++◌, map, Option, None, refl, sym, ap, ◌∙◌, inl, inr, arith}
 use Rattle.std.specs.List.{flat_map, range_with_len}
-use Rattle.std.specs.Ordering.{eq_by_cmp}
+use Rattle.std.specs.Option.{option_or}
 use Rattle.std.specs.FinMap.{FinMap, entries, find}
 use Rattle.std.specs.FinMap.Entries.{where_key, find-where_key}
 use Rattle.std.proofs.lemmas.Bool.{cases_eq, eq-eqb, ne_eqb}
@@ -17,24 +17,8 @@ use Rattle.savepoint_codec.specs.declared.savepoint.SavedGroup.{SavedGroup}
 use Rattle.window_state.specs.declared.parts.Part.{Part}
 use Rattle.window_state.specs.Parts.{entries_of}
 use Rattle.redistribute.specs.Parts.{part_of}
+use Rattle.redistribute.proofs.Facts.{find_in_both, or_none}
 use Rattle.gather.specs.Saved.{entries_in_group, is_in_group, saved_entry, saved_group, saved_groups}
-
--- the first of two, or else the second
-abbrev either : {X : Type 0} → Option X → Option X → Option X
-either None y = y
-either (Some x) y = Some x
-
-either_test : {X : Type 0} (b : Bool) (x : X) (y z : Option X) → cond b (Some x) (either y z) ≡ either (cond b (Some x) y) z
-either_test true x y z = refl
-either_test false x y z = refl
-
-either_none : {X : Type 0} (y : Option X) → either y None ≡ y
-either_none None = refl
-either_none (Some x) = refl
-
-find_of_both : (q : Pane) (xs ys : List (Pane × Aggregated)) → find pane_cmp q (xs ++ ys) ≡ either (find pane_cmp q xs) (find pane_cmp q ys)
-find_of_both q [] ys = refl
-find_of_both q (x ∷ xs) ys = ap (cond (eq_by_cmp pane_cmp q x.0) (Some x.1)) (find_of_both q xs ys) ∙ either_test (eq_by_cmp pane_cmp q x.0) x.1 (find pane_cmp q xs) (find pane_cmp q ys)
 
 module _ (kinds : List Kind) (max width : ℕ) (m : FinMap pane_cmp Aggregated) where
   abbrev parts_in : List SavedGroup → List Part
@@ -59,12 +43,12 @@ module _ (kinds : List Kind) (max width : ℕ) (m : FinMap pane_cmp Aggregated) 
     at_pane : List SavedGroup → Option Aggregated
     at_pane gs = find pane_cmp q (entries_of (parts_in gs))
 
-    of_both : (xs ys : List SavedGroup) → at_pane (xs ++ ys) ≡ either (at_pane xs) (at_pane ys)
+    of_both : (xs ys : List SavedGroup) → at_pane (xs ++ ys) ≡ option_or (at_pane xs) (at_pane ys)
     unfolding at_pane
     of_both xs ys =
         ap (λ ps. find pane_cmp q (entries_of ps)) (flat_map-append (λ (g : SavedGroup). map (part_of kinds) g.entries.entries) xs ys)
         ∙ ap (find pane_cmp q) (map-append (λ (p : Part). (p.pane, p.acc.total)) (parts_in xs) (parts_in ys))
-        ∙ find_of_both q (entries_of (parts_in xs)) (entries_of (parts_in ys))
+        ∙ find_in_both q (entries_of (parts_in xs)) (entries_of (parts_in ys))
 
     -- in one key group stands what the windows have, if it is the pane's
     of_group : (g : ℕ) → at_pane (group_of g) ≡ cond (is_in_group max g q) (find pane_cmp q (entries m)) None
@@ -79,7 +63,7 @@ module _ (kinds : List Kind) (max width : ℕ) (m : FinMap pane_cmp Aggregated) 
     past n zero l = refl
     past n (suc k) l =
         of_both (group_of n) (flat_map group_of (range_with_len (n + 1) k))
-        ∙ ap (λ o. either o (at_pane (flat_map group_of (range_with_len (n + 1) k)))) (of_group n ∙ ap (λ b. cond b (find pane_cmp q (entries m)) None) (ne_eqb G n (λ e. omega (arith, l, e))))
+        ∙ ap (λ o. option_or o (at_pane (flat_map group_of (range_with_len (n + 1) k)))) (of_group n ∙ ap (λ b. cond b (find pane_cmp q (entries m)) None) (ne_eqb G n (λ e. omega (arith, l, e))))
         ∙ past (n + 1) k (omega (arith, l))
 
     -- up to it what the windows have
@@ -90,11 +74,11 @@ module _ (kinds : List Kind) (max width : ℕ) (m : FinMap pane_cmp Aggregated) 
         of_both (group_of n) rest
         ∙ elim (cases_eq G n) [
           | inl same ↦
-              ap (λ o. either o (at_pane rest)) (of_group n ∙ ap (λ b. cond b (find pane_cmp q (entries m)) None) (eq-eqb G n same))
-              ∙ ap (either (find pane_cmp q (entries m))) (past (n + 1) k (omega (arith, same)))
-              ∙ either_none (find pane_cmp q (entries m))
+              ap (λ o. option_or o (at_pane rest)) (of_group n ∙ ap (λ b. cond b (find pane_cmp q (entries m)) None) (eq-eqb G n same))
+              ∙ ap (option_or (find pane_cmp q (entries m))) (past (n + 1) k (omega (arith, same)))
+              ∙ or_none (find pane_cmp q (entries m))
           | inr other ↦
-              ap (λ o. either o (at_pane rest)) (of_group n ∙ ap (λ b. cond b (find pane_cmp q (entries m)) None) (ne_eqb G n other))
+              ap (λ o. option_or o (at_pane rest)) (of_group n ∙ ap (λ b. cond b (find pane_cmp q (entries m)) None) (ne_eqb G n other))
               ∙ upto (n + 1) k (omega (arith, l, other)) (omega (arith, u))
         ]
 
