@@ -5,8 +5,8 @@ use Rattle.std.specs.Option.{option_map, option_map_or}
 use Rattle.std.specs.List.{All, AllByRecursion, flat_map, list_any, range_with_len, position_or_len}
 use Rattle.std.specs.List.Sorted.{IsStrictlySortedBy}
 use Rattle.std.specs.Ordering.{nat_cmp, int_cmp, is_lt, is_eq, ordering_then}
+use Rattle.std.specs.Cmp.{Equal-is}
 use Rattle.std.specs.Cmp.Lexicographic.{slice_cmp, nat_list_eq_equiv}
-use Rattle.std.specs.declared.cmp.Ordering.{Ordering}
 use Rattle.std.specs.declared.cmp.Ordering.TheVariants.{Less, Equal, Greater}
 use Rattle.std.specs.FinMap.{FinMap, entries, entries_sorted, int_cmp-IsAntisymmetric}
 use Rattle.std.specs.FinMap.Entries.{is_sorted, below_all, where_key, is_sorted-where_key}
@@ -132,7 +132,7 @@ or_true : (a b : Bool) → b ≡ true → (a || b) ≡ true
 or_true true b h = refl
 or_true false b h = h
 
-weaken : {X : Type 0} (P Q : X → Type 0) (xs : List X) → ((x : X) → P x → Q x) → AllByRecursion P xs → AllByRecursion Q xs
+pub weaken : {X : Type 0} (P Q : X → Type 0) (xs : List X) → ((x : X) → P x → Q x) → AllByRecursion P xs → AllByRecursion Q xs
 weaken P Q [] f h = tt
 weaken P Q (x ∷ xs) f h = (f x h.0, weaken P Q xs f h.1)
 
@@ -187,17 +187,12 @@ unfolding kinds_field kind_field
 kinds_fit kinds some few = and_true _ _ (few_fits 8 (length kinds) (omega arith) some few) (list_all-from_AllPass (λ k. true) kinds (λ k d l. refl))
 
 -- entries
-eq_of : (o : Ordering) → is_eq o ≡ true → o ≡ Equal
-eq_of Less h = absurd cc
-eq_of Equal h = refl
-eq_of Greater h = absurd cc
-
 small_i128 : (z : ℤ) → is_i64 z ≡ true → is_i128 z ≡ true
 small_i128 (pos n) h = lt-ltb n (2 ^ 127) (omega (arith, ltb-true n (2 ^ 63) h))
 small_i128 (negsuc n) h = lt-ltb n (2 ^ 127) (omega (arith, ltb-true n (2 ^ 63) h))
 
 wide : (count : ℕ) (k : Kind) (z : ℤ) → count ≤ MOST_RECORDS → is_number count k z ≡ true → is_i128 z ≡ true
-wide count Count z few h = subst (λ y. is_i128 y ≡ true) (sym (int_cmp-IsAntisymmetric z (pos count) (eq_of (int_cmp z (pos count)) h))) (lt-ltb count (2 ^ 127) (omega (arith, few)))
+wide count Count z few h = subst (λ y. is_i128 y ≡ true) (sym (int_cmp-IsAntisymmetric z (pos count) ((Equal-is (int_cmp z (pos count))).0 h))) (lt-ltb count (2 ^ 127) (omega (arith, few)))
 wide count Sum (pos n) few h = lt-ltb n (2 ^ 127) (omega (arith, few, leb-true n (count * 2 ^ 63) h))
 wide count Sum (negsuc n) few h = lt-ltb n (2 ^ 127) (omega (arith, few, leb-true (suc n) (count * 2 ^ 63) h))
 wide count Least z few h = small_i128 z h

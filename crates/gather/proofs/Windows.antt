@@ -4,6 +4,7 @@ use Rattle.std.specs.Prelude.{T, None, Result, Ok, Err, IfOk}
 use Rattle.std.specs.List.{AllByRecursion, filter, flat_map, range_with_len}
 use Rattle.std.specs.List.Sorted.{IsStrictlySortedBy}
 use Rattle.std.specs.Ordering.{is_lt}
+use Rattle.std.specs.declared.cmp.Ordering.{Ordering}
 use Rattle.std.specs.declared.cmp.Ordering.TheVariants.{Less, Equal}
 use Rattle.std.specs.FinMap.{FinMap, from_entries, entries, entries_sorted, get-entries, get-from_entries}
 use Rattle.std.specs.FinMap.Entries.{is_sorted, below_all, where_key, is_sorted-where_key, find-where_key, same_entries}
@@ -22,17 +23,18 @@ and_t : (a b : Bool) → T a → T b → T (a && b)
 and_t true b p q = q
 and_t false b p q = p
 
-below : (x : Pane) (es : List (Pane × Aggregated)) → AllByRecursion (λ y. pane_cmp x y ≡ Less) (map (λ e. e.0) es) → T (below_all pane_cmp x es)
-below x [] h = tt
-below x (e ∷ es) h = and_t (is_lt (pane_cmp x e.0)) (below_all pane_cmp x es) (subst (λ r. T (is_lt r)) (sym h.0) tt) (below x es h.1)
+module _ {K X : Type 0} (R : K → K → Ordering) where
+  below : (x : K) (es : List (K × X)) → AllByRecursion (λ y. R x y ≡ Less) (map (λ e. e.0) es) → T (below_all R x es)
+  below x [] h = tt
+  below x (e ∷ es) h = and_t (is_lt (R x e.0)) (below_all R x es) (subst (λ r. T (is_lt r)) (sym h.0) tt) (below x es h.1)
 
-sorted : (es : List (Pane × Aggregated)) → IsStrictlySortedBy pane_cmp (map (λ e. e.0) es) → T (is_sorted pane_cmp es)
-unfolding IsStrictlySortedBy
-sorted [] h = tt
-sorted (e ∷ es) h = and_t (below_all pane_cmp e.0 es) (is_sorted pane_cmp es) (below e.0 es h.0) (sorted es h.1)
+  pub sorted : (es : List (K × X)) → IsStrictlySortedBy R (map (λ e. e.0) es) → T (is_sorted R es)
+  unfolding IsStrictlySortedBy
+  sorted [] h = tt
+  sorted (e ∷ es) h = and_t (below_all R e.0 es) (is_sorted R es) (below e.0 es h.0) (sorted es h.1)
 
 -- a map's entries that pass a test of their panes
-filtered : (p : Pane → Bool) (all : List (Pane × Aggregated)) → T (is_sorted pane_cmp (where_key pane_cmp p all)) → where_key pane_cmp p (entries (from_entries {R = pane_cmp} all)) ≡ where_key pane_cmp p all
+pub filtered : (p : Pane → Bool) (all : List (Pane × Aggregated)) → T (is_sorted pane_cmp (where_key pane_cmp p all)) → where_key pane_cmp p (entries (from_entries {R = pane_cmp} all)) ≡ where_key pane_cmp p all
 filtered p all h =
     let m : FinMap pane_cmp Aggregated = from_entries all in
     let alike : (q x : Pane) → pane_cmp q x ≡ Equal → p x ≡ p q = λ q x e. ap p (sym (pane_cmp-IsAntisymmetric q x e)) in
@@ -62,7 +64,7 @@ entries_of_parts p (x ∷ xs) =
 pub in_group : (max g : ℕ) (parts : List Part) → IsStrictlySortedBy pane_cmp (panes_in_group max g parts) → entries_in_group max (from_entries (entries_of parts)) g ≡ map entry_of (filter (λ part. is_in_group max g part.pane) parts)
 in_group max g parts h =
     let p = is_in_group max g in
-    let rises = sorted (where_key pane_cmp p (entries_of parts)) (subst (IsStrictlySortedBy pane_cmp) (sym (panes_of_entries p parts)) h) in
+    let rises = sorted pane_cmp (where_key pane_cmp p (entries_of parts)) (subst (IsStrictlySortedBy pane_cmp) (sym (panes_of_entries p parts)) h) in
     ap (map saved_entry) (filtered p (entries_of parts) rises) ∙ entries_of_parts p parts
 
 pub same_groups : (max width : ℕ) (parts : List Part) → ((g : ℕ) → IsStrictlySortedBy pane_cmp (panes_in_group max g parts))

@@ -13,14 +13,15 @@ use Rattle.byte_fields.specs.Fields.{u16_field, u64_field}
 use Rattle.byte_fields.specs.Lists.{chain, counted}
 use Rattle.byte_fields.proofs.Exact.{both, counted-fits}
 use Rattle.plan_model.specs.Rows.{pane_cmp}
-use Rattle.plan_model.specs.Uids.{uid_field}
 use Rattle.plan_model.proofs.Facts.{pane_cmp_total}
 use Rattle.aggregates.specs.declared.kind.Kind.{Kind}
 use Rattle.savepoint_codec.specs.EntriesData.{EntryData}
-use Rattle.savepoint_codec.specs.Fields.{number_field, max_field, sources_field, kinds_field, pane_field, is_pane_after, count_field, numbers_field, entry_field, entry_after, entries_field, group_number, group_field, group_after, groups_field, is_number_after}
-use Rattle.savepoint_codec.specs.Layout.{IsSavepoint, savepoint_format, fields, window_fields, record_field}
+use Rattle.savepoint_codec.specs.Fields.{pane_field, is_pane_after, count_field, numbers_field, entry_field, entry_after, entries_field, group_number, group_field, group_after, groups_field, is_number_after}
+use Rattle.savepoint_codec.specs.Layout.{IsSavepoint}
+use Rattle.savepoint_codec.proofs.Facts.{have_spellings}
 use Rattle.savepoint_codec.specs.declared.savepoint.Contents.{Contents}
 use Rattle.savepoint_codec.specs.declared.savepoint.SavedGroup.{SavedGroup}
+use Rattle.gather.proofs.Facts.{weaken}
 
 -- ---- a list in which each item fits behind the one before
 
@@ -28,10 +29,6 @@ use Rattle.savepoint_codec.specs.declared.savepoint.SavedGroup.{SavedGroup}
 abbrev Rises : {X : Type 0} → (X → X → Type 0) → List X → Type 0
 Rises P [] = Unit {0}
 Rises P (x ∷ xs) = AllByRecursion (P x) xs × Rises P xs
-
-weaken : {X : Type 0} (P Q : X → Type 0) (xs : List X) → ((x : X) → P x → Q x) → AllByRecursion P xs → AllByRecursion Q xs
-weaken P Q [] f h = tt
-weaken P Q (x ∷ xs) f h = (f x h.0, weaken P Q xs f h.1)
 
 module _ {X : Type 0} (item : Option X → Format X) (P : X → X → Type 0) (trans : (x y z : X) → P x y → P y z → P x z) (step : (x y : X) → (item (Some x)).fits y ≡ true → P x y) where
   after : (x : X) (xs : List X) → (chain item (Some x) (length xs)).fits xs ≡ true → AllByRecursion (P x) xs
@@ -123,15 +120,10 @@ pub record AreInOrder (gs : List SavedGroup) : Type 0 where
   pub panes : All Ascend gs
 
 pub groups_ascend : (s : Contents) → IsSavepoint s → AreInOrder s.groups
-unfolding savepoint_format fields window_fields groups_field
+unfolding groups_field
 groups_ascend s h =
-    let a = both (number_field.fits s.number) _ h in
-    let b = both (record_field.fits s.plan_record) _ a.1 in
-    let d = both (max_field.fits s.max) _ b.1 in
-    let e = both (sources_field.fits s.sources) _ d.1 in
-    let f = both (uid_field.fits s.window_uid) _ e.1 in
-    let g = both (kinds_field.fits s.kinds) ((groups_field s.max s.kinds).fits s.groups) f.1 in
+    let fits = have_spellings s h in
     record {
-      groups = counted_rises (group_after s.max s.kinds) IsBelow (λ x y z l m. omega (arith, l, m)) (group_below s.max s.kinds) u16_field s.groups g.1;
-      panes = (counted-fits u16_field (group_after s.max s.kinds) Ascend (group_ascends s.max s.kinds) s.groups g.1).1;
+      groups = counted_rises (group_after s.max s.kinds) IsBelow (λ x y z l m. omega (arith, l, m)) (group_below s.max s.kinds) u16_field s.groups fits.groups;
+      panes = (counted-fits u16_field (group_after s.max s.kinds) Ascend (group_ascends s.max s.kinds) s.groups fits.groups).1;
     }

@@ -1,13 +1,14 @@
 -- So few panes can hold a record that they can be counted.
-use Rattle.std.proofs.Common.{◌≡◌, ℕ, zero, suc, ◌+◌, ◌*◌, ◌%◌, ◌<◌, ◌≤◌, ℤ, pos, ◌-ℤ◌, ◌≤ℤ◌, ◌*ℤ◌, Bool, true, false, cond, not, ◌&&◌, ◌||◌, List, [], ◌∷◌, length, get_or, refl, sym, ap, subst, ◌∙◌, inl, inr, arith}
+use Rattle.std.proofs.Common.{◌≡◌, ℕ, zero, suc, ◌+◌, ◌*◌, ◌%◌, ◌<◌, ◌≤◌, ℤ, pos, ◌-ℤ◌, ◌≤ℤ◌, ◌*ℤ◌, Bool, true, false, cond, not, ◌||◌, List, [], ◌∷◌, length, get_or, refl, sym, ap, subst, ◌∙◌, inl, inr, arith}
 use Rattle.std.specs.Prelude.{T}
 use Rattle.std.specs.Int.{int_rem_euclid}
 use Rattle.std.specs.List.{All, count_by, list_any}
 use Rattle.std.specs.Ordering.{eq_by_cmp, int_cmp, int_eq, is_eq, is_lt, ordering_then}
-use Rattle.std.specs.declared.cmp.Ordering.{Ordering}
-use Rattle.std.specs.declared.cmp.Ordering.TheVariants.{Less, Equal, Greater}
+use Rattle.std.specs.Cmp.{Equal-is}
+use Rattle.std.specs.declared.cmp.Ordering.TheVariants.{Equal}
 use Rattle.std.specs.FinMap.Entries.{is_sorted, below_all, where_key, is_sorted-where_key}
 use Rattle.std.proofs.lemmas.Bool.{and_from, and_parts, cases_Bool, cases_lt}
+use Rattle.std.proofs.lemmas.Bool.Decides.{Decides-int_eq}
 use Rattle.std.proofs.lemmas.Int.{ints}
 use Rattle.std.proofs.lemmas.List.Elements.{All-filter, All-head, All-tail, filter_passes}
 use Rattle.std.proofs.lemmas.List.Sums.{length-filter, sum_by-cons}
@@ -21,6 +22,7 @@ use Rattle.plan_model.specs.PlanData.{IsWindow}
 use Rattle.plan_model.specs.Rows.{pane_cmp}
 use Rattle.plan_model.specs.Windows.{is_at, is_start, is_within}
 use Rattle.plan_model.proofs.Facts.{is_reached, natural, pane_cmp_total, reached_all, reached_more, reached_none, remainder}
+use Rattle.restarts.proofs.Grouped.{t_both, less}
 
 -- ---- counts of what passes
 
@@ -66,20 +68,6 @@ module _ {X : Type 0} where
 
 -- ---- in panes that ascend none stands twice
 
-t_both : (a b : Bool) → T (a && b) → T a × T b
-t_both true b h = (tt, h)
-t_both false b h = absurd h
-
-less : (o : Ordering) → T (is_lt o) → o ≡ Less
-less Less h = refl
-less Equal h = absurd h
-less Greater h = absurd h
-
-tied : (o : Ordering) → is_eq o ≡ true → o ≡ Equal
-tied Less h = absurd cc
-tied Equal h = refl
-tied Greater h = absurd cc
-
 none_after : (q x : Pane) → pane_cmp q x ≡ Equal → (es : List (Pane × Aggregated)) → T (below_all pane_cmp x es) → count_by (λ e. eq_by_cmp pane_cmp q e.0) es ≡ 0
 none_after q x same [] h = refl
 none_after q x same (e ∷ es) h =
@@ -93,7 +81,7 @@ once q (e ∷ es) h =
     let b = t_both (below_all pane_cmp e.0 es) (is_sorted pane_cmp es) h in
     let more = count_more (λ y. eq_by_cmp pane_cmp q y.0) e es in
     elim (cases_Bool (eq_by_cmp pane_cmp q e.0)) [
-      | inl same ↦ omega (arith, more, ap tally same, none_after q e.0 (tied (pane_cmp q e.0) same) es b.0)
+      | inl same ↦ omega (arith, more, ap tally same, none_after q e.0 ((Equal-is (pane_cmp q e.0)).0 same) es b.0)
       | inr other ↦ omega (arith, more, ap tally other, once q es b.1)
     ]
 
@@ -156,9 +144,6 @@ IsPaneOf w r e = (is_at w e.0 r ≡ true) × (is_start w e.0.start ≡ true)
 wide : (m n : ℕ) → pos m ≤ℤ (MOST_WINDOWS *ℤ pos n) → m ≤ 256 * n
 wide m n h = omega (arith, ints, h)
 
-same_key : (a b : ℤ) → int_eq a b ≡ true → b ≡ a
-same_key a b h = grind (arith, ints)
-
 few_of_record : (w : WindowSpec) (x : Record) (es : List (Pane × Aggregated)) → IsWindow w → T (is_sorted pane_cmp es) → All (IsPaneOf w x) es → length es ≤ 256
 few_of_record w x es iw sorted each =
     let t = at w.time x in
@@ -168,7 +153,7 @@ few_of_record w x es iw sorted each =
     let r = remainder (t -ℤ w.offset) n.0 some in
     let panes : w.size ≤ℤ (MOST_WINDOWS *ℤ w.slide) = iw.panes in
     let most : m.0 ≤ 256 * n.0 = wide m.0 n.0 (subst (λ z. z ≤ℤ (MOST_WINDOWS *ℤ pos n.0)) m.1 (subst (λ z. w.size ≤ℤ (MOST_WINDOWS *ℤ z)) n.1 panes)) in
-    let keys : All (λ e. e.0.key ≡ at w.key x) es = λ k d l. same_key (at w.key x) (get_or es k d).0.key (and_parts (int_eq (at w.key x) (get_or es k d).0.key) (is_within w (get_or es k d).0.start t) (each k d l).0).0 in
+    let keys : All (λ e. e.0.key ≡ at w.key x) es = λ k d l. sym ((Decides-int_eq (at w.key x) (get_or es k d).0.key).0 (and_parts (int_eq (at w.key x) (get_or es k d).0.key) (is_within w (get_or es k d).0.start t) (each k d l).0).0) in
     let counted = steps w t n.0 m.0 r.0 some n.1 m.1 r.2 r.1 (at w.key x) 256 es sorted keys in
     let inside : All (λ e. (is_start w e.0.start ≡ true) × (is_within w e.0.start t ≡ true)) es = λ k d l. ((each k d l).1, (and_parts (int_eq (at w.key x) (get_or es k d).0.key) (is_within w (get_or es k d).0.start t) (each k d l).0).1) in
     let all = all_reached w t n.0 m.0 r.0 some n.1 m.1 r.2 r.1 (at w.key x) (r.0 + 256 * n.0) (omega (arith, most)) es inside in

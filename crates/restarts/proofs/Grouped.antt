@@ -21,11 +21,11 @@ use Rattle.gather.specs.Saved.{entries_in_group, is_in_group, saved_entry, saved
 
 -- ---- each entry of a map is found at its pane
 
-t_both : (a b : Bool) → T (a && b) → T a × T b
+pub t_both : (a b : Bool) → T (a && b) → T a × T b
 t_both true b h = (tt, h)
 t_both false b h = absurd h
 
-less : (o : Ordering) → T (is_lt o) → o ≡ Less
+pub less : (o : Ordering) → T (is_lt o) → o ≡ Less
 less Less h = refl
 less Equal h = absurd h
 less Greater h = absurd h

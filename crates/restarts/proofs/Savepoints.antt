@@ -3,8 +3,8 @@ use Rattle.std.proofs.Common.{◌≡◌, ℕ, ◌*◌, ◌^◌, ◌<◌, ◌≤�
 use Rattle.std.specs.Int.{int_max}
 use Rattle.std.specs.List.{All, filter, fold, list_any}
 use Rattle.std.specs.FinMap.{FinMap, entries, entries_sorted, get}
-use Rattle.std.specs.Ordering.{int_eq}
 use Rattle.std.proofs.lemmas.Bool.{and_parts}
+use Rattle.std.proofs.lemmas.Bool.Decides.{Decides-int_eq}
 use Rattle.std.proofs.lemmas.Int.{ints}
 use Rattle.std.proofs.lemmas.List.{length-map}
 use Rattle.std.proofs.lemmas.List.Elements.{All-cons, All-filter, All-head, All-map, All-nil, All-tail, All-take}
@@ -90,9 +90,6 @@ start_fits s h =
     let u = h.below in
     grind (arith, ints)
 
-same_number : (a b : ℤ) → int_eq a b ≡ true → a ≡ b
-same_number a b h = grind (arith, ints)
-
 held_by : (ks : List Aggregate) (test : Record → Bool) (rs : List Record) (a : Aggregated) → aggregate_of ks (filter test rs) ≡ Some a → list_any test rs ≡ true
 held_by ks test [] a h = absurd cc
 held_by ks test (r ∷ rs) a h =
@@ -120,7 +117,7 @@ module _ (rising : AscendingIsInOrder) (p : PlanData) (i : InputData) (cut : Lis
   entry_ok q a e =
       let x = left p i cut q a h.input h.belongs (sym (h.windows q) ∙ e) in
       let one = holder IsWide p q read a wide x.made in
-      let key = same_number (at p.window.key one.0) q.key (and_parts _ _ one.1.0).0 in
+      let key = (Decides-int_eq (at p.window.key one.0) q.key).0 (and_parts _ _ one.1.0).0 in
       let numbers = numbers_of p.window.aggregates (records_of p.window q passed) a x.made (All-filter (is_at p.window q) IsWide passed (All-filter (passes p.filters) IsWide read wide)) in (
         pane_ok q (start_fits q.start (starts_within p.window q.start h.plan.window x.reached)) (ap is_i64 (sym key) ∙ at_fits p.window.key one.0 one.1.1),
         counted_entry (map kind_of p.window.aggregates) a.count a.numbers numbers.0 x.few numbers.1,

@@ -4,7 +4,7 @@ use Rattle.std.specs.Prelude.{bytes_eq, position, slice_index_or, ◌==◌}
 use Rattle.std.specs.Option.{option_map_or}
 use Rattle.std.specs.List.{find, list_all, list_any, position_or_len, zip}
 use Rattle.std.specs.Cmp.Lexicographic.{nat_list_eq_equiv, bytes_decides}
-use Rattle.std.proofs.lemmas.Bool.{and_from, and_parts, cases_Bool, eq-eqb, lt-ltb, not-true}
+use Rattle.std.proofs.lemmas.Bool.{and_from, and_parts, or_parts, cases_Bool, eq-eqb, lt-ltb, not-true}
 use Rattle.std.proofs.lemmas.List.{get_or-map, get_or_append_left, length-map, same_lists}
 use Rattle.std.proofs.lemmas.List.Elements.{All-map}
 use Rattle.std.proofs.lemmas.List.Sums.{list_all-from_AllPass, position_or_len_is}
@@ -24,14 +24,10 @@ use Rattle.gather.specs.Saved.{partitions_under, saved_source, source_uids}
 
 -- ---- distinct uids
 
-neither : (a b : Bool) → (a || b) ≡ false → (a ≡ false) × (b ≡ false)
-neither true b h = absurd cc
-neither false b h = (refl, h)
-
 other : (u : List ℕ) (us : List (List ℕ)) → list_any (bytes_eq u) us ≡ false → (k : ℕ) → k < length us → bytes_eq u (get_or us k []) ≡ false
 other u [] h k l = absurd (omega (arith, l))
-other u (v ∷ us) h zero l = (neither (bytes_eq u v) (list_any (bytes_eq u) us) h).0
-other u (v ∷ us) h (suc k) l = other u us (neither (bytes_eq u v) (list_any (bytes_eq u) us) h).1 k (omega (arith, l))
+other u (v ∷ us) h zero l = (or_parts (bytes_eq u v) (list_any (bytes_eq u) us) h).0
+other u (v ∷ us) h (suc k) l = other u us (or_parts (bytes_eq u v) (list_any (bytes_eq u) us) h).1 k (omega (arith, l))
 
 apart : (us : List (List ℕ)) → are_distinct us ≡ true → (j k : ℕ) → j < k → k < length us → bytes_eq (get_or us k []) (get_or us j []) ≡ false
 apart [] h j k l m = absurd (omega (arith, m))

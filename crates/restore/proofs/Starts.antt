@@ -2,8 +2,8 @@
 use Rattle.std.proofs.Common.{◌≡◌, ℕ, ◌≤◌, ◌^◌, ℤ, true, false, List, [], ◌∷◌, drop, length, map, get_or, Ok, refl, sym, ap, ◌∙◌, arith}
 use Rattle.std.specs.Prelude.{◌==◌}
 use Rattle.std.specs.List.{All, AllZip, list_all, zip}
-use Rattle.std.specs.Ordering.{int_eq}
 use Rattle.std.proofs.lemmas.Bool.{eqb-true, leb-true, and_parts}
+use Rattle.std.proofs.lemmas.Bool.Decides.{Decides-int_eq}
 use Rattle.std.proofs.lemmas.Int.{ints}
 use Rattle.std.proofs.lemmas.List.Sums.{AllPass-from_list_all}
 use Rattle.answers.proofs.Facts.{met_first}
@@ -38,9 +38,6 @@ use Rattle.restore.proofs.Windows.{starts_within}
 
 -- ---- how far each partition was read
 
-same_number : (a b : ℤ) → int_eq a b ≡ true → a ≡ b
-same_number a b h = grind (arith, ints)
-
 fits_in : (ps : List SavedPartition) (es : List (List Entry)) → length ps ≡ length es → list_all is_within (zip ps es) ≡ true → AllZip (λ e n. n ≤ length e) es (map (λ p. p.offset) ps)
 fits_in [] [] l h = tt
 fits_in [] (e ∷ es) l h = absurd (omega (arith, l))
@@ -63,7 +60,7 @@ marks_in [] (e ∷ es) l h = absurd (omega (arith, l))
 marks_in (p ∷ ps) [] l h = absurd (omega (arith, l))
 marks_in (p ∷ ps) (e ∷ es) l h =
     let parts = and_parts (is_watermark (p, e)) (list_all is_watermark (zip ps es)) h in
-    let mark : p.watermark ≡ partition_watermark e p.offset = same_number p.watermark (partition_watermark e p.offset) parts.0 in
+    let mark : p.watermark ≡ partition_watermark e p.offset = (Decides-int_eq p.watermark (partition_watermark e p.offset)).0 parts.0 in
     let rest = marks_in ps es (omega (arith, l)) parts.1 in
     λ j. record { offset = p.offset; watermark = mark j } ∷ rest j
 
