@@ -2,15 +2,12 @@
 use Rattle.std.proofs.Common.{◌≡◌, ◌∙◌, Bool, true, false, Result, Ok, Err, IsErr, IsErrAnd, refl, sym, ap, subst, inl, inr}
 use Rattle.std.specs.Prelude.{◌⊎◌}
 use Rattle.answers.specs.Answer.{unless, Fails}
-use Rattle.logical_plan.specs.Answer.{plan_of_bytes}
 use Rattle.logical_plan.specs.Answer as plans
 use Rattle.logical_plan.specs.declared.fault.PlanFault.{PlanFault}
 use Rattle.logical_plan.specs.declared.fault.PlanFault.TheVariants as plan
-use Rattle.input_texts.specs.Answer.{input_of_bytes}
 use Rattle.input_texts.specs.Answer as inputs
 use Rattle.input_texts.specs.declared.fault.InputFault.{InputFault}
 use Rattle.input_texts.specs.declared.fault.InputFault.TheVariants as input
-use Rattle.plan_scale.specs.Answer.{scale_of_bytes}
 use Rattle.plan_scale.specs.Answer as scales
 use Rattle.layout_rules.specs.declared.fault.ScaleFault.{ScaleFault}
 use Rattle.layout_rules.specs.declared.fault.ScaleFault.TheVariants as scale

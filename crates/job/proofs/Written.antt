@@ -1,5 +1,5 @@
 -- What a run without legs has written.
-use Rattle.std.proofs.Common.{◌≡◌, ℕ, List, Option, Some, None, Result, Ok, Err, MatchResult, OnOk, sym, subst}
+use Rattle.std.proofs.Common.{◌≡◌, ℕ, List, Option, None, Result, Ok, Err, MatchResult, OnOk, sym, subst}
 use Rattle.std.specs.Io.KnownBytes.{Appends}
 use Rattle.plan_model.specs.PlanData.{PlanData}
 use Rattle.logical_plan.specs.Answer.{plan_of_bytes}

@@ -1,5 +1,5 @@
 -- A text that meets every requirement is a plan's.
-use Rattle.std.proofs.Common.{FitsSigned, ◌≡◌, ℕ, ◌<◌, ◌≤◌, ℤ, pos, negsuc, neg_ℤ, ◌*ℤ◌, ◌≤ℤ◌, ◌<ℤ◌, Bool, true, false, cond, ◌&&◌, List, map, length, get_or, ◌++◌, [], ◌∷◌, Option, None, Some, refl, ap, sym, ◌∙◌, arith}
+use Rattle.std.proofs.Common.{FitsSigned, ◌≡◌, ℕ, ◌<◌, ◌≤◌, ℤ, pos, negsuc, neg_ℤ, ◌*ℤ◌, ◌≤ℤ◌, ◌<ℤ◌, Bool, true, false, ◌&&◌, List, map, length, get_or, ◌++◌, [], ◌∷◌, None, refl, ap, sym, ◌∙◌, arith}
 use Rattle.std.specs.Int.{w64}
 use Rattle.std.specs.Prelude.{unsigned_abs, int_lt, int_le, nat_le}
 use Rattle.std.specs.List.{All, list_all}
@@ -21,8 +21,7 @@ use Rattle.logical_plan.specs.declared.text.FilterText.{FilterText}
 use Rattle.logical_plan.specs.declared.text.AggregateText.{AggregateText}
 use Rattle.logical_plan.specs.declared.text.AggregateText.TheVariants as text
 use Rattle.logical_plan.specs.declared.text.PlanText.{PlanText}
-use Rattle.logical_plan.specs.declared.fault.PlanFault.{PlanFault}
-use Rattle.plan_model.specs.PlanData.{PlanData, IsPlan, IsWindow, has_column, uids}
+use Rattle.plan_model.specs.PlanData.{IsPlan, IsWindow, has_column, uids}
 use Rattle.logical_plan.specs.Requirements.{is_aggregate_of, text_uids, requirements, has_columns, has_column_indices, has_max, has_sources, has_partitions, has_uids, has_distinct_uids, has_filters, has_size, has_slide, has_offset, has_panes, has_aggregates}
 use Rattle.logical_plan.specs.Answer.{source_data, filter_data, aggregate_data, having_data, plan_data}
 

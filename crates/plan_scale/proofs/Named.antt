@@ -1,21 +1,20 @@
 -- The members of a document by their names.
-use Rattle.std.proofs.Common.{◌≡◌, ℕ, ℤ, suc, ◌+◌, Bool, true, false, ◌&&◌, ◌||◌, not, min, pos, cond, map, length, List, [], ◌∷◌, Option, Some, None, option_map, is_some, string_bytes, refl, ap, ◌∙◌, ltb, inl, inr, arith}
+use Rattle.std.proofs.Common.{◌≡◌, ℕ, ℤ, suc, ◌+◌, Bool, true, false, ◌&&◌, not, min, pos, cond, length, List, [], ◌∷◌, Some, None, is_some, refl, ◌∙◌, ltb, inl, inr, arith}
 use Rattle.std.proofs.lemmas.Bool.{cases_Bool, and_parts}
 use Rattle.std.proofs.lemmas.Int.{ints}
 use Rattle.std.proofs.lemmas.Bool.Decides.{nat_tests}
 use Rattle.std.specs.Prelude.{bytes_eq}
-use Rattle.std.specs.Option.{option_map_or}
-use Rattle.std.specs.List.{list_all, list_any, find, position, prefix_len}
+use Rattle.std.specs.List.{list_all, list_any, position, prefix_len}
 use Rattle.std.proofs.lemmas.List.Folds.{list_all-append, list_all-map}
 use Rattle.plan_model.specs.declared.spec.SourceSpec.{SourceSpec}
 use Rattle.plan_model.specs.declared.spec.FilterSpec.{FilterSpec}
-use Rattle.plan_model.specs.PlanData.{PlanData, uids}
+use Rattle.plan_model.specs.PlanData.{PlanData}
 use Rattle.json_parts.specs.Tests.{is_within}
 use Rattle.key_groups.specs.declared.limits.TheConstants.{MOST_SUBTASKS}
 use Rattle.plan_scale.specs.declared.text.OperatorText.{OperatorText}
 use Rattle.plan_scale.specs.declared.text.ScaleText.{ScaleText}
 use Rattle.plan_scale.specs.Said.{one_subtask, operator_under}
-use Rattle.plan_scale.specs.Requirements.{has_known_uids, has_all_uids, has_parallelism}
+use Rattle.plan_scale.specs.Requirements.{has_all_uids, has_parallelism}
 
 and_true : (a : Bool) → (a && true) ≡ a
 and_true true = refl

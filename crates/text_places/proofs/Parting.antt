@@ -1,7 +1,7 @@
 -- Values of a list or an object that are found one after another.
-use Rattle.std.proofs.Common.{◌≡◌, ℕ, List, [], ◌∷◌, ◌++◌, drop, true, Some, slice_get, All, subst, sym}
+use Rattle.std.proofs.Common.{◌≡◌, List, [], ◌∷◌, ◌++◌, All, subst, sym}
 use Rattle.std.proofs.lemmas.List.Elements.{All-push}
-use Rattle.text_places.specs.Parts.{IsPartOf, level_at, is_beginning}
+use Rattle.text_places.specs.Parts.{IsPartOf}
 use Rattle.text_places.specs.declared.spot.Spot.{Spot}
 use Rattle.text_places.specs.declared.part.Part.{Part}
 

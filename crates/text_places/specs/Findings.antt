@@ -1,5 +1,5 @@
 -- What is found in a text.
-use Rattle.std.specs.Prelude.{ℕ, ◌==◌, ◌≤◌, ◌++◌, ◌∷◌, [], List, All, nat_lt, length, min, if◌then◌else◌}
+use Rattle.std.specs.Prelude.{ℕ, ◌≤◌, ◌++◌, ◌∷◌, [], List, All, nat_lt, length, if◌then◌else◌}
 use Rattle.text_places.specs.declared.finding.Finding.{Finding}
 
 -- the length of the text in bytes, and the places that were found

@@ -1,4 +1,4 @@
-use Rattle.std.proofs.Common.{◌≡◌, ◌∙◌, Ok, Some, ap, subst, sym, string_bytes, length}
+use Rattle.std.proofs.Common.{◌≡◌, ◌∙◌, Ok, Some, ap, subst, string_bytes, length}
 use Rattle.leg_lists.specs.Answer as lists
 use Rattle.leg_lists.specs.ChoicesText.{choices_of_bytes}
 use Rattle.job_texts.specs.Fault.{leg_fault}

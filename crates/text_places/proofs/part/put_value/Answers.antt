@@ -1,4 +1,4 @@
-use Rattle.std.proofs.Common.{◌≡◌, sym, ◌∙◌, arith, List, [], ◌∷◌, ◌++◌, drop, true, Some, slice_get}
+use Rattle.std.proofs.Common.{◌≡◌, sym, ◌∙◌, arith, drop, true, Some, slice_get}
 use Rattle.std.proofs.lemmas.Grind.{common_steps}
 use Rattle.std.proofs.lemmas.Option.{slice_get-get_or}
 use Rattle.json.specs.declared.token.Token.TheVariants.{BeginObject}

@@ -1,5 +1,4 @@
 use Rattle.std.proofs.Common.{◌≡◌, ◌≤◌, ◌∷◌, ◌++◌, [], length, arith}
-use Rattle.json.specs.Reads.{token_of}
 use Rattle.text_places.specs.declared.spot.Spot.{Spot}
 use Rattle.text_places.proofs.Reading.{read_on, inside_on}
 use Rattle.text_places.proofs.spot.spots_of.Goals as goal

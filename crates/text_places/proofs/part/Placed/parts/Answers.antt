@@ -1,4 +1,4 @@
-use Rattle.std.proofs.Common.{ap, List}
+use Rattle.std.proofs.Common.{ap}
 use Rattle.text_places.proofs.part.Placed.parts.Goals as goal
 use Rattle.text_places.proofs.part.Placed.parts.Goals.{else-loop-i-test, then-loop-i-test+in_ok-put_value+then-depth-eq0}
 
