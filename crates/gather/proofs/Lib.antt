@@ -3,6 +3,7 @@ mod Windows
 mod Ranges
 mod Owned
 mod Spelled
+mod Partitions
 mod RecordLength
 mod Whole
 mod Spread

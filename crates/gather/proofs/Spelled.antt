@@ -128,7 +128,7 @@ sources_fit p sources us some few s n =
     counted_fits (few_field 8) source_after (map (saved_source p sources) us) (few_fits 8 _ (omega arith) (omega (arith, long, some)) (omega (arith, long, few))) (sources_link p sources us None tt s n)
 
 -- the uids in order are those of the sources
-or_true : (a b : Bool) → b ≡ true → (a || b) ≡ true
+pub or_true : (a b : Bool) → b ≡ true → (a || b) ≡ true
 or_true true b h = refl
 or_true false b h = h
 

@@ -1,14 +1,12 @@
 -- Tasks that have come to a cut leave its savepoint.
-use Rattle.std.proofs.Common.{◌≡◌, ℕ, zero, suc, ◌+◌, ◌<◌, ◌≤◌, pos, List, [], ◌∷◌, ◌++◌, Bool, true, false, cond, ◌&&◌, ◌||◌, length, map, get_or, Option, Some, None, refl, sym, ap, subst, ◌∙◌, inl, inr, arith, if◌then◌else◌}
+use Rattle.std.proofs.Common.{◌≡◌, ℕ, zero, suc, ◌+◌, ◌<◌, ◌≤◌, pos, List, [], ◌∷◌, ◌++◌, Bool, true, cond, ◌&&◌, ◌||◌, length, map, get_or, None, refl, sym, ap, subst, ◌∙◌, inl, inr, arith, if◌then◌else◌}
 use Rattle.std.specs.Prelude.{slice_index, slice_index_or, ◌==◌}
 use Rattle.std.specs.FinMap.{entries, get, get-entries, get-from_entries, find as find_pane}
-use Rattle.std.specs.List.{All, AllZip, find, flat_map, list_any, range_with_len}
-use Rattle.std.specs.Option.{option_map_or}
-use Rattle.std.specs.Ordering.{eq_by_cmp}
+use Rattle.std.specs.List.{All, flat_map, list_any, range_with_len}
 use Rattle.std.proofs.lemmas.Bool.{cases_eq, cases_Bool, cases_lt, eq-eqb, ne_eqb, eqb-true}
 use Rattle.std.proofs.Math.ListN.{get_or-map}
 use Rattle.std.proofs.lemmas.List.{length-map}
-use Rattle.std.proofs.lemmas.List.Elements.{All-nil, All-append}
+use Rattle.std.proofs.lemmas.List.Elements.{All-nil}
 use Rattle.std.proofs.lemmas.List.FromFn.{length-map-range_with_len, get_or-map-range_with_len, fill_by_all}
 use Rattle.plan_model.specs.declared.spec.Pane.{Pane}
 use Rattle.plan_model.specs.Aggregates.{Aggregated}
@@ -43,61 +41,18 @@ use Rattle.dataflow_laws.specs.Legs.{AreAt, HaveMarks}
 use Rattle.dataflow_laws.specs.Inputs.{HaveCut}
 use Rattle.dataflow_laws.specs.Compiled.{layout_to}
 use Rattle.savepoint_codec.specs.declared.savepoint.SavedPartition.{SavedPartition}
-use Rattle.redistribute.specs.declared.task_start.PartitionStart.{PartitionStart}
 use Rattle.redistribute.specs.declared.task_start.TaskStart.{TaskStart}
 use Rattle.redistribute.specs.declared.task_start.TaskStart.TheVariants.{Chain}
-use Rattle.redistribute.specs.Snapshots.{saved_partition, saved_source, saved_sources}
+use Rattle.redistribute.specs.Snapshots.{saved_partition, saved_sources}
 use Rattle.redistribute.specs.Parts.{at_first, partitions_in, start_of_role, with_windows}
-use Rattle.redistribute.proofs.Facts.{known, early, places, saved_there}
+use Rattle.redistribute.proofs.Facts.{known, early, places, saved_there, shaped, found_in, one_from}
+use Rattle.gather.proofs.Facts.{or_true, any_from, all_from, found_good}
 use Rattle.gather.specs.Saved.{savepoint_of}
 use Rattle.gather.specs.Parts.{panes_in, part_at as part_of_task, is_reader, starts_at, starts_of, saved_start, partition_in, source_in, sources_in, windows_in}
 use Rattle.leg_tasks.specs.Leaving.{start_left, starts_left, part_at, parts_left, part_left, all_left, savepoint_left}
 use Rattle.leg_tasks.specs.Saved.{IsSavedAt, TasksSaveTheCut}
 
 -- ---- what is found in some parts
-
-abbrev either : {X : Type 0} → Option X → Option X → Option X
-either None y = y
-either (Some x) y = Some x
-
-either_none : {X : Type 0} (o : Option X) → either o None ≡ o
-either_none None = refl
-either_none (Some x) = refl
-
-either_test : {X : Type 0} (b : Bool) (x : X) (y z : Option X) → cond b (Some x) (either y z) ≡ either (cond b (Some x) y) z
-either_test true x y z = refl
-either_test false x y z = refl
-
-module _ (q : Pane) where
-  abbrev Found : List Part → Option Aggregated
-  Found parts = find_pane pane_cmp q (entries_of_parts parts)
-
-  found_in_both : (xs ys : List Part) → Found (xs ++ ys) ≡ either (Found xs) (Found ys)
-  found_in_both [] ys = refl
-  found_in_both (x ∷ xs) ys = ap (cond (eq_by_cmp pane_cmp q x.pane) (Some x.acc.total)) (found_in_both xs ys) ∙ either_test (eq_by_cmp pane_cmp q x.pane) x.acc.total (Found xs) (Found ys)
-
-  none_from : (f : ℕ → List Part) (a n : ℕ) → ((t : ℕ) → a ≤ t → t < a + n → Found (f t) ≡ None) → Found (flat_map f (range_with_len a n)) ≡ None
-  none_from f a zero h = refl
-  none_from f a (suc n) h =
-      found_in_both (f a) (flat_map f (range_with_len (a + 1) n))
-      ∙ ap (λ o. either o (Found (flat_map f (range_with_len (a + 1) n)))) (h a (omega arith) (omega arith))
-      ∙ none_from f (a + 1) n (λ t l m. h t (omega (arith, l)) (omega (arith, m)))
-
-  -- it stands in one of them alone
-  one_from : (f : ℕ → List Part) (a n o : ℕ) (x : Option Aggregated) → a ≤ o → o < a + n → ((t : ℕ) → a ≤ t → t < a + n → Found (f t) ≡ (if o == t then x else None)) → Found (flat_map f (range_with_len a n)) ≡ x
-  one_from f a zero o x l m h = absurd (omega (arith, l, m))
-  one_from f a (suc n) o x l m h =
-      let rest = flat_map f (range_with_len (a + 1) n) in
-      found_in_both (f a) rest
-      ∙ elim (cases_eq o a) [
-        | inl e ↦
-            (let first : Found (f a) ≡ x = h a (omega arith) (omega arith) ∙ (let d = eq-eqb o a e in ap (λ b. if b then x else None) d) in
-            let none : Found rest ≡ None = none_from f (a + 1) n (λ t y z. h t (omega (arith, y)) (omega (arith, z)) ∙ (let d = ne_eqb o t (λ w. absurd (omega (arith, w, e, y))) in ap (λ b. if b then x else None) d)) in
-            ap (either (Found (f a))) none ∙ either_none (Found (f a)) ∙ first)
-        | inr ne ↦
-            (let first : Found (f a) ≡ None = h a (omega arith) (omega arith) ∙ (let d = ne_eqb o a ne in ap (λ b. if b then x else None) d) in
-            ap (λ y. either y (Found rest)) first ∙ one_from f (a + 1) n o x (omega (arith, l, ne)) (omega (arith, m)) (λ t y z. h t (omega (arith, y)) (omega (arith, z))))
-      ]
 
 entries_left : (kinds : List Kind) (es : List (Pane × Aggregated)) → entries_of_parts (map (part_at kinds) es) ≡ es
 entries_left kinds [] = refl
@@ -112,10 +67,6 @@ panes_of_all f (t ∷ ts) = ap (λ (xs : List Part). panes_in (f t) ++ xs) (pane
 
 -- ---- what is found of a partition
 
-or_true : (x y : Bool) → y ≡ true → (x || y) ≡ true
-or_true true y e = refl
-or_true false y e = e
-
 any_at : {X : Type 0} (test : X → Bool) (f : ℕ → X) (a n k : ℕ) → a ≤ k → k < a + n → test (f k) ≡ true → list_any test (map f (range_with_len a n)) ≡ true
 any_at test f a zero k l m h = absurd (omega (arith, l, m))
 any_at test f a (suc n) k l m h =
@@ -124,37 +75,9 @@ any_at test f a (suc n) k l m h =
       | inr ne ↦ or_true (test (f a)) _ (any_at test f (a + 1) n k (omega (arith, l, ne)) (omega (arith, m)) h)
     ]
 
-any_in_both : {X : Type 0} (test : X → Bool) (xs ys : List X) → list_any test (xs ++ ys) ≡ (list_any test xs || list_any test ys)
-any_in_both test [] ys = refl
-any_in_both test (x ∷ xs) ys = elim (test x) as (λ b. (b || list_any test (xs ++ ys)) ≡ ((b || list_any test xs) || list_any test ys)) [ true ↦ refl | false ↦ any_in_both test xs ys ]
-
-any_from : {X : Type 0} (test : X → Bool) (f : ℕ → List X) (a n t : ℕ) → a ≤ t → t < a + n → list_any test (f t) ≡ true → list_any test (flat_map f (range_with_len a n)) ≡ true
-any_from test f a zero t l m h = absurd (omega (arith, l, m))
-any_from test f a (suc n) t l m h =
-    any_in_both test (f a) (flat_map f (range_with_len (a + 1) n))
-    ∙ elim (cases_eq t a) [
-      | inl e ↦ ap (λ b. b || list_any test (flat_map f (range_with_len (a + 1) n))) (ap (λ y. list_any test (f y)) (sym e) ∙ h)
-      | inr ne ↦ or_true (list_any test (f a)) _ (any_from test f (a + 1) n t (omega (arith, l, ne)) (omega (arith, m)) h)
-    ]
-
 -- a partition at a place of a source, as a cut leaves it
 abbrev saved_there_of : List (List (List Entry)) → List (List ℕ) → ℕ → ℕ → SavedPartition
 saved_there_of sources cut x k = saved_partition (partition_at sources x k) (count_at cut x k)
-
--- where all that stands in a list is as the cut leaves it, so is what is found
-found_good : (want : ℕ → SavedPartition) (k : ℕ) (xs : List PartitionStart) → All (λ b. saved_start b ≡ want b.partition) xs → list_any (λ b. b.partition == k) xs ≡ true → partition_in xs k ≡ want k
-found_good want k [] h some = absurd cc
-found_good want k (b ∷ bs) h some =
-    elim (cases_Bool (b.partition == k)) [
-      | inl e ↦ ap (λ t. option_map_or saved_start (if t then Some b else find (λ x. x.partition == k) bs) at_first) e ∙ h 0 b (omega arith) ∙ ap want (eqb-true b.partition k e)
-      | inr e ↦
-          ap (λ t. option_map_or saved_start (if t then Some b else find (λ x. x.partition == k) bs) at_first) e
-          ∙ found_good want k bs (λ j d l. h (suc j) d (omega (arith, l))) (sym (ap (λ t. t || list_any (λ x. x.partition == k) bs) e) ∙ some)
-    ]
-
-all_from : {X : Type 0} (P : X → Type 0) (f : ℕ → List X) (a n : ℕ) → ((t : ℕ) → a ≤ t → t < a + n → All P (f t)) → All P (flat_map f (range_with_len a n))
-all_from P f a zero h = All-nil P
-all_from P f a (suc n) h = All-append P (f a) (flat_map f (range_with_len (a + 1) n)) (h a (omega arith) (omega arith)) (all_from P f (a + 1) n (λ t l m. h t (omega (arith, l)) (omega (arith, m))))
 
 all_places : {X : Type 0} (P : X → Type 0) (f : ℕ → X) (n : ℕ) → ((k : ℕ) → k < n → P (f k)) → All P (map f (range_with_len 0 n))
 all_places P f n h k d l =
@@ -244,18 +167,6 @@ module _ (p : PlanData) (c : ScaleData) (i : InputData) (leg : Leg) (ip : IsPlan
         any_from (λ b. b.partition == k) (starts_at S parts x) 0 (task_count S) t (omega arith) (omega (arith, here))
         (ap (list_any (λ b. b.partition == k)) starts ∙ any_at (λ b. b.partition == k) (start_left (mine t) (states t)) 0 (length (mine t)) place (omega arith) (omega (arith, few)) (eq-eqb (slice_index (mine t) place) k number_is))
 
-    saved_in_source : (es : List (List Entry)) (ns : List ℕ) → AllZip (λ e n. n ≤ length e) es ns → length (saved_source es ns) ≡ length es
-    saved_in_source [] [] h = refl
-    saved_in_source [] (n ∷ ns) h = absurd h
-    saved_in_source (e ∷ es) [] h = absurd h
-    saved_in_source (e ∷ es) (n ∷ ns) h = ap suc (saved_in_source es ns h.1)
-
-    shaped : (ss : List (List (List Entry))) (cs : List (List ℕ)) → IsCut ss cs → map (λ ps. length ps) (saved_sources ss cs) ≡ map (λ es. length es) ss
-    shaped [] [] h = refl
-    shaped [] (c ∷ cs) h = absurd h
-    shaped (s ∷ ss) [] h = absurd h
-    shaped (s ∷ ss) (c ∷ cs) h = λ j. saved_in_source s c h.0 j ∷ shaped ss cs h.1 j
-
     source_is : (x : ℕ) → x < length i.sources → source_in p S parts x ≡ get_or (saved_sources i.sources cut) x []
     source_is x l =
         let saved = get_or (saved_sources i.sources cut) x [] in
@@ -274,7 +185,7 @@ module _ (p : PlanData) (c : ScaleData) (i : InputData) (leg : Leg) (ip : IsPlan
 
   -- a task without windows has none
   none_at : (q : Pane) (t : ℕ) (r : Role) → (r ≡ role.Window → ⊥) → (L.owner q.key ≡ t → ⊥)
-      → Found q (panes_in (with_windows (parts_left kinds (states t).windows) (start_of_role r (starts_left (mine t) (states t))))) ≡ (if L.owner q.key == t then snapshot p i.sources cut q else None)
+      → found_in q (panes_in (with_windows (parts_left kinds (states t).windows) (start_of_role r (starts_left (mine t) (states t))))) ≡ (if L.owner q.key == t then snapshot p i.sources cut q else None)
   none_at q t role.Source nw ne = sym (let d = ne_eqb (L.owner q.key) t ne in ap (λ b. if b then snapshot p i.sources cut q else None) d)
   none_at q t role.Chain nw ne = sym (let d = ne_eqb (L.owner q.key) t ne in ap (λ b. if b then snapshot p i.sources cut q else None) d)
   none_at q t role.Window nw ne = absurd (nw refl)
@@ -291,11 +202,11 @@ module _ (p : PlanData) (c : ScaleData) (i : InputData) (leg : Leg) (ip : IsPlan
 
   -- what stands in a pane is with the owner of its key
   by_task : AtOwners L (λ u. (states u).windows) (snapshot p i.sources cut) → (q : Pane) (t : ℕ) → t < task_count S → (r : Role) → task_role S t ≡ r
-      → Found q (panes_in (with_windows (parts_left kinds (states t).windows) (start_of_role r (starts_left (mine t) (states t))))) ≡ (if L.owner q.key == t then snapshot p i.sources cut q else None)
+      → found_in q (panes_in (with_windows (parts_left kinds (states t).windows) (start_of_role r (starts_left (mine t) (states t))))) ≡ (if L.owner q.key == t then snapshot p i.sources cut q else None)
   by_task owned q t l r h = elim (cases_lt t L.before) [
     | inl y ↦ none_at q t r (not_window t r h y) (λ e. let o = laid.0.owner_window q.key in absurd (omega (arith, e, o, y)))
     | inr y ↦ elim (cases_lt t L.sink) [
-      | inl z ↦ ap (λ x. Found q (panes_in (with_windows (parts_left kinds (states t).windows) (start_of_role x (starts_left (mine t) (states t)))))) (sym h ∙ laid.0.roles_window t y z) ∙ found_left kinds (states t).windows q ∙ owned t y z q
+      | inl z ↦ ap (λ x. found_in q (panes_in (with_windows (parts_left kinds (states t).windows) (start_of_role x (starts_left (mine t) (states t)))))) (sym h ∙ laid.0.roles_window t y z) ∙ found_left kinds (states t).windows q ∙ owned t y z q
       | inr z ↦ none_at q t r (not_sink t r h (let e = last in omega (arith, l, z, e))) (λ e. let o = laid.0.owner_window q.key in absurd (omega (arith, e, o, z)))
     ]
   ]
@@ -305,7 +216,7 @@ module _ (p : PlanData) (c : ScaleData) (i : InputData) (leg : Leg) (ip : IsPlan
       let n = task_count S in
       let o = laid.0.owner_window q.key in
       get-from_entries pane_cmp_total (entries_of_parts (flat_map panes_in parts)) q
-      ∙ ap (Found q) (panes_of_all left (range_with_len 0 n))
+      ∙ ap (found_in q) (panes_of_all left (range_with_len 0 n))
       ∙ one_from q (λ t. panes_in (left t)) 0 n (L.owner q.key) (snapshot p i.sources cut q) (omega arith) (let z = last in omega (arith, z, o)) (λ t z l. by_task owned q t (omega (arith, l)) (task_role S t) refl)
 
 pub tasks_save_the_cut : TasksSaveTheCut
