@@ -1,12 +1,12 @@
 -- A savepoint that is accepted is the one of what its start says.
-use Rattle.std.proofs.Common.{◌≡◌, ℕ, zero, suc, ◌+◌, ◌<◌, ◌≤◌, Bool, true, false, cond, ◌&&◌, ◌||◌, List, [], ◌∷◌, ◌++◌, length, map, get_or, Option, Some, None, Ok, refl, sym, ap, subst, ◌∙◌, append_assoc, inl, inr, length-append, arith}
+use Rattle.std.proofs.Common.{◌≡◌, ℕ, zero, suc, ◌+◌, ◌<◌, ◌≤◌, Bool, true, false, cond, ◌||◌, List, [], ◌∷◌, ◌++◌, length, map, get_or, Option, Some, None, Ok, refl, sym, ap, subst, ◌∙◌, append_assoc, inl, inr, length-append, arith}
 use Rattle.std.specs.Prelude.{T, bytes_eq, nat_lt, position, slice_index_or, ◌==◌}
-use Rattle.std.specs.FinMap.{FinMap, from_entries, entries, entries_sorted, get-entries, get-from_entries, find as find_key}
-use Rattle.std.specs.FinMap.Entries.{is_sorted, below_all, where_key, is_sorted-where_key, find-where_key, same_entries}
+use Rattle.std.specs.FinMap.{entries, find as find_key}
+use Rattle.std.specs.FinMap.Entries.{is_sorted, where_key, same_entries}
 use Rattle.std.specs.List.{All, AllByRecursion, find, flat_map, list_all, list_any, position_or_len, range_with_len}
 use Rattle.std.specs.List.Sorted.{IsStrictlySortedBy}
 use Rattle.std.specs.Option.{option_map, option_map_or}
-use Rattle.std.specs.Ordering.{eq_by_cmp, is_lt, nat_cmp}
+use Rattle.std.specs.Ordering.{eq_by_cmp, nat_cmp}
 use Rattle.std.specs.Cmp.Lexicographic.{slice_cmp, nat_list_cmp_total, nat_list_eq_equiv, bytes_decides, texts_ties}
 use Rattle.std.specs.FinMap.{nat_cmp-IsAntisymmetric, slice_cmp-IsAntisymmetric}
 use Rattle.std.specs.declared.cmp.Ordering.{Ordering}
@@ -16,7 +16,7 @@ use Rattle.std.proofs.lemmas.List.{append-nil, length-map, map-append}
 use Rattle.std.proofs.lemmas.List.Elements.{filter-append}
 use Rattle.answers.proofs.Facts.{met_first, no_fault}
 use Rattle.byte_fields.specs.declared.fault.FieldFault.TheVariants.{Order, Range}
-use Rattle.byte_fields.specs.Format.{Format, before, where_it}
+use Rattle.byte_fields.specs.Format.{before, where_it}
 use Rattle.byte_fields.specs.Fields.{few_field, u16_field, u64_field}
 use Rattle.byte_fields.specs.Lists.{chain, counted}
 use Rattle.byte_fields.proofs.Exact.{both, counted-fits}
@@ -27,7 +27,6 @@ use Rattle.plan_model.specs.Aggregates.{Aggregated}
 use Rattle.plan_model.specs.PlanData.{PlanData}
 use Rattle.plan_model.specs.Rows.{pane_cmp}
 use Rattle.plan_model.specs.Uids.{uid_field}
-use Rattle.plan_model.proofs.Facts.{pane_cmp_total, pane_cmp-IsAntisymmetric}
 use Rattle.plan_record.specs.Laws.{AscendingIsInOrder}
 use Rattle.plan_record.specs.PlanRecord.{plan_record}
 use Rattle.aggregates.specs.declared.kind.Kind.{Kind}
@@ -35,8 +34,9 @@ use Rattle.aggregates.specs.Kinds.{kind_of}
 use Rattle.window_state.specs.declared.parts.Part.{Part}
 use Rattle.window_state.specs.Parts.{entries_of}
 use Rattle.savepoint_codec.specs.EntriesData.{EntryData}
-use Rattle.savepoint_codec.specs.Fields.{number_field, max_field, is_less, is_uid_after, partitions_field, source_field, source_after, sources_field, kinds_field, entry_after, entries_field, group_number, group_field, group_after, groups_field, is_number_after}
-use Rattle.savepoint_codec.specs.Layout.{IsSavepoint, savepoint_format, fields, window_fields, record_field}
+use Rattle.savepoint_codec.specs.Fields.{is_less, is_uid_after, partitions_field, source_field, source_after, sources_field, entry_after, entries_field, group_number, group_field, group_after, groups_field, is_number_after}
+use Rattle.savepoint_codec.specs.Layout.{IsSavepoint}
+use Rattle.savepoint_codec.proofs.Facts.{have_spellings}
 use Rattle.savepoint_codec.specs.declared.savepoint.Contents.{Contents}
 use Rattle.savepoint_codec.specs.declared.savepoint.SavedGroup.{SavedGroup}
 use Rattle.savepoint_codec.specs.declared.savepoint.SavedPartition.{SavedPartition}
@@ -50,37 +50,10 @@ use Rattle.restore.specs.Requirements.{are_kinds, has_max, has_known_uids, has_a
 use Rattle.restore.specs.Saved.{saved_under}
 use Rattle.restore.proofs.Facts.{kinds_in}
 use Rattle.restarts.specs.Laws.{AcceptedHaveGroups}
+use Rattle.restarts.proofs.Facts.{Rises, counted_rises, IsBelow, group_below}
+use Rattle.gather.proofs.Facts.{weaken, sorted, filtered}
 use Rattle.gather.specs.Laws.{HasGroups}
 use Rattle.gather.specs.Saved.{entries_in_group, is_in_group, partitions_under, saved_entry, saved_group, saved_groups, saved_source, savepoint_of, source_uids}
-
--- ---- a list in which each item fits behind the one before
-
--- each is related to all that follow
-abbrev Rises : {X : Type 0} → (X → X → Type 0) → List X → Type 0
-Rises P [] = Unit {0}
-Rises P (x ∷ xs) = AllByRecursion (P x) xs × Rises P xs
-
-weaken : {X : Type 0} (P Q : X → Type 0) (xs : List X) → ((x : X) → P x → Q x) → AllByRecursion P xs → AllByRecursion Q xs
-weaken P Q [] f h = tt
-weaken P Q (x ∷ xs) f h = (f x h.0, weaken P Q xs f h.1)
-
-module _ {X : Type 0} (item : Option X → Format X) (P : X → X → Type 0) (trans : (x y z : X) → P x y → P y z → P x z) (step : (x y : X) → (item (Some x)).fits y ≡ true → P x y) where
-  after : (x : X) (xs : List X) → (chain item (Some x) (length xs)).fits xs ≡ true → AllByRecursion (P x) xs
-  unfolding chain
-  after x [] h = tt
-  after x (y ∷ xs) h =
-      let parts = both ((item (Some x)).fits y) ((chain item (Some y) (length xs)).fits xs) h in
-      let one = step x y parts.0 in
-      (one, weaken (P y) (P x) xs (λ z. trans x y z one) (after y xs parts.1))
-
-  rises : (last : Option X) (xs : List X) → (chain item last (length xs)).fits xs ≡ true → Rises P xs
-  unfolding chain
-  rises last [] h = tt
-  rises last (x ∷ xs) h = let parts = both ((item last).fits x) ((chain item (Some x) (length xs)).fits xs) h in (after x xs parts.1, rises (Some x) xs parts.1)
-
-  counted_rises : (count : Format ℕ) (xs : List X) → (counted count item).fits xs ≡ true → Rises P xs
-  unfolding counted
-  counted_rises count xs h = rises None xs (both (count.fits (length xs)) ((chain item None (length xs)).fits xs) h).1
 
 -- ---- what the spelling of a savepoint says of its sources and key groups
 
@@ -89,9 +62,6 @@ uid_cmp = slice_cmp nat_cmp
 
 abbrev IsBefore : SavedSource → SavedSource → Type 0
 IsBefore x y = uid_cmp x.uid y.uid ≡ Less
-
-abbrev IsBelow : SavedGroup → SavedGroup → Type 0
-IsBelow g h = g.group < h.group
 
 less : (o : Ordering) → is_less o ≡ true → o ≡ Less
 less Less h = refl
@@ -117,13 +87,6 @@ some_entries kinds es h =
     ltb-true 0 (length es) (both (u64_field.fits (length es)) (nat_lt 0 (length es)) count.0).1
 
 module _ (max : ℕ) (kinds : List Kind) where
-  group_below : (g h : SavedGroup) → (group_after max kinds (Some g)).fits h ≡ true → IsBelow g h
-  unfolding group_field group_number
-  group_below g h fit =
-      let inner = both (h.entries.width == length kinds) ((before (group_number max (Some g.group)) (λ _. entries_field kinds)).fits (h.group, h.entries.entries)) fit in
-      let number = both ((group_number max (Some g.group)).fits h.group) ((entries_field kinds).fits h.entries.entries) inner.1 in
-      ltb-true g.group h.group (both ((where_it (λ n. nat_lt n max) Range u16_field).fits h.group) (is_number_after (Some g.group) h.group) number.0).1
-
   is_kept : (last : Option SavedGroup) (g : SavedGroup) → (group_after max kinds last).fits g ≡ true → IsKept max kinds g
   unfolding group_field group_number
   is_kept last g fit =
@@ -143,46 +106,14 @@ record IsSpelled (s : Contents) : Type 0 where
   kept : All (IsKept s.max s.kinds) s.groups
 
 is_spelled : (s : Contents) → IsSavepoint s → IsSpelled s
-unfolding savepoint_format fields window_fields sources_field groups_field
+unfolding sources_field groups_field
 is_spelled s h =
-    let a = both (number_field.fits s.number) _ h in
-    let b = both (record_field.fits s.plan_record) _ a.1 in
-    let d = both (max_field.fits s.max) _ b.1 in
-    let e = both (sources_field.fits s.sources) _ d.1 in
-    let f = both (uid_field.fits s.window_uid) _ e.1 in
-    let g = both (kinds_field.fits s.kinds) ((groups_field s.max s.kinds).fits s.groups) f.1 in
+    let fits = have_spellings s h in
     record {
-      sources = counted_rises source_after IsBefore (λ x y z. nat_list_cmp_total.trans x.uid y.uid z.uid) source_before (few_field 8) s.sources e.0;
-      groups = counted_rises (group_after s.max s.kinds) IsBelow (λ x y z l m. omega (arith, l, m)) (group_below s.max s.kinds) u16_field s.groups g.1;
-      kept = (counted-fits u16_field (group_after s.max s.kinds) (IsKept s.max s.kinds) (is_kept s.max s.kinds) s.groups g.1).1;
+      sources = counted_rises source_after IsBefore (λ x y z. nat_list_cmp_total.trans x.uid y.uid z.uid) source_before (few_field 8) s.sources fits.sources;
+      groups = counted_rises (group_after s.max s.kinds) IsBelow (λ x y z l m. omega (arith, l, m)) (group_below s.max s.kinds) u16_field s.groups fits.groups;
+      kept = (counted-fits u16_field (group_after s.max s.kinds) (IsKept s.max s.kinds) (is_kept s.max s.kinds) s.groups fits.groups).1;
     }
-
--- ---- entries in order
-
-and_t : (a b : Bool) → T a → T b → T (a && b)
-and_t true b p q = q
-and_t false b p q = p
-
-module _ {K X : Type 0} (R : K → K → Ordering) where
-  below : (x : K) (es : List (K × X)) → AllByRecursion (λ y. R x y ≡ Less) (map (λ e. e.0) es) → T (below_all R x es)
-  below x [] h = tt
-  below x (e ∷ es) h = and_t (is_lt (R x e.0)) (below_all R x es) (subst (λ r. T (is_lt r)) (sym h.0) tt) (below x es h.1)
-
-  sorted : (es : List (K × X)) → IsStrictlySortedBy R (map (λ e. e.0) es) → T (is_sorted R es)
-  unfolding IsStrictlySortedBy
-  sorted [] h = tt
-  sorted (e ∷ es) h = and_t (below_all R e.0 es) (is_sorted R es) (below e.0 es h.0) (sorted es h.1)
-
--- a map's entries that pass a test of their panes
-filtered : (p : Pane → Bool) (all : List (Pane × Aggregated)) → T (is_sorted pane_cmp (where_key pane_cmp p all)) → where_key pane_cmp p (entries (from_entries {R = pane_cmp} all)) ≡ where_key pane_cmp p all
-filtered p all h =
-    let m : FinMap pane_cmp Aggregated = from_entries all in
-    let alike : (q x : Pane) → pane_cmp q x ≡ Equal → p x ≡ p q = λ q x e. ap p (sym (pane_cmp-IsAntisymmetric q x e)) in
-    same_entries pane_cmp pane_cmp_total pane_cmp-IsAntisymmetric (where_key pane_cmp p (entries m)) (where_key pane_cmp p all) (is_sorted-where_key pane_cmp p (entries m) (entries_sorted m)) h
-    (λ q.
-    find-where_key pane_cmp p q (alike q) (entries m)
-    ∙ ap (λ o. cond (p q) o None) (sym (get-entries m q) ∙ get-from_entries pane_cmp_total all q)
-    ∙ sym (find-where_key pane_cmp p q (alike q) all))
 
 -- ---- the key groups
 

@@ -36,8 +36,8 @@ use Rattle.restarts.specs.Laws.{SnapshotsRestart}
 use Rattle.leg_tasks.specs.Saved.{IsSavedAt}
 use Rattle.core_steps.proofs.Delivered.{none_at_first}
 use Rattle.core_steps.proofs.Ending.{end_is_cut}
+use Rattle.savepoint_codec.proofs.Facts.{savepoint_exact}
 use Rattle.job_texts.specs.Text.{IsTextOf, line_of, text_of_rows}
-use Rattle.job_texts.specs.declared.fault.JobFault.{JobFault}
 use Rattle.job_texts.specs.declared.fault.JobFault.TheVariants.{Plan, Input, Scale, Save, Restore}
 use Rattle.job_legs.specs.Laws.{NothingDueAtFirst, RowsAddUp}
 use Rattle.job_legs.proofs.Facts.{before_end, come_to}
@@ -48,7 +48,6 @@ use Rattle.lineages.specs.Lineage.{ComesFrom}
 use Rattle.lineages.specs.Calls.{AreExactCalls, AreGivenAt, AreRead, Calls, CallsAreAnswered, CallsAreExact, IsAnswered, LegCall, SaidComesFrom, written}
 use Rattle.lineages.specs.Calls.Calls.{first, next}
 use Rattle.lineages.proofs.Exact.{bytes_restart}
-use Rattle.lineages.proofs.SavepointExact.{savepoint_exact}
 
 -- ---- what was said
 

@@ -1,6 +1,5 @@
 mod Exact
 mod Moments
-mod SavepointExact
 mod Calls
 mod Accepted
 mod Dealing

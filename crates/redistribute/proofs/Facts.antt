@@ -4,4 +4,4 @@ pub use Rattle.redistribute.proofs.Found.{or_none, find_in_both, found_in, one_f
 pub use Rattle.redistribute.proofs.Beginning.{offsets_in, shaped}
 pub use Rattle.redistribute.proofs.Owned.{has, owns}
 pub use Rattle.redistribute.proofs.Opened.{saved_there, tasks_open, tasks_have_snapshot, tasks_have_own_panes, no_saves}
-pub use Rattle.redistribute.proofs.Grouped.{open_within}
+pub use Rattle.redistribute.proofs.Grouped.{open_within, total_within}

@@ -26,7 +26,7 @@ use Rattle.gather.proofs.Facts.{weaken}
 -- ---- a list in which each item fits behind the one before
 
 -- each is related to all that follow
-abbrev Rises : {X : Type 0} → (X → X → Type 0) → List X → Type 0
+abbrev pub Rises : {X : Type 0} → (X → X → Type 0) → List X → Type 0
 Rises P [] = Unit {0}
 Rises P (x ∷ xs) = AllByRecursion (P x) xs × Rises P xs
 
@@ -44,7 +44,7 @@ module _ {X : Type 0} (item : Option X → Format X) (P : X → X → Type 0) (t
   rises last [] h = tt
   rises last (x ∷ xs) h = let parts = both ((item last).fits x) ((chain item (Some x) (length xs)).fits xs) h in (after x xs parts.1, rises (Some x) xs parts.1)
 
-  counted_rises : (count : Format ℕ) (xs : List X) → (counted count item).fits xs ≡ true → Rises P xs
+  pub counted_rises : (count : Format ℕ) (xs : List X) → (counted count item).fits xs ≡ true → Rises P xs
   unfolding counted
   counted_rises count xs h = rises None xs (both (count.fits (length xs)) ((chain item None (length xs)).fits xs) h).1
 
@@ -78,14 +78,14 @@ entries_ascend kinds es h = panes_rise es (counted_rises (entry_after kinds) IsL
 
 -- ---- key groups
 
-abbrev IsBelow : SavedGroup → SavedGroup → Type 0
+abbrev pub IsBelow : SavedGroup → SavedGroup → Type 0
 IsBelow g h = g.group < h.group
 
 abbrev Ascend : SavedGroup → Type 0
 Ascend g = IsStrictlySortedBy pane_cmp (map (λ e. e.pane) g.entries.entries)
 
 module _ (max : ℕ) (kinds : List Kind) where
-  group_below : (g h : SavedGroup) → (group_after max kinds (Some g)).fits h ≡ true → IsBelow g h
+  pub group_below : (g h : SavedGroup) → (group_after max kinds (Some g)).fits h ≡ true → IsBelow g h
   unfolding group_field group_number
   group_below g h fit =
       let inner = both (h.entries.width == length kinds) ((before (group_number max (Some g.group)) (λ _. entries_field kinds)).fits (h.group, h.entries.entries)) fit in

@@ -12,3 +12,4 @@ mod Checked
 mod Numbers
 mod Few
 mod Savepoints
+pub mod Facts
