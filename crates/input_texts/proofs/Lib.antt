@@ -4,6 +4,7 @@ mod Pairs
 mod Sources
 mod Replaced
 mod OrderedMembers
+mod UnknownNames
 mod NotedMembers
 mod NotedTexts
 mod Notings

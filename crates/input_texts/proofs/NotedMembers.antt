@@ -1,5 +1,5 @@
 -- What is noted of the members of a document, with one more.
-use Rattle.std.proofs.Common.{◌≡◌, ℕ, suc, ◌+◌, nat_lt, Bool, true, false, not, cond, ◌&&◌, ◌||◌, List, [], ◌∷◌, map, set, length, Option, Some, None, option_map, is_some, bytes_eq, nat_cmp, Ordering, Less, Equal, Greater, is_eq, refl, sym, ap, ◌∙◌, arith}
+use Rattle.std.proofs.Common.{◌≡◌, ℕ, suc, ◌+◌, ◌<◌, ◌≤◌, nat_lt, Bool, true, false, not, cond, ◌&&◌, ◌||◌, List, [], ◌∷◌, map, set, length, Option, Some, None, option_map, is_some, bytes_eq, nat_cmp, Ordering, Less, Equal, Greater, is_eq, refl, sym, ap, ◌∙◌, arith}
 use Rattle.std.proofs.lemmas.Bool.{and_parts, or_parts, not-false}
 use Rattle.std.proofs.lemmas.Bool.Decides.{nat_tests}
 use Rattle.std.proofs.lemmas.List.Folds.{list_any_at}
@@ -12,18 +12,19 @@ use Rattle.std.specs.String.{string_cmp}
 use Rattle.std.proofs.lemmas.Map.Text.{is_eq-slice_cmp}
 use Rattle.std.specs.BTreeSet.{insert_key}
 use Rattle.std.specs.Set.{remove_key}
-use Rattle.std.specs.List.{list_all, list_any, position, position_or_len}
+use Rattle.std.specs.List.{IsDistinct, list_all, list_any, position, position_or_len}
 use Rattle.std.specs.Option.{option_map_or}
 use Rattle.serde_json.specs.Data.{Data, Members, no_members, put}
 use Rattle.serde_json.specs.Find.{get_member}
 use Rattle.json_parts.specs.Parts.{names_of}
 use Rattle.plan_model.specs.declared.spec.SourceSpec.{SourceSpec}
 use Rattle.plan_model.specs.PlanData.{PlanData, IsPlan}
-use Rattle.input_texts.specs.Document.{Document, is_source, is_other, names_in, IsNoted}
+use Rattle.input_texts.specs.Document.{Document, is_source, is_other, names_in, unknown_names, IsNoted}
 use Rattle.input_texts.specs.Seen.{SourceSeen, slot_of}
 use Rattle.input_texts.proofs.Sources.{distinct_sources}
 use Rattle.input_texts.proofs.OrderedMembers.{ordered_put, named_put, got_after}
 use Rattle.input_texts.proofs.Replaced.{all_kept, one_replaced}
+use Rattle.input_texts.proofs.UnknownNames.{unknown_kept, one_more_unknown}
 
 -- ---- names, of which one is taken out and put in again
 
@@ -97,13 +98,14 @@ never : (b : Bool) → (b && false) ≡ false
 never true = refl
 never false = refl
 
-pub none_noted : (plan : PlanData) (document : Document) → document.slots.items ≡ map (λ (s : SourceSpec). None) plan.sources → (names_in document.names) ≡ [] → document.is_planned ≡ true → IsNoted plan no_members document
-none_noted plan document slots names planned = record {
+pub none_noted : (plan : PlanData) (document : Document) → document.slots.items ≡ map (λ (s : SourceSpec). None) plan.sources → (names_in document.names) ≡ [] → document.is_planned ≡ true → document.are_more ≡ false → (most : ℕ) → IsNoted plan most no_members document
+none_noted plan document slots names planned none_left most = record {
   ordered = refl;
   filled = slots;
   planned = planned;
   named = λ k h. absurd (let none : list_any (bytes_eq k) (names_in document.names) ≡ false = ap (list_any (bytes_eq k)) names in cc);
   told = λ all k h. absurd (let none = never (not (is_source plan k)) in cc);
+  many = λ more. absurd (cc);
 }
 
 -- ---- one more member
@@ -171,15 +173,25 @@ turned true false h = refl
 turned false true h = refl
 turned false false h = absurd (cc)
 
-module _ (plan : PlanData) (ms : Members) (old new : Document) (k : List ℕ) (d : Data) (source : Option SourceSeen) (i : IsNoted plan ms old) (says : source ≡ slot_of plan d) where
+own_out : (is_malformed : Bool) (k : List ℕ) (before : Bool) → cond (bytes_eq k k) (is_malformed && false) before ≡ false
+own_out is_malformed k before = rw ((bytes_eq-Decides k k).1 refl) (never is_malformed)
+
+other_in : (is_malformed b before : Bool) → cond b (is_malformed && false) before ≡ true → before ≡ true
+other_in is_malformed true before h = absurd (let none = never is_malformed in cc)
+other_in is_malformed false before h = h
+
+module _ (plan : PlanData) (most : ℕ) (ms : Members) (old new : Document) (k : List ℕ) (d : Data) (source : Option SourceSeen) (i : IsNoted plan most ms old) (says : source ≡ slot_of plan d) where
   abbrev v : SourceSpec → Option (Option SourceSeen)
   v s = option_map (slot_of plan) (get_member s.uid ms)
 
   abbrev w : SourceSpec → Option (Option SourceSeen)
   w s = option_map (slot_of plan) (get_member s.uid (put k d ms))
 
+  kept_many : most < length (unknown_names plan ms) → most < length (unknown_names plan (put k d ms))
+  kept_many h = let kept = unknown_kept plan k d ms in omega (arith, kept, h)
+
   pub source_put : (place : ℕ) → IsPlan plan → position (λ (s : SourceSpec). bytes_eq s.uid k) plan.sources ≡ Some place → new.slots.items ≡ set old.slots.items place (Some source) → (names_in new.names) ≡ (names_in old.names)
-      → new.is_planned ≡ old.is_planned → new.are_more ≡ old.are_more → IsNoted plan (put k d ms) new
+      → new.is_planned ≡ old.is_planned → new.are_more ≡ old.are_more → IsNoted plan most (put k d ms) new
   source_put place sound found slots names planned more =
       let any = some_source (λ (s : SourceSpec). bytes_eq s.uid k) plan.sources place found in
       let at_place = position-Some (λ (s : SourceSpec). bytes_eq s.uid k) plan.sources place any found in
@@ -192,7 +204,23 @@ module _ (plan : PlanData) (ms : Members) (old new : Document) (k : List ℕ) (d
         planned = planned ∙ i.planned ∙ sym (named_put (is_source plan) k d ms ∙ ap (λ b. b && list_all (is_source plan) (names_of ms)) known);
         named = λ j h. same j ∙ i.named j (sym (ap (list_any (bytes_eq j)) names) ∙ h);
         told = λ all j h. ap (list_any (bytes_eq j)) names ∙ i.told (sym more ∙ all) j (sym (same j) ∙ h);
+        many = λ more_left. kept_many (i.many (sym more ∙ more_left));
       }
+
+  full_many : (is_malformed : Bool) → is_source plan k ≡ false
+      → ((j : List ℕ) → list_any (bytes_eq j) (names_in new.names) ≡ cond (bytes_eq j k) (is_malformed && false) (list_any (bytes_eq j) (names_in old.names)))
+      → (most ≤ length (names_in new.names)) × IsDistinct bytes_eq (names_in new.names) → most < length (unknown_names plan (put k d ms))
+  full_many is_malformed unknown names full =
+      let apart : list_any (bytes_eq k) (names_in new.names) ≡ false = names k ∙ own_out is_malformed k (list_any (bytes_eq k) (names_in old.names)) in
+      let all = one_more_unknown plan k d ms (names_in new.names) unknown full.1 apart (λ j h. i.named j (other_in is_malformed (bytes_eq j k) (list_any (bytes_eq j) (names_in old.names)) (sym (names j) ∙ h))) in
+      omega (arith, all, full.0)
+
+  many_by : (is_malformed more has_room : Bool) → (more || not has_room) ≡ true → old.are_more ≡ more → is_source plan k ≡ false
+      → ((j : List ℕ) → list_any (bytes_eq j) (names_in new.names) ≡ cond (bytes_eq j k) (is_malformed && has_room) (list_any (bytes_eq j) (names_in old.names)))
+      → (has_room ≡ false → (most ≤ length (names_in new.names)) × IsDistinct bytes_eq (names_in new.names)) → most < length (unknown_names plan (put k d ms))
+  many_by is_malformed true has_room either before unknown names full = kept_many (i.many before)
+  many_by is_malformed false true either before unknown names full = absurd (cc)
+  many_by is_malformed false false either before unknown names full = full_many is_malformed unknown names (full refl)
 
   named_by : (has_room is_malformed b : Bool) (j : List ℕ) → is_source plan k ≡ false → is_malformed ≡ not (is_some (slot_of plan d)) → bytes_eq j k ≡ b → cond b (is_malformed && has_room) (list_any (bytes_eq j) (names_in old.names)) ≡ true
       → cond b (not (is_source plan j) && not (is_some (slot_of plan d))) (is_other plan ms j) ≡ true
@@ -211,8 +239,9 @@ module _ (plan : PlanData) (ms : Members) (old new : Document) (k : List ℕ) (d
 
   pub other_put : (has_room is_malformed : Bool) → is_source plan k ≡ false → is_malformed ≡ not (is_some source) → new.slots.items ≡ old.slots.items
       → ((j : List ℕ) → list_any (bytes_eq j) (names_in new.names) ≡ cond (bytes_eq j k) (is_malformed && has_room) (list_any (bytes_eq j) (names_in old.names)))
-      → new.is_planned ≡ false → new.are_more ≡ (old.are_more || not has_room) → IsNoted plan (put k d ms) new
-  other_put has_room is_malformed unknown form slots names planned more =
+      → new.is_planned ≡ false → new.are_more ≡ (old.are_more || not has_room)
+      → (has_room ≡ false → (most ≤ length (names_in new.names)) × IsDistinct bytes_eq (names_in new.names)) → IsNoted plan most (put k d ms) new
+  other_put has_room is_malformed unknown form slots names planned more full =
       let is : is_malformed ≡ not (is_some (slot_of plan d)) = form ∙ ap (λ o. not (is_some o)) says in
       record {
         ordered = ordered_put k d ms i.ordered;
@@ -223,4 +252,5 @@ module _ (plan : PlanData) (ms : Members) (old new : Document) (k : List ℕ) (d
             let both = or_parts old.are_more (not has_room) (sym more ∙ all) in
             let room : has_room ≡ true = not-false has_room both.1 in
             names j ∙ ap (λ r. cond (bytes_eq j k) (is_malformed && r) (list_any (bytes_eq j) (names_in old.names))) room ∙ told_by is_malformed (bytes_eq j k) j both.0 is refl (sym (other_after plan k d ms j) ∙ h);
+        many = λ more_left. many_by is_malformed old.are_more has_room (sym more ∙ more_left) refl unknown names full;
       }

@@ -106,9 +106,9 @@ empty_is [] r h = h.1 refl
 empty_is (x ∷ xs) true h = absurd (omega (arith, h.0 refl))
 empty_is (x ∷ xs) false h = sym (no_items (string_bytes x ∷ map (λ s. string_bytes s) xs))
 
-pub other_text : (plan : PlanData) (ms : Members) (document : Document) (a b : Bool) → IsNoted plan ms document → a ≡ list_any is_other_slot document.slots.items → b ≡ (length (names_in document.names) == 0) → (a || not b) ≡ true
+pub other_text : (plan : PlanData) (most : ℕ) (ms : Members) (document : Document) (a b : Bool) → IsNoted plan most ms document → a ≡ list_any is_other_slot document.slots.items → b ≡ (length (names_in document.names) == 0) → (a || not b) ≡ true
     → input_text (object ms) ≡ None
-other_text plan ms document a b i slots names h =
+other_text plan most ms document a b i slots names h =
     no_text ms (either_by a (not b) h
     (λ any. slots_other plan ms plan.sources (ap (list_any is_other_slot) (sym i.filled) ∙ sym slots ∙ any))
     (λ any. names_other plan ms (names_in document.names) i.named (sym (no_items (names_in document.names)) ∙ sym names ∙ not-true b any)))
@@ -195,19 +195,19 @@ empty_names : (names : List (List ℕ)) (k : List ℕ) → is_empty names ≡ tr
 empty_names [] k h any = cc
 empty_names (n ∷ ns) k h any = cc
 
-formed_by : (plan : PlanData) (ms : Members) (document : Document) (k : List ℕ) (d : Data) (b : Bool) → IsNoted plan ms document → list_any is_other_slot document.slots.items ≡ false → is_empty (names_in document.names) ≡ true
+formed_by : (plan : PlanData) (most : ℕ) (ms : Members) (document : Document) (k : List ℕ) (d : Data) (b : Bool) → IsNoted plan most ms document → list_any is_other_slot document.slots.items ≡ false → is_empty (names_in document.names) ≡ true
     → document.are_more ≡ false → is_source plan k ≡ b → get_member k ms ≡ Some d → is_some (slot_of plan d) ≡ true
-formed_by plan ms document k d true i slots names all known got = source_form plan ms k d plan.sources known (ap (list_any is_other_slot) (sym i.filled) ∙ slots) got
-formed_by plan ms document k d false i slots names all unknown got =
+formed_by plan most ms document k d true i slots names all known got = source_form plan ms k d plan.sources known (ap (list_any is_other_slot) (sym i.filled) ∙ slots) got
+formed_by plan most ms document k d false i slots names all unknown got =
     other_form plan ms k d (is_some (slot_of plan d)) refl unknown got (λ other. empty_names (names_in document.names) k names (i.told all k other))
 
-pub text_noted : (plan : PlanData) (ms : Members) (document : Document) (a b : Bool) → IsNoted plan ms document → a ≡ list_any is_other_slot document.slots.items → b ≡ (length (names_in document.names) == 0) → (a || not b) ≡ false
+pub text_noted : (plan : PlanData) (most : ℕ) (ms : Members) (document : Document) (a b : Bool) → IsNoted plan most ms document → a ≡ list_any is_other_slot document.slots.items → b ≡ (length (names_in document.names) == 0) → (a || not b) ≡ false
     → document.are_more ≡ false → (text : InputText) × Said ms text
-text_noted plan ms document a b i slots names h all =
+text_noted plan most ms document a b i slots names h all =
     let parts = or_parts a (not b) h in
     let empty : is_empty (names_in document.names) ≡ true = sym (no_items (names_in document.names)) ∙ sym names ∙ not-false b parts.1 in
     all_said ms i.ordered (λ k d got. sym (mapped_some (source_seen plan.columns plan.window.time) (form d))
-    ∙ formed_by plan ms document k d (is_source plan k) i (sym slots ∙ parts.0) empty all refl got)
+    ∙ formed_by plan most ms document k d (is_source plan k) i (sym slots ∙ parts.0) empty all refl got)
 
 -- ---- what is seen of the sources of that text
 
@@ -270,16 +270,16 @@ all_given : (plan : PlanData) (text : InputText) (ss : List SourceSpec) → list
 all_given plan text [] = refl
 all_given plan text (s ∷ ss) = λ o. is_given (λ ps. Some (source_seen plan.columns plan.window.time ps)) text s.uid o && all_given plan text ss o
 
-named_as : (plan : PlanData) (ms : Members) (document : Document) (text : InputText) → IsNoted plan ms document → Said ms text → has_sources plan text ≡ (document.is_planned && list_all is_some document.slots.items)
+named_as : (plan : PlanData) (most : ℕ) (ms : Members) (document : Document) (text : InputText) → IsNoted plan most ms document → Said ms text → has_sources plan text ≡ (document.is_planned && list_all is_some document.slots.items)
 unfolding has_sources
-named_as plan ms document text i said =
+named_as plan most ms document text i said =
     sym ((λ o. (i.planned ∙ named_said (is_source plan) said) o && list_all is_some ((i.filled ∙ slots_said plan ms text plan.sources said) o))
     ∙ ap (λ b. list_all (λ m. is_source plan m.0) text && b) (all_given plan text plan.sources))
 
-pub source_fault : (plan : PlanData) (ms : Members) (document : Document) (text : InputText) → IsNoted plan ms document → Said ms text → (document.is_planned && list_all is_some document.slots.items) ≡ false
+pub source_fault : (plan : PlanData) (most : ℕ) (ms : Members) (document : Document) (text : InputText) → IsNoted plan most ms document → Said ms text → (document.is_planned && list_all is_some document.slots.items) ≡ false
     → input_or_fault plan text ≡ Err Source
 unfolding requirements
-source_fault plan ms document text i said h = rw (named_as plan ms document text i said, h) refl
+source_fault plan most ms document text i said h = rw (named_as plan most ms document text i said, h) refl
 
 seen_given : (plan : PlanData) (text : InputText) (ss : List SourceSpec) (found : List SourceSeen) → map (slot_in plan text) ss ≡ map (λ (x : SourceSeen). Some (Some x)) found
     → found ≡ map (λ s. source_seen plan.columns plan.window.time (partitions_under s.uid text)) ss
@@ -293,10 +293,10 @@ seen_given plan text (s ∷ ss) (x ∷ xs) are =
     let same : x ≡ source_seen plan.columns plan.window.time (partitions_under s.uid text) = same_some x (source_seen plan.columns plan.window.time (partitions_under s.uid text)) here.2 in
     λ o. same o ∷ seen_given plan text ss xs others o
 
-pub are_seen : (plan : PlanData) (ms : Members) (document : Document) (text : InputText) (found : List SourceSeen) → IsNoted plan ms document → Said ms text
+pub are_seen : (plan : PlanData) (most : ℕ) (ms : Members) (document : Document) (text : InputText) (found : List SourceSeen) → IsNoted plan most ms document → Said ms text
     → (document.is_planned && list_all is_some document.slots.items) ≡ true → document.slots.items ≡ map (λ (x : SourceSeen). Some (Some x)) found → AreSeen plan text found
-are_seen plan ms document text found i said named slots = record {
+are_seen plan most ms document text found i said named slots = record {
   ordered = sym (sorted_said said) ∙ i.ordered;
-  named = named_as plan ms document text i said ∙ named;
+  named = named_as plan most ms document text i said ∙ named;
   seen = seen_given plan text plan.sources found (sym (i.filled ∙ slots_said plan ms text plan.sources said) ∙ slots);
 }

@@ -1,7 +1,7 @@
 //! The fault of a text, found without keeping anything of it but what is noted.
 
-ghost use Rattle.std.specs.Prelude.{◌≡◌, ◌^◌, ◌<◌, ◌==◌, ◌&&◌, ℕ, true, false, List, Some, None, Ok, Err, MatchResult, IsOk, IfErr, IfNone, cond, nat_le, sum_by, is_some, length, map, bytes_eq, option_map, IfOk, IfSome, OnOk};
-ghost use Rattle.std.specs.List.{All, list_all, list_any, zip};
+ghost use Rattle.std.specs.Prelude.{◌≡◌, ◌^◌, ◌<◌, ◌==◌, ◌≤◌, ◌&&◌, ℕ, true, false, List, Some, None, Ok, Err, MatchResult, IsOk, IfErr, IfNone, cond, nat_le, sum_by, is_some, length, map, bytes_eq, option_map, IfOk, IfSome, OnOk};
+ghost use Rattle.std.specs.List.{All, IsDistinct, list_all, list_any, zip};
 ghost use Rattle.json.specs.Token.{Token as SpecToken};
 ghost use Rattle.json.specs.Json.{read_key};
 ghost use Rattle.serde_json.specs.Data.{Data, Members, no_members, object, put as with_member};
@@ -13,7 +13,7 @@ ghost use Rattle.input_texts.specs.Answer.{Fails, input_or_fault, is_memory};
 ghost use Rattle.input_texts.specs.Said.{input_of};
 ghost use Rattle.input_texts.specs.Fault.{late_fault};
 ghost use Rattle.input_texts.specs.InputText.{InputText};
-ghost use Rattle.input_texts.specs.Document.{AreSeen, Checks, IsNoted, Tells, is_other_slot, names_in, said_by, said_in};
+ghost use Rattle.input_texts.specs.Document.{AreSeen, Checks, IsNoted, Tells, is_other_slot, names_in, said_in};
 ghost use Rattle.input_texts.specs.Seen.{slot_of};
 
 use crate::fault::InputFault;
@@ -53,6 +53,7 @@ fn put_name(
 ) -> Result<bool, Miss>
     ensures refused { IfErr result (λ miss. miss ≡ Miss.Memory) }
     ensures said { IfOk result (λ has_room. (k : List ℕ) → list_any (bytes_eq k) (names_in names.new) ≡ cond (bytes_eq k name.now) (is_malformed && has_room) (list_any (bytes_eq k) (names_in names.old))) }
+    ensures full { IfOk result (λ has_room. has_room ≡ false → (most ≤ length (names_in names.new)) × IsDistinct bytes_eq (names_in names.new)) }
 {
     names.remove(name);
     if !is_malformed {
@@ -76,7 +77,7 @@ fn put_member(
 ) -> Result<(), Miss>
     requires { length document.old.slots.items ≡ length plan.now.sources }
     ensures refused { IfErr result (λ miss. miss ≡ Miss.Memory) }
-    ensures said { OnOk result ((ms : Members) → (d : Data) → IsNoted plan.now ms document.old → source ≡ slot_of plan.now d → IsNoted plan.now (with_member name.now d ms) document.new) }
+    ensures said { OnOk result ((ms : Members) → (d : Data) → IsNoted plan.now most ms document.old → source ≡ slot_of plan.now d → IsNoted plan.now most (with_member name.now d ms) document.new) }
 {
     if let Some(place) = place_of(plan.sources(), name.as_bytes()) {
         put(&mut document.slots, place, source);
@@ -109,7 +110,7 @@ fn members_noted(
 ) -> Result<Document, Miss>
     ensures refused { IfErr result (λ miss. miss ≡ Miss.Other → after depth no_members (length reader.old) reader.old ≡ None) }
     ensures said { IfOk result (λ document. (ms : Members) × (rest : List SpecToken) × MembersRead depth reader.old ms rest × (read_key rest ≡ Some (None, reader.new))
-        × IsNoted plan.now ms document) }
+        × IsNoted plan.now most ms document) }
 {
     let mut document = Document {
         slots: empty_slots(alloc, plan.sources())?,
@@ -133,7 +134,7 @@ fn document_noted(
     depth: usize,
 ) -> Result<Option<Document>, Miss>
     ensures refused { IfErr result (λ miss. miss ≡ Miss.Other → IsNoValue depth reader.old) }
-    ensures said { IfOk result (λ told. (d : Data) × Passes depth reader.old d reader.new × Tells plan.now told d) }
+    ensures said { IfOk result (λ told. (d : Data) × Passes depth reader.old d reader.new × Tells plan.now most told d) }
 {
     let is_open = open_object(reader, depth)?;
     if !is_open {
@@ -271,14 +272,15 @@ fn first_fault(plan: &Plan, sources: &[SourceSeen]) -> Option<InputFault>
     None
 }
 
-/// Whether it is told by what was noted of a document that there is no fault. False: it is not told.
+/// Whether it is told by what was noted of a document that there is no fault. False: the plan lacks more names
+/// than were kept, so that the fault is not told.
 ///
 /// # Errors
 ///
 /// The first fault; `Memory`.
 fn check_document(alloc: Global, plan: &Plan, document: &Document) -> Result<bool, InputFault>
-    requires { (ms : Members) × IsNoted plan.now ms document.now }
-    ensures { (ms : Members) → IsNoted plan.now ms document.now → Checks result (said_by plan.now (object ms)) }
+    requires { (most : ℕ) × (ms : Members) × IsNoted plan.now most ms document.now }
+    ensures { (most : ℕ) → (ms : Members) → IsNoted plan.now most ms document.now → Checks plan.now most (Some (object ms)) result }
 {
     let is_malformed = has_other_form(&document.slots) | !document.names.is_empty();
     if is_malformed {
@@ -310,7 +312,7 @@ fn document_in(
     most: usize,
 ) -> Result<Option<Document>, Miss>
     ensures refused { IfErr result (λ miss. miss ≡ Miss.Other → read text.now ≡ None) }
-    ensures said { IfOk result (λ told. (d : Data) × (read text.now ≡ Some d) × Tells plan.now told d) }
+    ensures said { IfOk result (λ told. (d : Data) × (read text.now ≡ Some d) × Tells plan.now most told d) }
 {
     let mut scratch = Scratch::new(alloc);
     let mut reader = Reader::new(text, &mut scratch)?;
@@ -322,13 +324,13 @@ fn document_in(
 }
 
 /// Whether it is told that a text is an input of the plan, where at most so many names are kept of members
-/// that the plan lacks. False: it is not told.
+/// that the plan lacks. False: it has more of them, so that the fault is not told.
 ///
 /// # Errors
 ///
 /// The first fault; `Memory`.
 fn check_by(alloc: Global, plan: &Plan, text: &str, most: usize) -> Result<bool, InputFault>
-    ensures { Checks result (said_in plan.now text.now) }
+    ensures { Checks plan.now most (read text.now) result }
 {
     match document_in(alloc, plan, text, most) {
         Ok(Some(document)) => check_document(alloc, plan, &document),

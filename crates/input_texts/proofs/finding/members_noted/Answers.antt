@@ -12,7 +12,7 @@ pub members-init : goal.members-init
 members-init c =
     let plan = c.args.plan.now in
     let slots = rw c.sources.ensures.says at c.in_ok-empty_slots.ensures.said in
-    (no_members, members_begin c.args.depth c.args.reader.now, none_noted plan _ slots (ap (map (λ s. string_bytes s)) c.new.ensures.empty) refl)
+    (no_members, members_begin c.args.depth c.args.reader.now, none_noted plan _ slots (ap (map (λ s. string_bytes s)) c.new.ensures.empty) refl refl c.args.most)
 
 pub members-preserved : goal.members-preserved
 members-preserved c =
