@@ -7,7 +7,7 @@ ghost use Rattle.commands.specs.Outcome.{after_command, after_text};
 ghost use Rattle.commands.specs.Status as statuses;
 
 use imports::ImportFault;
-use job::{FaultLine, JobFault, status_of};
+use job::{JobFault, status_of};
 use user_texts::TextFault;
 
 /// Why a command is not done.
@@ -46,7 +46,7 @@ pub fn after_page(answer: Result<(), TextFault>) -> Result<(), CommandFault>
 fn failed<R: Eprint>(rt: &R, fault: &JobFault) -> u8
     ensures { result ≡ fault_text.status fault.now }
 {
-    let _ = rt.eprintln(FaultLine(fault));
+    let _ = rt.eprintln(fault);
     status_of(fault)
 }
 

@@ -36,7 +36,7 @@ fn texts_of_faults(rt: HostRuntime) -> Result<(), Fail> {
         (InputFault::TimeRange, "I8 TimeRange"),
         (late, "I9 LateRecord 7 63 4294967296"),
         (InputFault::TooMany, "I10 TooMany"),
-        (InputFault::Memory, "I11 Memory"),
+        (InputFault::Memory, "memory"),
     ] {
         let text = format!(in rt.alloc(); "{fault}")?;
         assert_eq!(rt; text.as_str(), want);

@@ -5,3 +5,4 @@ pub mod Requirements
 pub mod Answer
 pub mod Seen
 pub mod Document
+pub mod FaultLine

@@ -6,49 +6,66 @@ ghost use Rattle.input_texts.specs.Fault.{fault_of_part};
 
 use json_parts::PartError;
 use std::alloc::{AllocError, AllocFailed};
+use std::fmt;
 use thiserror::Error;
 
 /// Why an input is refused. The first of these that stands is answered, each over the whole document.
 #[derive(Clone, Copy, Debug, PartialEq, Eq, Error)]
 pub enum InputFault {
     /// The bytes are no JSON text.
-    #[error("I1 NotJson")]
     NotJson,
     /// A part is missing, unknown or of another form.
-    #[error("I2 Member")]
     Member,
     /// The plan has no such source, or a source of the plan is missing.
-    #[error("I3 Source")]
     Source,
     /// A source has another number of partitions than the plan says.
-    #[error("I4 Partitions")]
     Partitions,
     /// A row has another length than the plan's columns.
-    #[error("I5 Width")]
     Width,
     /// A row's element or a watermark is no whole number of 64 bits.
-    #[error("I6 Number")]
     Number,
     /// An entry has no row or more than 4,096.
-    #[error("I7 Rows")]
     Rows,
     /// A row's time or a watermark is not from -2^62 to 2^62 - 1.
-    #[error("I8 TimeRange")]
     TimeRange,
     /// A row comes after a watermark of its partition that is not below its time. It is the first such
     /// row by the places, from 0, of its source in the plan, its partition and its entry.
-    #[error("I9 LateRecord {source} {partition} {entry}")]
     LateRecord {
         source: u32,
         partition: u32,
         entry: u64,
     },
     /// There are more than 2^40 records.
-    #[error("I10 TooMany")]
     TooMany,
     /// An allocation was refused.
-    #[error("I11 Memory")]
     Memory,
+}
+
+impl fmt::Display for InputFault {
+    ghost use Rattle.std.specs.Prelude.{Some};
+    ghost use Rattle.input_texts.specs.FaultLine.{input_line};
+
+    ghost output = { λ fault. Some (input_line fault) };
+
+    fn fmt<W: fmt::Write>(&self, f: &mut fmt::Formatter<W>) -> fmt::Result {
+        match self {
+            InputFault::NotJson => write!(f, "I1 NotJson"),
+            InputFault::Member => write!(f, "I2 Member"),
+            InputFault::Source => write!(f, "I3 Source"),
+            InputFault::Partitions => write!(f, "I4 Partitions"),
+            InputFault::Width => write!(f, "I5 Width"),
+            InputFault::Number => write!(f, "I6 Number"),
+            InputFault::Rows => write!(f, "I7 Rows"),
+            InputFault::TimeRange => write!(f, "I8 TimeRange"),
+            InputFault::LateRecord {
+                source,
+                partition,
+                entry,
+            } => write!(f, "I9 LateRecord {source} {partition} {entry}"),
+            InputFault::TooMany => write!(f, "I10 TooMany"),
+            InputFault::Memory => write!(f, "memory"),
+        }
+    }
 }
 
 impl From<PartError> for InputFault {

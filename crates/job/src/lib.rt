@@ -10,7 +10,7 @@ mod show;
 mod simulate;
 mod whole;
 
-pub use job_texts::{FaultLine, JobFault, fault_line, job_group, read_cut, status_of};
+pub use job_texts::{JobFault, fault_line, job_group, read_cut, status_of};
 pub use layout::job_layout;
 pub use leg::job_leg;
 pub use parallel::job_run_parallel;

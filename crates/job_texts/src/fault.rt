@@ -9,8 +9,9 @@ use logical_plan::PlanFault;
 use restore::RestoreFault;
 use savepoint_codec::SaveFault;
 use std::alloc::{AllocError, AllocFailed};
+use std::fmt;
 
-/// Why a call of the job has no answer. [`FaultLine`](crate::FaultLine) is its text.
+/// Why a call of the job has no answer. It is printed as its line, which needs no memory.
 #[derive(Clone, Copy, Debug, PartialEq, Eq)]
 pub enum JobFault {
     /// The plan's text is refused.
@@ -35,6 +36,29 @@ pub enum JobFault {
     Write,
     /// No memory was to be had.
     Memory,
+}
+
+impl fmt::Display for JobFault {
+    ghost use Rattle.std.specs.Prelude.{Some};
+    ghost use Rattle.job_texts.specs.FaultText.{fault_text};
+
+    ghost output = { λ fault. Some (fault_text fault) };
+
+    fn fmt<W: fmt::Write>(&self, f: &mut fmt::Formatter<W>) -> fmt::Result {
+        match self {
+            JobFault::Plan(fault) => write!(f, "{fault}"),
+            JobFault::Input(fault) => write!(f, "{fault}"),
+            JobFault::Scale(fault) => write!(f, "{fault}"),
+            JobFault::Save(fault) => write!(f, "{fault}"),
+            JobFault::Restore(fault) => write!(f, "{fault}"),
+            JobFault::Leg(fault) => write!(f, "{fault}"),
+            JobFault::Cut => write!(f, "C1 Cut"),
+            JobFault::Number => write!(f, "C2 Number"),
+            JobFault::Read => write!(f, "F1 Read"),
+            JobFault::Write => write!(f, "F2 Write"),
+            JobFault::Memory => write!(f, "memory"),
+        }
+    }
 }
 
 impl From<PlanFault> for JobFault {

@@ -18,7 +18,7 @@ pub use cut::read_cut;
 pub use fault::JobFault;
 pub use group::{job_group, read_count};
 pub use layout_text::text_of_layout;
-pub use line::{FaultLine, fault_line, status_of};
+pub use line::{fault_line, status_of};
 pub use show_text::text_of_savepoint;
 pub use sorting::sort_rows;
 pub use text::text_of_rows;

@@ -6,3 +6,4 @@ pub mod Scale
 pub mod Layouts
 pub mod Laws
 pub mod Example
+pub mod FaultLine

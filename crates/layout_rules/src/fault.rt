@@ -4,35 +4,48 @@ ghost use Rattle.std.specs.Prelude.{◌≡◌};
 ghost use Rattle.layout_rules.specs.declared.fault.ScaleFault.TheVariants.{Memory};
 
 use std::alloc::{AllocError, AllocFailed};
+use std::fmt;
 use thiserror::Error;
 
 /// Why a scale is refused. The first of these that stands is answered, each over the whole document.
 #[derive(Clone, Copy, Debug, PartialEq, Eq, Error)]
 pub enum ScaleFault {
     /// The bytes are no JSON text.
-    #[error("S1 NotJson")]
     NotJson,
     /// A part is missing, unknown or of another form.
-    #[error("S2 Member")]
     Member,
     /// The plan has no operator with such a uid.
-    #[error("S3 UnknownUid")]
     UnknownUid,
     /// A source, a filter or the window has no member.
-    #[error("S4 MissingUid")]
     MissingUid,
     /// A parallelism is not 1 to 64, or it is over the plan's number of key groups.
-    #[error("S5 Parallelism")]
     Parallelism,
     /// The capacity of a ring is not 1 to 1,024.
-    #[error("S6 Ring")]
     Ring,
     /// The layout has more than 256 tasks, with the sink's one.
-    #[error("S7 Tasks")]
     Tasks,
     /// An allocation was refused.
-    #[error("S8 Memory")]
     Memory,
+}
+
+impl fmt::Display for ScaleFault {
+    ghost use Rattle.std.specs.Prelude.{Some};
+    ghost use Rattle.layout_rules.specs.FaultLine.{scale_line};
+
+    ghost output = { λ fault. Some (scale_line fault) };
+
+    fn fmt<W: fmt::Write>(&self, f: &mut fmt::Formatter<W>) -> fmt::Result {
+        match self {
+            ScaleFault::NotJson => write!(f, "S1 NotJson"),
+            ScaleFault::Member => write!(f, "S2 Member"),
+            ScaleFault::UnknownUid => write!(f, "S3 UnknownUid"),
+            ScaleFault::MissingUid => write!(f, "S4 MissingUid"),
+            ScaleFault::Parallelism => write!(f, "S5 Parallelism"),
+            ScaleFault::Ring => write!(f, "S6 Ring"),
+            ScaleFault::Tasks => write!(f, "S7 Tasks"),
+            ScaleFault::Memory => write!(f, "memory"),
+        }
+    }
 }
 
 impl From<AllocError> for ScaleFault {

@@ -1,3 +1,4 @@
 pub mod PlanText
 pub mod Requirements
 pub mod Answer
+pub mod FaultLine

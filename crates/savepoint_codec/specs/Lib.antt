@@ -5,3 +5,4 @@ pub mod Layout
 pub mod Reading
 pub mod Answer
 pub mod Writing
+pub mod FaultLine

@@ -4,29 +4,42 @@ ghost use Rattle.std.specs.Prelude.{◌≡◌};
 ghost use Rattle.savepoint_codec.specs.Answer.{fault_of_read};
 
 use byte_fields::{FieldFault, ReadFault};
+use std::fmt;
 use thiserror::Error;
 
 /// Why bytes are no savepoint, by the first field that cannot be read.
 #[derive(Clone, Copy, Debug, PartialEq, Eq, Error)]
 pub enum SaveFault {
     /// The bytes do not begin with `WSP1`.
-    #[error("V1 Magic")]
     Magic,
     /// A field passes the end of the bytes.
-    #[error("V2 Truncated")]
     Truncated,
     /// Bytes stand after the last field.
-    #[error("V3 Trailing")]
     Trailing,
     /// A source, a key group or an entry is not after the one before, or a key group has no entry.
-    #[error("V4 Order")]
     Order,
     /// A field has a value that it cannot have.
-    #[error("V5 Range")]
     Range,
     /// No memory was to be had.
-    #[error("V6 Memory")]
     Memory,
+}
+
+impl fmt::Display for SaveFault {
+    ghost use Rattle.std.specs.Prelude.{Some};
+    ghost use Rattle.savepoint_codec.specs.FaultLine.{save_line};
+
+    ghost output = { λ fault. Some (save_line fault) };
+
+    fn fmt<W: fmt::Write>(&self, f: &mut fmt::Formatter<W>) -> fmt::Result {
+        match self {
+            SaveFault::Magic => write!(f, "V1 Magic"),
+            SaveFault::Truncated => write!(f, "V2 Truncated"),
+            SaveFault::Trailing => write!(f, "V3 Trailing"),
+            SaveFault::Order => write!(f, "V4 Order"),
+            SaveFault::Range => write!(f, "V5 Range"),
+            SaveFault::Memory => write!(f, "memory"),
+        }
+    }
 }
 
 impl From<ReadFault> for SaveFault {
