@@ -2,3 +2,4 @@ pub mod PlanText
 pub mod Requirements
 pub mod Answer
 pub mod FaultLine
+pub mod Laws

@@ -3,6 +3,7 @@
 
 mod building;
 mod fault;
+pub mod laws;
 mod places;
 mod reading;
 mod requirements;

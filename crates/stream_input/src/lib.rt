@@ -8,6 +8,7 @@
 
 mod building;
 mod cells;
+pub mod laws;
 mod reading;
 mod tokens;
 
