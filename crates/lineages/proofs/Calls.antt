@@ -8,17 +8,19 @@ use Rattle.std.specs.Option.{option_map, option_to_list}
 use Rattle.byte_fields.specs.declared.fault.FieldFault.{FieldFault}
 use Rattle.byte_fields.specs.Format.{whole}
 use Rattle.byte_fields.proofs.Exact.{IsBytes, whole_again, whole_takes}
-use Rattle.plan_model.specs.PlanData.{PlanData}
+use Rattle.plan_model.specs.PlanData.{PlanData, IsPlan}
 use Rattle.plan_model.specs.Rows.{AreRowsOf}
 use Rattle.plan_model.specs.declared.spec.Row.{Row}
 use Rattle.stream_model.specs.declared.entry.Entry.{Entry}
-use Rattle.stream_model.specs.InputData.{InputData}
+use Rattle.stream_model.specs.InputData.{InputData, IsInput, BelongsTo}
 use Rattle.stream_model.specs.Laws.{EndIsDue}
 use Rattle.stream_model.specs.PlanRows.{due_rows}
 use Rattle.stream_model.specs.Watermarks.{IsCut, IsOrderly, empty_cut}
 use Rattle.input_flow.proofs.Facts.{empty_is_cut}
 use Rattle.dataflow_laws.specs.Compiled.{cut_to}
 use Rattle.dataflow_laws.specs.Inputs.{due_between}
+use Rattle.logical_plan.specs.Laws.{SaidIsPlan}
+use Rattle.stream_input.specs.Laws.{SaidIsInput}
 use Rattle.plan_scale.specs.Answer.{scale_of_bytes}
 use Rattle.legs.specs.declared.cut.Cut.{Cut}
 use Rattle.legs.specs.declared.stop.Stop.{Stop}
@@ -92,6 +94,21 @@ said_nothing : (p : PlanData) (i : InputData) (s : StartData) → start_said p i
 unfolding start_said
 said_nothing p i s e = subst (IsFromNothing i) (ok_is (start_at i.sources (empty_cut i.sources) 0) s e) (record { number = refl; offsets = all_unread i.sources; groups = refl })
 
+-- ---- a plan and an input
+
+-- and what every plan and every input of it meets
+record AreSound (plan input : List ℕ) (p : PlanData) (i : InputData) : Type 0 where
+  read : AreRead plan input p i
+  plan_is : IsPlan p
+  input_is : IsInput i
+  orderly : IsOrderly i.time i.sources
+  belongs : BelongsTo p i
+
+are_sound : SaidIsPlan → SaidIsInput → (plan input : List ℕ) (p : PlanData) (i : InputData) → AreRead plan input p i → AreSound plan input p i
+are_sound of_plan of_input plan input p i read =
+    let is = of_input p input i read.input_said in
+    record { read = read; plan_is = of_plan plan p read.plan_said; input_is = is.0; orderly = is.1; belongs = is.2 }
+
 -- ---- one call
 
 -- where its leg starts and stops
@@ -138,7 +155,7 @@ record Comes (p : PlanData) (i : InputData) (last : LegCall) (earlier : List Leg
   lines : written (last ∷ earlier) ≡ text_of_rows rows
   given : AreGivenAt p i (length (last ∷ earlier)) stop last.saved
 
-module _ (none : NothingDueAtFirst) (add : RowsAddUp) (restart : SnapshotsRestart) (one : (a b : Contents) → IsSavepoint a → IsSavepoint b → savepoint_bytes a ≡ savepoint_bytes b → a ≡ b) (plan input : List ℕ) (p : PlanData) (i : InputData) (read : AreRead plan input p i) where
+module _ (none : NothingDueAtFirst) (add : RowsAddUp) (restart : SnapshotsRestart) (one : (a b : Contents) → IsSavepoint a → IsSavepoint b → savepoint_bytes a ≡ savepoint_bytes b → a ≡ b) (plan input : List ℕ) (p : PlanData) (i : InputData) (sound : AreSound plan input p i) where
   -- a call from a cut, with its snapshot, adds the lines of what becomes due
   after : (c : LegCall) (earlier : List LegCall) (a : IsAnswered plan input c) (says : Says p i c a.job) (b : List (List ℕ)) → HasSnapshot p i says.start → offsets_of says.start ≡ b → says.start.number ≡ length earlier → IsCut i.sources b
       → (before : List Row) → AreRowsOf (due_rows p i.sources b) before → written earlier ≡ text_of_rows before → Comes p i c earlier
@@ -153,7 +170,7 @@ module _ (none : NothingDueAtFirst) (add : RowsAddUp) (restart : SnapshotsRestar
         stopped = says.stopped;
         is_cut = end_is_cut i b stop can;
         rows = before ++ text.rows;
-        due = add p i b end before text.rows read.input (before_end i b stop is can) (end_is_cut i b stop can) due rows;
+        due = add p i b end before text.rows sound.input_is (before_end i b stop is can) (end_is_cut i b stop can) due rows;
         lines = (λ k. lines k ++ text.lines k) ∙ sym (flat_map-append line_of before text.rows);
         given = left_by p i says.start stop stop (length (c ∷ earlier)) c.saved a.bytes.0 has (ap (λ n. n + 1) number ∙ one_more c earlier) a.bytes.1
             (subst (λ (job : LegJob). IsSavedBy job job.stop a.bytes.0) (sym says.is) a.bytes.2);
@@ -161,25 +178,26 @@ module _ (none : NothingDueAtFirst) (add : RowsAddUp) (restart : SnapshotsRestar
 
   comes : (last : LegCall) (earlier : List LegCall) → Calls plan input (last ∷ earlier) → Comes p i last earlier
   comes last [] (first nothing a) =
-      let said = says plan input p i last a.job read a.said in
+      let said = says plan input p i last a.job sound.read a.said in
       let from = said_nothing p i said.start (subst (λ o. start_said p i o ≡ Ok said.start) nothing said.started) in
-      let none_due : AreRowsOf (due_rows p i.sources (empty_cut i.sources)) [] = λ q. sym (ap option_to_list (none p i q (subst (λ t. IsOrderly t i.sources) read.belongs.time read.orderly))) in
+      let none_due : AreRowsOf (due_rows p i.sources (empty_cut i.sources)) [] = λ q. sym (ap option_to_list (none p i q (subst (λ t. IsOrderly t i.sources) sound.belongs.time sound.orderly))) in
       after last [] a said (empty_cut i.sources) (none_at_first p i said.start from) from.offsets from.number (empty_is_cut i.sources) [] none_due refl
   comes last (before ∷ earlier) (next {bytes = bytes} calls saved from a) =
       let c = comes before earlier calls in
-      let (cut, old, stops, spelled, sound, at) = gave p i (length (before ∷ earlier)) c.stop before.saved bytes saved c.given in
-      let said = says plan input p i last a.job read a.said in
+      let (cut, old, stops, spelled, is_savepoint, at) = gave p i (length (before ∷ earlier)) c.stop before.saved bytes saved c.given in
+      let said = says plan input p i last a.job sound.read a.said in
       let started = subst (λ o. start_said p i o ≡ Ok said.start) (from ∙ ap Some spelled) said.started in
       let is_cut : IsCut i.sources cut.counts = subst (λ x. IsCut i.sources (cut_to i (until_of x))) stops c.is_cut in
       let due : AreRowsOf (due_rows p i.sources cut.counts) c.rows = subst (λ x. AreRowsOf (due_rows p i.sources (cut_to i (until_of x))) c.rows) stops c.due in
-      let start = bytes_restart restart one p i cut.counts (length (before ∷ earlier)) old said.start read.plan read.input read.belongs is_cut at sound (from_spelling p i old said.start sound started) in
+      let start = bytes_restart restart one p i cut.counts (length (before ∷ earlier)) old said.start sound.plan_is sound.input_is sound.belongs is_cut at is_savepoint (from_spelling p i old said.start is_savepoint started) in
       after last (before ∷ earlier) a said cut.counts start.snapshot start.offsets start.number is_cut c.rows due c.lines
 
   exact : EndIsDue → (stop : Stop) (last : LegCall) (earlier : List LegCall) → stop_said last.stop ≡ Ok stop → Calls plan input (last ∷ earlier) → AreExactCalls p i stop last (last ∷ earlier)
   exact end stop last earlier stopped calls =
       let c = comes last earlier calls in
       let same : c.stop ≡ stop = ok_is c.stop stop (sym c.stopped ∙ stopped) in
-      subst (λ x. AreExactCalls p i x last (last ∷ earlier)) same (record { rows = c.rows; are = come_to end p i c.stop c.rows read.plan read.input read.belongs c.due; lines = c.lines; given = c.given })
+      subst (λ x. AreExactCalls p i x last (last ∷ earlier)) same (record { rows = c.rows; are = come_to end p i c.stop c.rows sound.plan_is sound.input_is sound.belongs c.due; lines = c.lines; given = c.given })
 
-pub calls_are_exact : NothingDueAtFirst → RowsAddUp → SnapshotsRestart → ((a b : Contents) → IsSavepoint a → IsSavepoint b → savepoint_bytes a ≡ savepoint_bytes b → a ≡ b) → EndIsDue → CallsAreExact
-calls_are_exact none add restart one end plan input p i stop last earlier read stopped calls = exact none add restart one plan input p i read end stop last earlier stopped calls
+pub calls_are_exact : NothingDueAtFirst → RowsAddUp → SnapshotsRestart → ((a b : Contents) → IsSavepoint a → IsSavepoint b → savepoint_bytes a ≡ savepoint_bytes b → a ≡ b) → EndIsDue → SaidIsPlan → SaidIsInput → CallsAreExact
+calls_are_exact none add restart one end of_plan of_input plan input p i stop last earlier read stopped calls =
+    exact none add restart one plan input p i (are_sound of_plan of_input plan input p i read) end stop last earlier stopped calls

@@ -2,12 +2,11 @@
 use Rattle.std.specs.Prelude.{◌≡◌, ℕ, ◌<◌, List, [], ◌∷◌, ◌++◌, length, Option, Some, None, Ok}
 use Rattle.std.specs.Io.KnownBytes.{Appends}
 use Rattle.std.specs.List.{All}
-use Rattle.plan_model.specs.PlanData.{PlanData, IsPlan}
+use Rattle.plan_model.specs.PlanData.{PlanData}
 use Rattle.plan_model.specs.Rows.{AreRowsOf}
 use Rattle.plan_model.specs.declared.spec.Row.{Row}
 use Rattle.logical_plan.specs.Answer.{plan_of_bytes}
-use Rattle.stream_model.specs.InputData.{InputData, IsInput, BelongsTo}
-use Rattle.stream_model.specs.Watermarks.{IsOrderly}
+use Rattle.stream_model.specs.InputData.{InputData}
 use Rattle.input_texts.specs.Answer.{input_of_bytes}
 use Rattle.legs.specs.declared.stop.Stop.{Stop}
 use Rattle.legs.specs.declared.stop.Stop.TheVariants.{Never, At}
@@ -56,14 +55,10 @@ abbrev pub written : List LegCall → List ℕ
 written [] = []
 written (c ∷ earlier) = written earlier ++ c.text
 
--- bytes are a plan and an input of it, which meet what those meet that `Plan::read` and `Input::read` answer
+-- bytes say a plan, and an input of it
 pub record AreRead (plan_bytes input_bytes : List ℕ) (p : PlanData) (i : InputData) : Type 0 where
   pub plan_said : plan_of_bytes plan_bytes ≡ Ok p
   pub input_said : input_of_bytes p input_bytes ≡ Ok i
-  pub plan : IsPlan p
-  pub input : IsInput i
-  pub orderly : IsOrderly i.time i.sources
-  pub belongs : BelongsTo p i
 
 -- a call that never stops gives no bytes, and one that stops at a cut those of its savepoint
 abbrev pub AreGivenAt : PlanData → InputData → ℕ → Stop → Option (List ℕ) → Type 0

@@ -8,10 +8,12 @@ ghost use Rattle.lineages.specs.Steps.{EachStepFalls};
 use gather::laws::same_panes_same_savepoint;
 use job_legs::laws::{each_row_adds_up, nothing_due_at_first, rows_add_up};
 use leg_tasks::laws::saved_at_is_one;
+use logical_plan::laws::said_is_plan;
 use plan_record::laws::ascending_is_in_order;
 use redistribute::laws::each_partition_once;
 use restarts::laws::{accepted_have_groups, snapshots_restart};
 use savepoint_codec::laws::one_content;
+use stream_input::laws::said_is_input;
 use stream_model::laws::end_is_due;
 
 /// The headline theorem: once one leg of a job runs to the end of its input, the rows that all its legs have delivered together
@@ -88,6 +90,8 @@ pub fn calls_are_exact()
     let _restart = snapshots_restart();
     let _content = one_content();
     let _end = end_is_due();
+    let _plan = said_is_plan();
+    let _input = said_is_input();
 }
 
 /// Legs from one snapshot to one cut, after as many savepoints, leave the same bytes at every scale and in every order of steps.
