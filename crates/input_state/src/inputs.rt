@@ -158,6 +158,14 @@ impl Inputs {
         alignment_of(&self.shut)
     }
 
+    /// Makes an input free again.
+    pub fn reopen(&mut self, i: usize)
+        requires { i < length self.old.shut }
+        ensures { self.new ≡ inputs_from self.old.marks (slice_set self.old.shut i Shut.Free) }
+    {
+        self.shut[i] = Shut::Free;
+    }
+
     /// Notes that an input has ended.
     pub fn end(&mut self, i: usize) -> Aligned
         requires { i < length self.old.shut }

@@ -72,7 +72,7 @@ windowing p leg stages t (Some w) sound operator counts =
     (subst (CanAggregate p.columns) (sym same) (can_aggregate p sound), ap (λ v. v.time) same, sym (ap (λ v. v.having) same), λ _. counts)
 
 pub every_task_begins : EveryTaskBegins
-every_task_begins p c leg stages t offsets marks window sound scaled compiled l saves suits =
+every_task_begins p c leg stages t offsets marks window sound scaled compiled l some numbers suits =
     let P : List Stage → Type 0 = λ ss. t < task_count ss → (task_stage ss t).edge ≡ Some ByGroup → IsParallelism p.max (parallelism_at ss (next_stage ss (stage_of ss t))) in
     let made : LayoutData = layout_of p c in
     let few = subst P (sym (compiled_once p c stages made.stages compiled (compiled_ever p c))) (leads_on p made t ByGroup sound (record { scale = c; fits = scaled; is = refl })) in
@@ -85,6 +85,7 @@ every_task_begins p c leg stages t offsets marks window sound scaled compiled l 
       turn = turn (task_role stages t) (length (outputs_of stages t)) (tasks_have_outputs p c stages t sound scaled compiled l);
       windowing = windowing p leg stages t window sound suits.operator suits.counts;
       marked = suits.marked;
-      saves = saves;
+      some = some;
+      numbers = numbers;
       placed = suits.placed;
     }

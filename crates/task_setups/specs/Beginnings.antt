@@ -1,5 +1,5 @@
 -- What the tasks of a leg begin with.
-use Rattle.std.specs.Prelude.{◌≡◌, ℕ, ◌^◌, ◌<◌, ℤ, List, length, Option, option_map}
+use Rattle.std.specs.Prelude.{◌≡◌, ℕ, ◌+◌, ◌^◌, ◌<◌, ℤ, List, length, Option, option_map}
 use Rattle.plan_model.specs.PlanData.{PlanData, IsPlan}
 use Rattle.plan_model.specs.declared.limits.TheConstants.{MOST_RECORDS}
 use Rattle.window_state.specs.State.{StateData}
@@ -20,8 +20,8 @@ pub record Suits (p : PlanData) (leg : Leg) (stages : List Stage) (t : ℕ) (off
   pub operator : option_map (λ w. w.window) window ≡ window_of p stages t
   pub counts : HasCounts MOST_RECORDS (windows_in window)
 
--- a task of a compiled layout can begin with what suits it, in a leg that takes no savepoint while it goes on
+-- a task of a compiled layout can begin with what suits it, in a leg of which each barrier has a number, from 1 on
 abbrev pub EveryTaskBegins : Type 0
 EveryTaskBegins = (p : PlanData) (c : ScaleData) (leg : Leg) (stages : List Stage) (t : ℕ) (offsets : List ℕ) (marks : List ℤ) (window : Option StateData)
-    → IsPlan p → IsScale p c → IsCompiled p c stages → t < task_count stages → leg.saves ≡ 0
+    → IsPlan p → IsScale p c → IsCompiled p c stages → t < task_count stages → 0 < leg.first → leg.first + leg.saves < 2 ^ 64
     → Suits p leg stages t offsets marks window → CanBegin (setup_of p leg stages t) offsets marks window

@@ -11,3 +11,5 @@ pub mod Readings
 pub mod Barriers
 pub mod Over
 mod KeptRows
+mod Keeping
+mod Going

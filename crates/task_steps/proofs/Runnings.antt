@@ -1,5 +1,5 @@
 -- The steps of a source that are no reads.
-use Rattle.std.proofs.Common.{◌≡◌, suc, ◌+◌, ◌<◌, true, arith, sym, ap, subst, ◌∙◌}
+use Rattle.std.proofs.Common.{◌≡◌, [], ◌∷◌, ◌++◌, suc, ◌+◌, ◌<◌, true, sym, ap, subst, ◌∙◌}
 use Rattle.plain_data.specs.Times.{lowest}
 use Rattle.input_state.specs.Inputs.{least, risen}
 use Rattle.plan_model.specs.PlanData.{PlanData}
@@ -8,12 +8,12 @@ use Rattle.dataflow_model.specs.declared.ending.Ending.{Ending}
 use Rattle.dataflow_model.specs.declared.ending.Ending.TheVariants.{AtEnd, AtCut, Asked}
 use Rattle.dataflow_model.specs.Role.{is_source}
 use Rattle.dataflow_model.specs.AbstractTask.{AbstractTask}
-use Rattle.dataflow_model.specs.State.{State}
+use Rattle.dataflow_model.specs.State.{State, kept_of}
 use Rattle.dataflow_model.specs.Routes.{announce, to_all}
-use Rattle.dataflow_model.specs.Steps.{Open, Stop, Close, CanRun, IsAtLimit, MayStop, MayClose, LocalStep}
-use Rattle.dataflow_model.specs.Steps.LocalStep.{opens, stops, closes}
+use Rattle.dataflow_model.specs.Steps.{Open, Save, Stop, Close, CanRun, IsAtLimit, MaySave, MayStop, MayClose, LocalStep}
+use Rattle.dataflow_model.specs.Steps.LocalStep.{opens, saves, stops, closes}
 use Rattle.task_steps.specs.TaskData.{TaskData, Stands}
-use Rattle.task_steps.specs.Running.{IsOpenable, IsRunning, HasCome, StopsBy, ClosesBy, IsStoppable, IsClosable}
+use Rattle.task_steps.specs.Running.{IsOpenable, IsRunning, HasCome, StopsBy, ClosesBy, IsSavable, IsStoppable, IsClosable}
 
 pub can_run : (p : PlanData) (k : AbstractTask) (d : TaskData) → Stands p k d → IsRunning d → CanRun k d.state
 can_run p k d st r = record { source = sym st.role ∙ r.source; idle = r.idle; opened = r.opened; going = r.going }
@@ -45,10 +45,21 @@ close_step p k d now st can made =
     let may = may_close p k d k.ending st can.running (can.next ∙ st.saves) (subst (λ e. ClosesBy e d) st.ending can.by) in
     subst (LocalStep p k d.state Close) ((λ j. record d.state { over = true; pending = to_all (sym st.outputs j) End }) ∙ sym made) (closes (can_run p k d st can.running) may)
 
-pub stop_step : (p : PlanData) (k : AbstractTask) (d : TaskData) (now : State) → Stands p k d → d.setup.saves ≡ 0 → IsStoppable d
-    → now ≡ record d.state { over = true; next = 1; pending = to_all d.setup.outputs (Barrier d.setup.first) } → LocalStep p k d.state Stop now
-stop_step p k d now st none can made =
+-- a source's barrier is the leg's next one
+barrier_alike : (p : PlanData) (k : AbstractTask) (d : TaskData) → Stands p k d → to_all d.setup.outputs (Barrier (d.setup.first + d.state.next)) ≡ to_all k.outputs (Barrier (k.first + d.state.next))
+barrier_alike p k d st = λ j. to_all (st.outputs j) (Barrier (st.first j + d.state.next))
+
+pub stop_step : (p : PlanData) (k : AbstractTask) (d : TaskData) (now : State) → Stands p k d → IsStoppable d
+    → now ≡ record d.state { over = true; next = suc d.state.next; pending = to_all d.setup.outputs (Barrier (d.setup.first + d.state.next)) } → LocalStep p k d.state Stop now
+stop_step p k d now st can made =
     let may = may_stop_now p k d k.ending st can.running (can.next ∙ st.saves) (subst (λ e. StopsBy e d) st.ending can.by) in
-    let next : d.state.next ≡ 0 = can.next ∙ none in
-    let first : k.first + d.state.next ≡ d.setup.first = let e = st.first in omega (arith, e, next) in
-    subst (LocalStep p k d.state Stop) ((λ j. record d.state { over = true; next = suc (next j); pending = to_all (sym st.outputs j) (Barrier (first j)) }) ∙ sym made) (stops (can_run p k d st can.running) may)
+    subst (LocalStep p k d.state Stop) (sym (made ∙ (λ j. record d.state { over = true; next = suc d.state.next; pending = barrier_alike p k d st j }))) (stops (can_run p k d st can.running) may)
+
+pub may_save : (p : PlanData) (k : AbstractTask) (d : TaskData) → Stands p k d → IsSavable d → MaySave k d.state
+may_save p k d st can = (subst (λ n. d.state.next < n) st.saves can.next, at_limit p k d st can.running can.come)
+
+pub save_step : (p : PlanData) (k : AbstractTask) (d : TaskData) (now : State) → Stands p k d → IsSavable d
+    → now ≡ record d.state { next = suc d.state.next; kept = d.state.kept ++ kept_of d.state ∷ []; pending = to_all d.setup.outputs (Barrier (d.setup.first + d.state.next)) } → LocalStep p k d.state Save now
+save_step p k d now st can made =
+    subst (LocalStep p k d.state Save) (sym (made ∙ (λ j. record d.state { next = suc d.state.next; kept = d.state.kept ++ kept_of d.state ∷ []; pending = barrier_alike p k d st j })))
+    (saves (can_run p k d st can.running) (may_save p k d st can))

@@ -85,3 +85,23 @@ window_step p k d i t old new now st role r a has holds added e =
     subst (LocalStep p k d.state (Take i (Rows t))) (sym e)
     (window_rows (sym st.role ∙ role) (takes_rows_here p k d i t st r a)
     (λ q. added q ∙ (λ j. merge (same j).aggregates (get (sym holds j) q) (aggregate_at (same j) t.rows q))))
+
+-- whatever its state is
+pub stands_still : (p : PlanData) (k : AbstractTask) (t : TaskData) (now : State) → Stands p k t → Stands p k (record t { state = now })
+stands_still p k t now st = record {
+  columns = st.columns;
+  time = st.time;
+  key = st.key;
+  window = st.window;
+  role = st.role;
+  inputs = st.inputs;
+  outputs = st.outputs;
+  routing = st.routing;
+  keeps = st.keeps;
+  first = st.first;
+  saves = st.saves;
+  ending = st.ending;
+  source = st.source;
+  numbers = st.numbers;
+  limits = st.limits;
+}

@@ -1,13 +1,17 @@
 -- What a step of a task answers.
-use Rattle.std.specs.Prelude.{◌≡◌, Bool, Result, Ok, Err, true, false}
+use Rattle.std.specs.Prelude.{◌≡◌, ℕ, Bool, List, ◌∷◌, Result, Ok, Err, true, false}
 use Rattle.plan_model.specs.PlanData.{PlanData}
 use Rattle.dataflow_model.specs.AbstractTask.{AbstractTask}
 use Rattle.dataflow_model.specs.State.{Windows, State}
+use Rattle.stream_model.specs.InputData.{InputData}
+use Rattle.dataflow_model.specs.declared.message.Message.{Message}
 use Rattle.dataflow_model.specs.declared.message.Message.TheVariants.{Rows, Fired, Watermark, Barrier, End}
-use Rattle.dataflow_model.specs.Steps.{Event, Open, Read, Save, Stop, Close, Take, Put, LocalStep}
+use Rattle.dataflow_model.specs.Role.{is_source}
+use Rattle.dataflow_model.specs.Steps.{Event, Open, Read, Save, Stop, Close, Take, Put, LocalStep, Takes, CanOpen, CanRun, MayRead, MaySave, MayStop, MayClose}
 use Rattle.task_steps.specs.declared.fault.StepFault.{StepFault}
 use Rattle.task_steps.specs.declared.fault.StepFault.TheVariants.{NotEnabled, Memory, Failed}
-use Rattle.task_steps.specs.TaskData.{TaskData}
+use Rattle.task_steps.specs.TaskData.{TaskData, Stands}
+use Rattle.task_steps.specs.Reading.{ReadsFrom}
 
 -- the events that records are taken by
 abbrev pub is_rows : Event → Bool
@@ -40,3 +44,21 @@ Answers is can e old new (Ok x) = (old.has_failed ≡ false) × GoesOn old new �
 Answers is can e old new (Err NotEnabled) = (old.has_failed ≡ false) × (new ≡ old) × ((p : PlanData) (k : AbstractTask) → is p k → can p k old.state → ⊥)
 Answers is can e old new (Err Memory) = (old.has_failed ≡ false) × HasFailed e old new × ((p : PlanData) (k : AbstractTask) → is p k → can p k old.state)
 Answers is can e old new (Err Failed) = (old.has_failed ≡ true) × (new ≡ old)
+
+-- what an event needs of a task of a layout
+abbrev pub CanStep : Event → PlanData → AbstractTask → State → Type 0
+CanStep Open p k s = CanOpen k s
+CanStep (Read n) p k s = MayRead k s n
+CanStep Save p k s = CanRun k s × MaySave k s
+CanStep Stop p k s = CanRun k s × MayStop k.ending k s
+CanStep Close p k s = CanRun k s × MayClose k.ending k s
+CanStep (Take i m) p k s = Takes p k s i m
+CanStep (Put j m) p k s = (rest : List (ℕ × Message)) × (s.pending ≡ (j, m) ∷ rest)
+
+-- the step of an event is made, or refused, for every task of a layout that this one stands for
+abbrev pub StepsOrRefuses : Event → TaskData → TaskData → Result (Unit {0}) StepFault → Type 0
+StepsOrRefuses e old new said = Answers (λ p k. Stands p k old) (CanStep e) e old new said
+
+-- that of reading partition n of an input, for every one that reads that input
+abbrev pub ReadsOrRefuses : ℕ → InputData → TaskData → TaskData → Result (Unit {0}) StepFault → Type 0
+ReadsOrRefuses n input old new said = Answers (λ p k. Stands p k old × (is_source old.setup.role ≡ true → ReadsFrom k old.setup input)) (CanStep (Read n)) (Read n) old new said

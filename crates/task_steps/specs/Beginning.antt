@@ -1,5 +1,5 @@
 -- What a task is made of.
-use Rattle.std.specs.Prelude.{◌≡◌, ℕ, ℤ, ◌<◌, List, length, Option, option_map, false}
+use Rattle.std.specs.Prelude.{◌≡◌, ℕ, ℤ, ◌+◌, ◌^◌, ◌<◌, List, length, Option, option_map, false}
 use Rattle.std.specs.List.{All}
 use Rattle.window_state.specs.State.{StateData}
 use Rattle.dataflow_model.specs.declared.role.Role.TheVariants.{Source}
@@ -17,7 +17,8 @@ pub record CanBegin (s : Setup) (offsets : List ℕ) (marks : List ℤ) (window 
   pub turn : IsTurn s.role 0 s.outputs
   pub windowing : IsWindowing s 0 false window
   pub marked : length marks ≡ s.inputs
-  pub saves : s.saves ≡ 0
+  pub some : 0 < s.first
+  pub numbers : s.first + s.saves < 2 ^ 64
   pub placed : s.role ≡ Source → length offsets ≡ s.inputs
 
 -- a task that has done nothing

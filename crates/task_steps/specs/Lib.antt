@@ -2,8 +2,11 @@ pub mod Pending
 pub mod Dealing
 pub mod Limits
 pub mod Sending
+pub mod Keeping
+pub mod KeptView
 pub mod TaskData
 pub mod Answers
+pub mod Passing
 pub mod Taking
 pub mod Firing
 pub mod Running

@@ -39,3 +39,8 @@ pub record IsClosable (t : TaskData) : Type 0 where
   pub running : IsRunning t
   pub next : t.state.next ≡ t.setup.saves
   pub by : ClosesBy t.setup.ending t
+
+pub record IsSavable (t : TaskData) : Type 0 where
+  pub running : IsRunning t
+  pub next : t.state.next < t.setup.saves
+  pub come : HasCome t

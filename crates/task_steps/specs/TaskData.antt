@@ -1,5 +1,5 @@
 -- A task as contracts see it.
-use Rattle.std.specs.Prelude.{◌≡◌, ℕ, ◌+◌, ◌*◌, ◌≤◌, ◌<◌, ℤ, List, [], length, Option, Some, None, option_map, slice_index, Bool, true, false}
+use Rattle.std.specs.Prelude.{◌≡◌, ◌==◌, ◌&&◌, ℕ, ◌+◌, ◌*◌, ◌^◌, ◌≤◌, ◌<◌, ℤ, List, [], length, Option, Some, None, option_map, slice_index, Bool, true, false}
 use Rattle.std.specs.List.{All}
 use Rattle.std.specs.FinMap.{get, empty}
 use Rattle.std.specs.VecDeque.{deque_capacity}
@@ -21,6 +21,7 @@ use Rattle.dataflow_model.specs.Role.{is_source}
 use Rattle.dataflow_model.specs.Ending.{may_stop}
 use Rattle.dataflow_model.specs.AbstractTask.{AbstractTask, Routing, Whole, Split as Splits}
 use Rattle.dataflow_model.specs.State.{Windows, State}
+use Rattle.task_steps.specs.Keeping.{barriers_in}
 use Rattle.task_steps.specs.declared.setup.Setup.{Setup}
 use Rattle.task_steps.specs.declared.setup.Split.{Split}
 use Rattle.task_steps.specs.declared.task.Task.TheInside.{Inside}
@@ -54,7 +55,7 @@ task_view t = record {
     windows = windows_in t.window;
     rows = t.rows.items;
     next = t.next;
-    kept = [];
+    kept = t.kept.items;
   };
   has_failed = t.has_failed;
 }
@@ -91,14 +92,16 @@ pub record IsTask (t : Inside) : Type 0 where
   pub marks : length t.inputs.marks ≡ t.setup.inputs
   pub shut : length t.inputs.shut ≡ t.setup.inputs
   pub taken : t.taken ≤ MOST_RECORDS
-  -- a task that keeps no savepoint's state is for legs that take none while they go on
-  pub saves : t.setup.saves ≡ 0
+  -- the leg's barriers have numbers, from 1 on, and the task has come to none that the leg has not
+  pub some : 0 < t.setup.first
+  pub numbers : t.setup.first + t.setup.saves < 2 ^ 64
+  pub next : t.next ≤ barriers_in t.setup
   pub offsets : t.setup.role ≡ role.Source → length t.offsets.items ≡ t.setup.inputs
   -- a task that is over takes nothing, and has not failed
   pub ended : t.over ≡ true → is_source t.setup.role ≡ false → all_shut t.inputs.shut ≡ true
   pub failed : t.has_failed ≡ true → t.over ≡ false
-  -- where a barrier holds an input of a task that goes on, it is the stop's
-  pub held : t.over ≡ false → any_held t.inputs.shut ≡ true → (may_stop t.setup.ending ≡ true) × (t.next ≡ 0)
+  -- where a barrier holds an input of a task that goes on, it is the leg's next
+  pub held : t.over ≡ false → is_source t.setup.role ≡ false → any_held t.inputs.shut ≡ true → t.next < barriers_in t.setup
 
 -- the edge of a layout's task that a split stands for
 abbrev pub IsRouting : Option Split → Routing → Type 0
@@ -131,3 +134,7 @@ pub record Stands (p : PlanData) (k : AbstractTask) (t : TaskData) : Type 0 wher
   pub source : is_source t.setup.role ≡ true → t.setup.source ≡ k.source
   pub numbers : (q : ℕ) → is_source t.setup.role ≡ true → q < t.setup.inputs → k.partition q ≡ slice_index t.setup.partitions q
   pub limits : (n q : ℕ) → is_source t.setup.role ≡ true → q < t.setup.inputs → k.limit n q ≡ limit_at t.setup n q
+
+-- the leg's next barrier is that of its stop
+abbrev pub is_last_in : TaskData → Bool
+is_last_in t = may_stop t.setup.ending && (t.state.next == t.setup.saves)

@@ -6,6 +6,7 @@ mod collecting;
 mod dealing;
 mod fault;
 mod firing;
+mod kept;
 mod pending;
 mod reading;
 mod sending;

@@ -10,7 +10,7 @@ ghost use Rattle.task_steps.specs.Sending.{sends, IsSplit};
 
 use crate::dealing::pieces_of;
 use crate::pending::to_each;
-use crate::setup::Split;
+use crate::setup::{Setup, Split};
 use columns::Batch;
 use dataflow_model::Message;
 use filtering::passing;
@@ -19,7 +19,7 @@ use std::alloc::{AllocError, Global};
 use std::collections::VecDeque;
 
 /// The records that pass all filters. Without filters nothing is copied.
-pub(crate) fn kept(alloc: Global, filters: &[FilterSpec], batch: Batch) -> Result<Batch, AllocError>
+fn kept(alloc: Global, filters: &[FilterSpec], batch: Batch) -> Result<Batch, AllocError>
     requires { All (λ f. f.column < batch.width) filters.now }
     ensures { IfOk result (λ kept. kept ≡ with_rows batch (filter (passes filters.now) batch.rows)) }
 {
@@ -116,4 +116,36 @@ pub(crate) fn send(
     }
     *cursor = next_turn(*cursor, outputs);
     Ok(())
+}
+
+/// Records filtered and made pending. Where no memory is to be had, nothing has changed.
+pub(crate) fn records_through(
+    alloc: Global,
+    setup: &Setup,
+    cursor: &mut u32,
+    pending: &mut VecDeque<(u32, Message)>,
+    batch: Batch,
+) -> Result<(), AllocError>
+    requires idle { pending.old.items ≡ [] }
+    requires room { setup.now.outputs ≤ deque_capacity pending.old }
+    requires turn { cursor.old < setup.now.outputs }
+    requires split { IsSplit setup.now.split setup.now.outputs }
+    requires key { setup.now.key < batch.width }
+    requires filters { All (λ f. f.column < batch.width) setup.now.filters }
+    ensures pending { OnOk result (pending.new.items ≡ sends setup.now.split setup.now.outputs setup.now.key cursor.old (with_rows batch (filter (passes setup.now.filters) batch.rows))) }
+    ensures turn { OnOk result (cursor.new ≡ next_cursor setup.now.outputs cursor.old (filter (passes setup.now.filters) batch.rows)) }
+    ensures kept { OnErr result (pending.new.items ≡ pending.old.items) }
+    ensures kept_turn { OnErr result (cursor.new ≡ cursor.old) }
+    ensures capacity { deque_capacity pending.new ≡ deque_capacity pending.old }
+{
+    let batch = kept(alloc, setup.filters.as_slice(), batch)?;
+    send(
+        alloc,
+        setup.split,
+        setup.outputs,
+        setup.key,
+        cursor,
+        pending,
+        batch,
+    )
 }

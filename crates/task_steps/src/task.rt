@@ -1,20 +1,13 @@
 //! One task of a leg, and its steps.
 
-ghost use Rattle.std.specs.Prelude.{◌≡◌, ◌≤◌, ◌<◌, [], length, OnOk, OnErr, filter};
-ghost use Rattle.std.specs.List.{All};
-ghost use Rattle.std.specs.VecDeque.{deque_capacity};
-ghost use Rattle.columns.specs.Parts.{with_rows};
-ghost use Rattle.plan_model.specs.Windows.{passes};
-ghost use Rattle.dataflow_model.specs.Routes.{next_cursor};
-ghost use Rattle.task_steps.specs.Sending.{sends, IsSplit};
-
 use crate::admitting::are_times;
 use crate::collecting::collect;
 use crate::fault::StepFault;
 use crate::firing::fire_at;
+use crate::kept::Kept;
 use crate::pending::{Notice, to_all};
 use crate::reading::{announce, send_entry};
-use crate::sending::{kept, send};
+use crate::sending::records_through;
 use crate::setup::Setup;
 use columns::Batch;
 use dataflow_model::{Ending, Message, Role};
@@ -45,6 +38,7 @@ pub struct Task {
     window: Option<WindowState>,
     rows: Vec<Row>,
     next: u64,
+    kept: Vec<Kept>,
     has_failed: bool,
 }
 
@@ -65,24 +59,28 @@ impl Model for Task {
 }
 
 impl Task {
-    ghost use Rattle.std.specs.Prelude.{◌≡◌, true, false, ◌↔◌, IsTrue, IfOk, IfErr, [], MatchOption};
+    ghost use Rattle.std.specs.Prelude.{◌≡◌, ◌↔◌, ◌+◌, ◌++◌, ◌∷◌, ◌<◌, [], suc, true, false, length, Some, ℕ, IsTrue, IfOk, IfErr, OnOk, OnErr, MatchOption, MatchResult};
     ghost use Rattle.plan_model.specs.PlanData.{PlanData};
     ghost use Rattle.dataflow_model.specs.AbstractTask.{AbstractTask};
     ghost use Rattle.dataflow_model.specs.Role.{is_source};
     ghost use Rattle.dataflow_model.specs.declared.message.Message.TheVariants.{Rows, Fired, Watermark, Barrier, End};
-    ghost use Rattle.dataflow_model.specs.Steps.{Open, Read, Stop, Close, Take, CanOpen, CanRun, MayRead, MayStop, MayClose, Takes, IsDone, LocalStep};
-    ghost use Rattle.task_steps.specs.Answers.{Answers, GoesOn};
+    ghost use Rattle.dataflow_model.specs.Steps.{Open, Read, Save, Stop, Close, Take, IsDone, LocalStep};
+    ghost use Rattle.task_steps.specs.Answers.{StepsOrRefuses, ReadsOrRefuses, GoesOn};
     ghost use Rattle.task_steps.specs.Beginning.{CanBegin, begun};
+    ghost use Rattle.dataflow_model.specs.State.{kept_of};
+    ghost use Rattle.dataflow_model.specs.Routes.{to_all as each_output};
+    ghost use Rattle.input_state.specs.Inputs.{all_shut, any_held};
+    ghost use Rattle.task_steps.specs.Keeping.{barriers_in};
+    ghost use Rattle.task_steps.specs.Passing.{Passes, refused_at};
     ghost use Rattle.task_steps.specs.Puts.{IsFirst, Puts};
-    ghost use Rattle.task_steps.specs.Reading.{HasPartitions, ReadsFrom, IsReadable, IsMine, HasMine};
-    ghost use Rattle.task_steps.specs.Running.{IsOpenable, IsRunning, HasCome, IsStoppable, IsClosable};
+    ghost use Rattle.task_steps.specs.Reading.{HasPartitions, IsReadable, IsMine, HasMine};
+    ghost use Rattle.task_steps.specs.Running.{IsOpenable, IsRunning, HasCome, IsSavable, IsStoppable, IsClosable};
     ghost use Rattle.task_steps.specs.Taking.{IsReady, AreAdmitted};
-    ghost use Rattle.std.specs.Prelude.{length, Some, ℕ};
     ghost use Rattle.std.specs.FinMap.{entries};
     ghost use Rattle.plan_model.specs.declared.spec.WindowSpec.{WindowSpec};
     ghost use Rattle.dataflow_model.specs.declared.role.Role.TheVariants as role;
     ghost use Rattle.window_state.specs.Parts.{entries_of};
-    ghost use Rattle.task_steps.specs.TaskData.{Stands, ArePartsOf};
+    ghost use Rattle.task_steps.specs.TaskData.{Stands, ArePartsOf, is_last_in};
 
     /// A task that has done nothing: of a source with the offsets and watermarks of its partitions, of others with
     /// the least watermark of each input, and of the window's with what stands in its windows.
@@ -117,6 +115,7 @@ impl Task {
             window,
             rows: Vec::new(alloc),
             next: 0,
+            kept: Vec::new(alloc),
             has_failed: false,
         })
     }
@@ -226,7 +225,7 @@ impl Task {
     /// `NotEnabled` where the task has no such step now, and nothing has changed. `Memory` where memory runs
     /// out: the task is as it was, but for its windows where it took records. `Failed` after that.
     pub fn take(&mut self, i: u32, message: Message) -> Result<(), StepFault>
-        ensures { Answers (λ p k. Stands p k self.old) (λ p k s. Takes p k s i message) (Take i message) self.old self.new result }
+        ensures { StepsOrRefuses (Take i message) self.old self.new result }
     {
         if self.has_failed {
             return Err(StepFault::Failed);
@@ -239,10 +238,7 @@ impl Task {
             Message::Fired(rows) => self.take_fired(i, rows),
             Message::Watermark(t) => self.take_mark(i, t),
             Message::Barrier(n) => self.take_barrier(i, n),
-            Message::End => {
-                self.take_end(i);
-                Ok(())
-            }
+            Message::End => self.take_end(i),
         }
     }
 
@@ -250,7 +246,7 @@ impl Task {
     fn take_rows(&mut self, i: u32, batch: Batch) -> Result<(), StepFault>
         requires going { self.old.has_failed ≡ false }
         requires ready { IsReady self.old i }
-        ensures { Answers (λ p k. Stands p k self.old) (λ p k s. Takes p k s i (Rows batch)) (Take i (Rows batch)) self.old self.new result }
+        ensures { StepsOrRefuses (Take i (Rows batch)) self.old self.new result }
     {
         if !self.admits_rows(&batch) {
             return Err(StepFault::NotEnabled);
@@ -267,7 +263,7 @@ impl Task {
         requires window { self.old.setup.role ≡ Role.Window }
         requires ready { IsReady self.old i }
         requires admitted { AreAdmitted self.old batch }
-        ensures { Answers (λ p k. Stands p k self.old) (λ p k s. Takes p k s i (Rows batch)) (Take i (Rows batch)) self.old self.new result }
+        ensures { StepsOrRefuses (Take i (Rows batch)) self.old self.new result }
     {
         let count = batch.len() as u64;
         let Some(window) = &mut self.window else {
@@ -290,7 +286,7 @@ impl Task {
         requires going { self.old.has_failed ≡ false }
         requires window { self.old.setup.role ≡ Role.Window }
         requires ready { IsReady self.old i }
-        ensures { Answers (λ p k. Stands p k self.old) (λ p k s. Takes p k s i (Watermark t)) (Take i (Watermark t)) self.old self.new result }
+        ensures { StepsOrRefuses (Take i (Watermark t)) self.old self.new result }
     {
         let low = self.inputs.rise(i as usize, t);
         let having = self.setup.having.as_slice();
@@ -334,7 +330,7 @@ impl Task {
     fn take_mark(&mut self, i: u32, t: i64) -> Result<(), StepFault>
         requires going { self.old.has_failed ≡ false }
         requires ready { IsReady self.old i }
-        ensures { Answers (λ p k. Stands p k self.old) (λ p k s. Takes p k s i (Watermark t)) (Take i (Watermark t)) self.old self.new result }
+        ensures { StepsOrRefuses (Take i (Watermark t)) self.old self.new result }
     {
         match self.setup.role {
             Role::Source => return Err(StepFault::NotEnabled),
@@ -349,7 +345,7 @@ impl Task {
     fn take_fired(&mut self, i: u32, rows: Items<Row>) -> Result<(), StepFault>
         requires going { self.old.has_failed ≡ false }
         requires ready { IsReady self.old i }
-        ensures { Answers (λ p k. Stands p k self.old) (λ p k s. Takes p k s i (Fired rows)) (Take i (Fired rows)) self.old self.new result }
+        ensures { StepsOrRefuses (Take i (Fired rows)) self.old self.new result }
     {
         match self.setup.role {
             Role::Sink => self.sink_rows(i, rows),
@@ -362,7 +358,7 @@ impl Task {
         requires going { self.old.has_failed ≡ false }
         requires sink { self.old.setup.role ≡ Role.Sink }
         requires ready { IsReady self.old i }
-        ensures { Answers (λ p k. Stands p k self.old) (λ p k s. Takes p k s i (Fired rows)) (Take i (Fired rows)) self.old self.new result }
+        ensures { StepsOrRefuses (Take i (Fired rows)) self.old self.new result }
     {
         match collect(&mut self.rows, rows) {
             Ok(()) => Ok(()),
@@ -386,7 +382,7 @@ impl Task {
     ///
     /// `NotEnabled` of a task that cannot open, `Failed` after a step that found no memory.
     pub fn open(&mut self) -> Result<(), StepFault>
-        ensures steps { Answers (λ p k. Stands p k self.old) (λ p k s. CanOpen k s) Open self.old self.new result }
+        ensures steps { StepsOrRefuses Open self.old self.new result }
         ensures no_memory { IfErr result (λ fault. fault ≡ StepFault.Memory → ⊥) }
     {
         if self.has_failed {
@@ -424,6 +420,41 @@ impl Task {
         true
     }
 
+    /// Whether a source has come to where the leg's next savepoint is taken on the way.
+    pub fn can_save(&self) -> bool
+        ensures { IsTrue result ↔ IsSavable self.now }
+    {
+        self.is_running() && self.next < self.setup.saves && self.is_at_limit()
+    }
+
+    /// Keeps what a source has for a savepoint on the way: the savepoint's barrier is made pending for every output,
+    /// and the source goes on.
+    ///
+    /// # Errors
+    ///
+    /// `NotEnabled` of a task that is not at a savepoint's cut, and nothing has changed. `Memory` where memory runs
+    /// out: the task is as it was. `Failed` after that.
+    pub fn save(&mut self) -> Result<(), StepFault>
+        ensures { StepsOrRefuses Save self.old self.new result }
+    {
+        if self.has_failed {
+            return Err(StepFault::Failed);
+        }
+        if !self.can_save() {
+            return Err(StepFault::NotEnabled);
+        }
+        match self.keep() {
+            Ok(()) => {
+                self.send_barrier();
+                Ok(())
+            }
+            Err(_) => {
+                self.has_failed = true;
+                Err(StepFault::Memory)
+            }
+        }
+    }
+
     /// Whether a source could stop with a barrier.
     pub fn can_stop(&self) -> bool
         ensures { IsTrue result ↔ IsStoppable self.now }
@@ -443,7 +474,7 @@ impl Task {
     ///
     /// `NotEnabled` of a task that cannot stop, `Failed` after a step that found no memory.
     pub fn stop(&mut self) -> Result<(), StepFault>
-        ensures steps { Answers (λ p k. Stands p k self.old) (λ p k s. CanRun k s × MayStop k.ending k s) Stop self.old self.new result }
+        ensures steps { StepsOrRefuses Stop self.old self.new result }
         ensures no_memory { IfErr result (λ fault. fault ≡ StepFault.Memory → ⊥) }
     {
         if self.has_failed {
@@ -452,13 +483,8 @@ impl Task {
         if !self.can_stop() {
             return Err(StepFault::NotEnabled);
         }
-        to_all(
-            &mut self.pending,
-            self.setup.outputs,
-            Notice::Barrier(self.setup.first),
-        );
         self.over = true;
-        self.next = 1;
+        self.send_barrier();
         Ok(())
     }
 
@@ -481,7 +507,7 @@ impl Task {
     ///
     /// `NotEnabled` of a task that cannot close, `Failed` after a step that found no memory.
     pub fn close(&mut self) -> Result<(), StepFault>
-        ensures steps { Answers (λ p k. Stands p k self.old) (λ p k s. CanRun k s × MayClose k.ending k s) Close self.old self.new result }
+        ensures steps { StepsOrRefuses Close self.old self.new result }
         ensures no_memory { IfErr result (λ fault. fault ≡ StepFault.Memory → ⊥) }
     {
         if self.has_failed {
@@ -564,7 +590,7 @@ impl Task {
         requires columns { input.now.columns ≡ self.old.setup.columns }
         requires time { input.now.time ≡ self.old.setup.time }
         requires input { is_source self.old.setup.role ≡ true → HasPartitions self.old.setup input.now }
-        ensures { Answers (λ p k. Stands p k self.old × (is_source self.old.setup.role ≡ true → ReadsFrom k self.old.setup input.now)) (λ p k s. MayRead k s number) (Read number) self.old self.new result }
+        ensures { ReadsOrRefuses number input.now self.old self.new result }
     {
         if self.has_failed {
             return Err(StepFault::Failed);
@@ -581,7 +607,7 @@ impl Task {
         requires time { input.now.time ≡ self.old.setup.time }
         requires input { HasPartitions self.old.setup input.now }
         requires mine { IsMine self.old number q }
-        ensures { Answers (λ p k. Stands p k self.old × (is_source self.old.setup.role ≡ true → ReadsFrom k self.old.setup input.now)) (λ p k s. MayRead k s number) (Read number) self.old self.new result }
+        ensures { ReadsOrRefuses number input.now self.old self.new result }
     {
         let source = self.setup.source;
         let partition = self.setup.partitions.as_slice()[q as usize];
@@ -614,50 +640,123 @@ impl Task {
         }
     }
 
+    /// Whether a barrier with this number is the leg's next.
+    fn expects(&self, n: u64) -> bool
+        ensures { IsTrue result ↔ (n ≡ self.now.setup.first + self.now.state.next) × (self.now.state.next < barriers_in self.now.setup) }
+    {
+        let more = if self.setup.ending.may_stop() {
+            self.next <= self.setup.saves
+        } else {
+            self.next < self.setup.saves
+        };
+        more && n == self.setup.first + self.next
+    }
+
+    /// Whether the leg's next barrier is that of its stop.
+    fn is_last(&self) -> bool
+        ensures { result ≡ is_last_in self.now }
+    {
+        self.setup.ending.may_stop() && self.next == self.setup.saves
+    }
+
+    /// Keeps what there is for a savepoint. Where no memory is to be had, nothing has changed.
+    fn keep(&mut self) -> Result<(), AllocError>
+        ensures kept { OnOk result (self.new ≡ record self.old { state = record self.old.state { kept = self.old.state.kept ++ kept_of self.old.state ∷ [] } }) }
+        ensures err { OnErr result (self.new ≡ self.old) }
+    {
+        let inputs = &self.inputs;
+        let rows = self.rows.len();
+        let kept = Kept::new(
+            self.alloc,
+            &self.offsets,
+            inputs.marks(),
+            &self.window,
+            rows,
+        )?;
+        self.kept.push(kept)?;
+        Ok(())
+    }
+
     /// Takes a barrier from an input.
     fn take_barrier(&mut self, i: u32, n: u64) -> Result<(), StepFault>
         requires going { self.old.has_failed ≡ false }
         requires ready { IsReady self.old i }
-        ensures { Answers (λ p k. Stands p k self.old) (λ p k s. Takes p k s i (Barrier n)) (Take i (Barrier n)) self.old self.new result }
+        ensures { StepsOrRefuses (Take i (Barrier n)) self.old self.new result }
     {
-        let stops = self.setup.ending.may_stop();
-        if !stops || self.next > 0 || n != self.setup.first {
+        if !self.expects(n) {
             return Err(StepFault::NotEnabled);
         }
         match self.inputs.barrier(i as usize) {
-            Aligned::Barrier => {
-                to_all(&mut self.pending, self.setup.outputs, Notice::Barrier(n));
-                self.over = true;
-                self.next = 1;
-            }
-            Aligned::Waiting | Aligned::AllEnded => {}
+            Aligned::Barrier => self.pass_barrier(i),
+            Aligned::Waiting | Aligned::AllEnded => Ok(()),
         }
-        Ok(())
     }
 
     /// Takes the end of an input.
-    fn take_end(&mut self, i: u32)
+    fn take_end(&mut self, i: u32) -> Result<(), StepFault>
         requires going { self.old.has_failed ≡ false }
         requires ready { IsReady self.old i }
-        ensures on { GoesOn self.old self.new }
-        ensures step { (p : PlanData) (k : AbstractTask) → Stands p k self.old → LocalStep p k self.old.state (Take i End) self.new.state }
+        ensures { StepsOrRefuses (Take i End) self.old self.new result }
     {
         match self.inputs.end(i as usize) {
-            Aligned::Waiting => {}
+            Aligned::Barrier => self.pass_barrier(i),
             Aligned::AllEnded => {
                 to_all(&mut self.pending, self.setup.outputs, Notice::End);
                 self.over = true;
+                Ok(())
             }
-            Aligned::Barrier => {
-                to_all(
-                    &mut self.pending,
-                    self.setup.outputs,
-                    Notice::Barrier(self.setup.first),
-                );
-                self.over = true;
-                self.next = 1;
+            Aligned::Waiting => Ok(()),
+        }
+    }
+
+    /// Passes the leg's next barrier, to which input i was the last to come: by that of the leg's stop the task is over,
+    /// else it keeps itself and lets its inputs go. Where no memory is to be had for that, input i is free again.
+    fn pass_barrier(&mut self, i: u32) -> Result<(), StepFault>
+        requires going { (self.old.has_failed ≡ false) × (self.old.state.over ≡ false) }
+        requires taker { is_source self.old.setup.role ≡ false }
+        requires idle { self.old.state.pending ≡ [] }
+        requires input { i < self.old.setup.inputs }
+        requires more { self.old.state.next < barriers_in self.old.setup }
+        requires all { all_shut self.old.state.inputs.shut ≡ true }
+        ensures { MatchResult result (λ done. Passes self.old self.new) (λ fault. (fault ≡ StepFault.Memory) × (self.new ≡ refused_at i self.old)) }
+    {
+        if self.is_last() {
+            self.over = true;
+            self.send_barrier();
+            return Ok(());
+        }
+        match self.keep() {
+            Ok(()) => {
+                self.inputs.release();
+                self.send_barrier();
+                Ok(())
+            }
+            Err(_) => {
+                self.inputs.reopen(i as usize);
+                self.has_failed = true;
+                Err(StepFault::Memory)
             }
         }
+    }
+
+    /// Makes the leg's next barrier pending for every output.
+    fn send_barrier(&mut self)
+        requires idle { self.old.state.pending ≡ [] }
+        requires more { self.old.state.next < barriers_in self.old.setup }
+        requires free { self.old.state.over ≡ false → is_source self.old.setup.role ≡ false → any_held self.old.state.inputs.shut ≡ false }
+        ensures { self.new ≡ record self.old {
+          state = record self.old.state {
+            next = suc self.old.state.next;
+            pending = each_output self.old.setup.outputs (Barrier (self.old.setup.first + self.old.state.next));
+          };
+        } }
+    {
+        to_all(
+            &mut self.pending,
+            self.setup.outputs,
+            Notice::Barrier(self.setup.first + self.next),
+        );
+        self.next += 1;
     }
 
     fn chain_rows(&mut self, i: u32, batch: Batch) -> Result<(), StepFault>
@@ -665,7 +764,7 @@ impl Task {
         requires chain { self.old.setup.role ≡ Role.Chain }
         requires ready { IsReady self.old i }
         requires admitted { AreAdmitted self.old batch }
-        ensures { Answers (λ p k. Stands p k self.old) (λ p k s. Takes p k s i (Rows batch)) (Take i (Rows batch)) self.old self.new result }
+        ensures { StepsOrRefuses (Take i (Rows batch)) self.old self.new result }
     {
         let count = batch.len() as u64;
         match records_through(
@@ -685,36 +784,4 @@ impl Task {
             }
         }
     }
-}
-
-/// Records filtered and made pending. Where no memory is to be had, nothing has changed.
-fn records_through(
-    alloc: Global,
-    setup: &Setup,
-    cursor: &mut u32,
-    pending: &mut VecDeque<(u32, Message)>,
-    batch: Batch,
-) -> Result<(), AllocError>
-    requires idle { pending.old.items ≡ [] }
-    requires room { setup.now.outputs ≤ deque_capacity pending.old }
-    requires turn { cursor.old < setup.now.outputs }
-    requires split { IsSplit setup.now.split setup.now.outputs }
-    requires key { setup.now.key < batch.width }
-    requires filters { All (λ f. f.column < batch.width) setup.now.filters }
-    ensures pending { OnOk result (pending.new.items ≡ sends setup.now.split setup.now.outputs setup.now.key cursor.old (with_rows batch (filter (passes setup.now.filters) batch.rows))) }
-    ensures turn { OnOk result (cursor.new ≡ next_cursor setup.now.outputs cursor.old (filter (passes setup.now.filters) batch.rows)) }
-    ensures kept { OnErr result (pending.new.items ≡ pending.old.items) }
-    ensures kept_turn { OnErr result (cursor.new ≡ cursor.old) }
-    ensures capacity { deque_capacity pending.new ≡ deque_capacity pending.old }
-{
-    let batch = kept(alloc, setup.filters.as_slice(), batch)?;
-    send(
-        alloc,
-        setup.split,
-        setup.outputs,
-        setup.key,
-        cursor,
-        pending,
-        batch,
-    )
 }

@@ -23,9 +23,11 @@ invariant_of-result c =
       marks = ap (λ (v : InputsData). length v.marks) c.in_ok-inputs.ensures ∙ r.marked;
       shut = ap (λ (l : List Shut). length l) free ∙ length-replicate n Free ∙ r.marked;
       taken = omega arith;
-      saves = r.saves;
+      some = r.some;
+      numbers = r.numbers;
+      next = omega arith;
       offsets = r.placed;
       ended = λ over. absurd (false≢true over);
       failed = λ fails. absurd (false≢true fails);
-      held = λ _ any. absurd (false≢true (sym (ap any_held free ∙ none_held n) ∙ any));
+      held = λ _ _ any. absurd (false≢true (sym (ap any_held free ∙ none_held n) ∙ any));
     }

@@ -35,3 +35,9 @@ returns-in-Barrier c =
     let d = c.args.self.now in
     let i = c.args.i in
     subst (λ (m : Message). Answers (λ p k. Stands p k d) (λ p k s. Takes p k s i m) (Take i m) d c.take_barrier.new.self c.take_barrier.result) (sym c.in-Barrier.is) c.take_barrier.ensures
+
+pub returns-in-End : goal.returns-in-End
+returns-in-End c =
+    let d = c.args.self.now in
+    let i = c.args.i in
+    subst (λ (m : Message). Answers (λ p k. Stands p k d) (λ p k s. Takes p k s i m) (Take i m) d c.take_end.new.self c.take_end.result) (sym c.in-End.is) c.take_end.ensures

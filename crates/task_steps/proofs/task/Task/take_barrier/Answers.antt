@@ -1,45 +1,25 @@
-use Rattle.std.proofs.Common.{◌≡◌, ◌++◌, ℕ, true, length, ap, sym, subst, ◌∙◌, arith, inl, inr}
-use Rattle.std.specs.Prelude.{slice_set}
+use Rattle.std.proofs.Common.{◌≡◌, ◌<◌, false, length, refl, ap, sym, subst, ◌∙◌, arith, inl, inr}
+use Rattle.std.specs.Prelude.{slice_set, MatchResult}
 use Rattle.std.proofs.Math.ListN.{length-set}
 use Rattle.std.proofs.lemmas.Bool.{false≢true}
 use Rattle.input_state.specs.declared.inputs.Shut.{Shut}
 use Rattle.input_state.specs.declared.inputs.Shut.TheVariants.{Held}
-use Rattle.input_state.specs.Inputs.{InputsData, inputs_from, alignment}
+use Rattle.input_state.specs.Inputs.{InputsData, alignment}
 use Rattle.input_state.specs.declared.inputs.Aligned.TheVariants as aligned
 use Rattle.dataflow_model.specs.declared.message.Message.TheVariants.{Barrier}
-use Rattle.dataflow_model.specs.Ending.{may_stop}
-use Rattle.dataflow_model.specs.State.{State}
-use Rattle.dataflow_model.specs.Routes.{to_all}
+use Rattle.dataflow_model.specs.Steps.{Take, Takes}
+use Rattle.task_steps.specs.declared.fault.StepFault.TheVariants.{Memory}
+use Rattle.task_steps.specs.Keeping.{barriers_in}
 use Rattle.task_steps.specs.TaskData.{TaskData, task_view}
 use Rattle.task_steps.specs.Taking.{IsReady}
-use Rattle.task_steps.proofs.Barriers.{not_all_ended, aligns_step, holds_step}
+use Rattle.task_steps.specs.Passing.{Passes, closed_at, refused_at}
+use Rattle.task_steps.proofs.Barriers.{not_all_ended, takes_barrier_here, aligns_step, holds_step, passing}
+use Rattle.task_steps.proofs.Going.{goes_on}
 use Rattle.task_steps.proofs.Over.{going}
 use Rattle.task_steps.proofs.task.Task.take_barrier.Goals as goal
 
-pub returns-in-Barrier : goal.returns-in-Barrier
-returns-in-Barrier c =
-    let s = c.self.inside in
-    let d = c.args.self.now in
-    let i = c.args.i in
-    let n = c.args.n in
-    let inside = task_view s in
-    let ready : IsReady inside i = subst (λ (v : TaskData). IsReady v i) (sym c.self.view_is) c.requires.ready in
-    let is = λ (f : TaskData → ℕ). ap f c.self.view_is in
-    let none : d.setup.saves ≡ 0 = sym (is (λ v. v.setup.saves)) ∙ c.self.invariant.saves in
-    let stops : may_stop d.setup.ending ≡ true = sym (ap (λ (v : TaskData). may_stop v.setup.ending) c.self.view_is) ∙ sym c.may_stop-stops.ensures ∙ c.if-not-stops.false in
-    let next : d.state.next ≡ 0 = let e = is (λ v. v.state.next) in omega arith in
-    let number : n ≡ d.setup.first = c.if-n-self.false ∙ is (λ v. v.setup.first) in
-    let all : alignment (slice_set d.state.inputs.shut i Held) ≡ aligned.Barrier =
-    sym (ap (λ (v : TaskData). alignment (slice_set v.state.inputs.shut i Held)) c.self.view_is) ∙ sym (ap (λ (v : InputsData). alignment v.shut) c.barrier.ensures.held) ∙ sym c.barrier.ensures.aligned ∙ c.in-Barrier.is in
-    let now : State = record inside.state { pending = c.to_all.new.pending.items; over = true; inputs = c.barrier.new.self; next = 1 } in
-    let sent : c.to_all.new.pending.items ≡ to_all s.setup.outputs (Barrier n) = c.to_all.ensures.pending ∙ ap (λ l. l ++ to_all s.setup.outputs (Barrier n)) ready.idle in
-    let made : now ≡ record d.state { inputs = inputs_from d.state.inputs.marks (slice_set d.state.inputs.shut i Held); over = true; next = 1; pending = to_all d.setup.outputs (Barrier n) } =
-    (λ j. record inside.state { pending = sent j; over = true; inputs = c.barrier.ensures.held j; next = 1 })
-    ∙ ap (λ (v : TaskData). record v.state { inputs = inputs_from v.state.inputs.marks (slice_set v.state.inputs.shut i Held); over = true; next = 1; pending = to_all v.setup.outputs (Barrier n) }) c.self.view_is in (
-      c.requires.going,
-      record { is = ap (λ (v : TaskData). record v { state = now }) c.self.view_is },
-      λ p k st. aligns_step p k d i n now st c.requires.ready none stops next number all made,
-    )
+pub pass_barrier-requires-clause-going : goal.pass_barrier-requires-clause-going
+pass_barrier-requires-clause-going c = (ap (λ (v : TaskData). v.has_failed) c.self.view_is ∙ c.requires.going, going c.self.inside c.args.self.now c.args.i c.self.invariant c.self.view_is c.requires.ready)
 
 pub invariant_of-self-in-Waiting : goal.invariant_of-self-in-Waiting
 invariant_of-self-in-Waiting c =
@@ -53,16 +33,39 @@ invariant_of-self-in-Waiting c =
       filters = inv.filters;
       split = inv.split;
       offsets = inv.offsets;
-      saves = inv.saves;
+      some = inv.some;
+      numbers = inv.numbers;
+      next = inv.next;
       taken = inv.taken;
       turn = inv.turn;
       windowing = inv.windowing;
       marks = ap (λ (v : InputsData). length v.marks) c.barrier.ensures.held ∙ inv.marks;
       shut = let e = ap (λ (v : InputsData). length v.shut) c.barrier.ensures.held in omega (arith, length-set {A = Shut}, inv.shut);
       ended = λ over. absurd (false≢true (sym on ∙ over));
-      held = λ _ _. (sym c.may_stop-stops.ensures ∙ c.if-not-stops.false, omega arith);
+      held = λ _ _ _. subst (λ (v : TaskData). v.state.next < barriers_in v.setup) (sym c.self.view_is) (c.if-not-expects.ensures.0 refl).1;
       failed = λ _. on;
     }
+
+pub returns-in-Barrier : goal.returns-in-Barrier
+returns-in-Barrier c =
+    let s = c.self.inside in
+    let d = c.args.self.now in
+    let i = c.args.i in
+    let n = c.args.n in
+    let new = c.pass_barrier.new.self in
+    let inside = task_view s in
+    let told = c.if-not-expects.ensures.0 refl in
+    let number = told.0 in
+    let more = told.1 in
+    let all : alignment (slice_set d.state.inputs.shut i Held) ≡ aligned.Barrier =
+    sym (ap (λ (v : TaskData). alignment (slice_set v.state.inputs.shut i Held)) c.self.view_is) ∙ sym (ap (λ (v : InputsData). alignment v.shut) c.barrier.ensures.held) ∙ sym c.barrier.ensures.aligned ∙ c.in-Barrier.is in
+    let shut : record inside { state = record inside.state { inputs = c.barrier.new.self } } ≡ closed_at i Held d =
+    (λ j. record inside { state = record inside.state { inputs = c.barrier.ensures.held j } }) ∙ ap (closed_at i Held) c.self.view_is in
+    let on : d.state.over ≡ false = sym (ap (λ (v : TaskData). v.state.over) c.self.view_is) ∙ going s d i c.self.invariant c.self.view_is c.requires.ready in
+    passing (λ p k s. Takes p k s i (Barrier n)) (Take i (Barrier n)) d new i Held c.pass_barrier.result c.requires.going on c.requires.ready.free
+    (λ p k st. takes_barrier_here p k d i n st c.requires.ready number more)
+    (λ p k st. aligns_step p k d i n _ st c.requires.ready number more all refl)
+    (subst (λ (m : TaskData). MatchResult c.pass_barrier.result (λ done. Passes m new) (λ fault. (fault ≡ Memory) × (new ≡ refused_at i m))) shut c.pass_barrier.ensures)
 
 pub returns-in-Waiting : goal.returns-in-Waiting
 returns-in-Waiting c =
@@ -72,20 +75,17 @@ returns-in-Waiting c =
     let n = c.args.n in
     let inside = task_view s in
     let ready : IsReady inside i = subst (λ (v : TaskData). IsReady v i) (sym c.self.view_is) c.requires.ready in
-    let is = λ (f : TaskData → ℕ). ap f c.self.view_is in
-    let none : d.setup.saves ≡ 0 = sym (is (λ v. v.setup.saves)) ∙ c.self.invariant.saves in
-    let stops : may_stop d.setup.ending ≡ true = sym (ap (λ (v : TaskData). may_stop v.setup.ending) c.self.view_is) ∙ sym c.may_stop-stops.ensures ∙ c.if-not-stops.false in
-    let next : d.state.next ≡ 0 = let e = is (λ v. v.state.next) in omega arith in
-    let number : n ≡ d.setup.first = c.if-n-self.false ∙ is (λ v. v.setup.first) in
+    let told = c.if-not-expects.ensures.0 refl in
+    let number = told.0 in
+    let more = told.1 in
     let said : c.barrier.result ≡ alignment (slice_set s.inputs.shut i Held) = c.barrier.ensures.aligned ∙ ap (λ (v : InputsData). alignment v.shut) c.barrier.ensures.held in
     let long = c.self.invariant.shut in
     let some = ready.input in
     let waits : c.barrier.result ≡ aligned.Waiting = elim c.in-Waiting.is [ inl e ↦ e | inr e ↦ absurd (not_all_ended s.inputs.shut i (omega arith) (sym said ∙ e)) ] in
     let wait : alignment (slice_set d.state.inputs.shut i Held) ≡ aligned.Waiting = sym (ap (λ (v : TaskData). alignment (slice_set v.state.inputs.shut i Held)) c.self.view_is) ∙ sym said ∙ waits in
-    let now : State = record inside.state { inputs = c.barrier.new.self } in
-    let made : now ≡ record d.state { inputs = inputs_from d.state.inputs.marks (slice_set d.state.inputs.shut i Held) } =
-    (λ j. record inside.state { inputs = c.barrier.ensures.held j }) ∙ ap (λ (v : TaskData). record v.state { inputs = inputs_from v.state.inputs.marks (slice_set v.state.inputs.shut i Held) }) c.self.view_is in (
+    let shut : record inside { state = record inside.state { inputs = c.barrier.new.self } } ≡ closed_at i Held d =
+    (λ j. record inside { state = record inside.state { inputs = c.barrier.ensures.held j } }) ∙ ap (closed_at i Held) c.self.view_is in (
       c.requires.going,
-      record { is = ap (λ (v : TaskData). record v { state = now }) c.self.view_is },
-      λ p k st. holds_step p k d i n now st c.requires.ready none stops next number wait made,
+      goes_on d (record inside { state = record inside.state { inputs = c.barrier.new.self } }) (closed_at i Held d).state shut,
+      λ p k st. holds_step p k d i n _ st c.requires.ready number more wait (ap (λ (v : TaskData). v.state) shut),
     )

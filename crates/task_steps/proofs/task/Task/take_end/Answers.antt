@@ -1,17 +1,21 @@
-use Rattle.std.proofs.Common.{◌≡◌, ◌++◌, [], true, length, ap, sym, ◌∙◌, arith}
-use Rattle.std.specs.Prelude.{slice_set}
+use Rattle.std.proofs.Common.{◌≡◌, ◌++◌, [], true, false, length, refl, ap, sym, subst, ◌∙◌, arith}
+use Rattle.std.specs.Prelude.{slice_set, MatchResult}
 use Rattle.std.proofs.Math.ListN.{length-set}
 use Rattle.std.proofs.lemmas.Bool.{false≢true}
 use Rattle.input_state.specs.declared.inputs.Shut.{Shut}
 use Rattle.input_state.specs.declared.inputs.Shut.TheVariants.{Ended}
-use Rattle.input_state.specs.Inputs.{InputsData, inputs_from, any_held, alignment}
+use Rattle.input_state.specs.Inputs.{InputsData, alignment, any_held}
 use Rattle.input_state.specs.declared.inputs.Aligned.TheVariants as aligned
-use Rattle.dataflow_model.specs.declared.message.Message.TheVariants.{Barrier, End}
-use Rattle.dataflow_model.specs.Ending.{may_stop}
+use Rattle.dataflow_model.specs.declared.message.Message.TheVariants.{End}
 use Rattle.dataflow_model.specs.State.{State}
 use Rattle.dataflow_model.specs.Routes.{to_all}
+use Rattle.dataflow_model.specs.Steps.{Take, Takes}
+use Rattle.task_steps.specs.declared.fault.StepFault.TheVariants.{Memory}
 use Rattle.task_steps.specs.TaskData.{TaskData, task_view}
-use Rattle.task_steps.proofs.Barriers.{held_before, held_of, ends_step, ends_all_step, ends_aligned_step}
+use Rattle.task_steps.specs.Taking.{IsReady}
+use Rattle.task_steps.specs.Passing.{Passes, closed_at, refused_at}
+use Rattle.task_steps.proofs.Barriers.{held_before, held_of, takes_end_here, ends_step, ends_all_step, ends_aligned_step, passing}
+use Rattle.task_steps.proofs.Going.{goes_on}
 use Rattle.task_steps.proofs.Over.{going}
 use Rattle.task_steps.proofs.task.Task.take_end.Goals as goal
 
@@ -28,32 +32,75 @@ invariant_of-self c =
       filters = inv.filters;
       split = inv.split;
       offsets = inv.offsets;
-      saves = inv.saves;
+      some = inv.some;
+      numbers = inv.numbers;
+      next = inv.next;
       taken = inv.taken;
       turn = inv.turn;
       windowing = inv.windowing;
       marks = ap (λ (v : InputsData). length v.marks) c.end.ensures.ended ∙ inv.marks;
       shut = let e = ap (λ (v : InputsData). length v.shut) c.end.ensures.ended in omega (arith, length-set {A = Shut}, inv.shut);
       ended = λ over. absurd (false≢true (sym on ∙ over));
-      held = λ going_on any. inv.held going_on (held_before s.inputs.shut c.args.i (sym (ap any_held now) ∙ any));
+      held = λ going_on taker any. inv.held going_on taker (held_before s.inputs.shut c.args.i (sym (ap any_held now) ∙ any));
       failed = λ _. on;
     }
 
-pub returns-in-Waiting-clause-step : goal.returns-in-Waiting-clause-step
-returns-in-Waiting-clause-step c =
+pub invariant_of-self-in-Waiting : goal.invariant_of-self-in-Waiting
+invariant_of-self-in-Waiting c =
+    let s = c.self.inside in
+    let inv = c.self.invariant in
+    let on = going s c.args.self.now c.args.i inv c.self.view_is c.requires.ready in
+    let now : c.end.new.self.shut ≡ slice_set s.inputs.shut c.args.i Ended = ap (λ (v : InputsData). v.shut) c.end.ensures.ended in
+    record {
+      room = inv.room;
+      time = inv.time;
+      key = inv.key;
+      filters = inv.filters;
+      split = inv.split;
+      offsets = inv.offsets;
+      some = inv.some;
+      numbers = inv.numbers;
+      next = inv.next;
+      taken = inv.taken;
+      turn = inv.turn;
+      windowing = inv.windowing;
+      marks = ap (λ (v : InputsData). length v.marks) c.end.ensures.ended ∙ inv.marks;
+      shut = let e = ap (λ (v : InputsData). length v.shut) c.end.ensures.ended in omega (arith, length-set {A = Shut}, inv.shut);
+      ended = λ over. absurd (false≢true (sym on ∙ over));
+      held = λ going_on taker any. inv.held going_on taker (held_before s.inputs.shut c.args.i (sym (ap any_held now) ∙ any));
+      failed = λ _. on;
+    }
+
+pub pass_barrier-requires-clause-going : goal.pass_barrier-requires-clause-going
+pass_barrier-requires-clause-going c = (ap (λ (v : TaskData). v.has_failed) c.self.view_is ∙ c.requires.going, going c.self.inside c.args.self.now c.args.i c.self.invariant c.self.view_is c.requires.ready)
+
+pub pass_barrier-requires-clause-more : goal.pass_barrier-requires-clause-more
+pass_barrier-requires-clause-more c =
+    let s = c.self.inside in
+    let i = c.args.i in
+    let ready : IsReady (task_view s) i = subst (λ (v : TaskData). IsReady v i) (sym c.self.view_is) c.requires.ready in
+    let here : alignment (slice_set s.inputs.shut i Ended) ≡ aligned.Barrier = sym (ap (λ (v : InputsData). alignment v.shut) c.end.ensures.ended) ∙ sym c.end.ensures.aligned ∙ c.in-Barrier.is in
+    c.self.invariant.held (going s c.args.self.now i c.self.invariant c.self.view_is c.requires.ready) ready.taker (held_before s.inputs.shut i (held_of (slice_set s.inputs.shut i Ended) here))
+
+pub returns-in-Barrier : goal.returns-in-Barrier
+returns-in-Barrier c =
     let s = c.self.inside in
     let d = c.args.self.now in
     let i = c.args.i in
+    let new = c.pass_barrier.new.self in
     let inside = task_view s in
-    let said : alignment (slice_set d.state.inputs.shut i Ended) ≡ aligned.Waiting =
-    sym (ap (λ (v : TaskData). alignment (slice_set v.state.inputs.shut i Ended)) c.self.view_is) ∙ sym (ap (λ (v : InputsData). alignment v.shut) c.end.ensures.ended) ∙ sym c.end.ensures.aligned ∙ c.in-Waiting.is in
-    let now : State = record inside.state { inputs = c.end.new.self } in
-    let made : now ≡ record d.state { inputs = inputs_from d.state.inputs.marks (slice_set d.state.inputs.shut i Ended) } =
-    (λ j. record inside.state { inputs = c.end.ensures.ended j }) ∙ ap (λ (v : TaskData). record v.state { inputs = inputs_from v.state.inputs.marks (slice_set v.state.inputs.shut i Ended) }) c.self.view_is in
-    λ p k st. ends_step p k d i now st c.requires.ready said made
+    let all : alignment (slice_set d.state.inputs.shut i Ended) ≡ aligned.Barrier =
+    sym (ap (λ (v : TaskData). alignment (slice_set v.state.inputs.shut i Ended)) c.self.view_is) ∙ sym (ap (λ (v : InputsData). alignment v.shut) c.end.ensures.ended) ∙ sym c.end.ensures.aligned ∙ c.in-Barrier.is in
+    let shut : record inside { state = record inside.state { inputs = c.end.new.self } } ≡ closed_at i Ended d =
+    (λ j. record inside { state = record inside.state { inputs = c.end.ensures.ended j } }) ∙ ap (closed_at i Ended) c.self.view_is in
+    let on : d.state.over ≡ false = sym (ap (λ (v : TaskData). v.state.over) c.self.view_is) ∙ going s d i c.self.invariant c.self.view_is c.requires.ready in
+    passing (λ p k s. Takes p k s i End) (Take i End) d new i Ended c.pass_barrier.result c.requires.going on c.requires.ready.free
+    (λ p k st. takes_end_here p k d i st c.requires.ready)
+    (λ p k st. ends_aligned_step p k d i _ st c.requires.ready all refl)
+    (subst (λ (m : TaskData). MatchResult c.pass_barrier.result (λ done. Passes m new) (λ fault. (fault ≡ Memory) × (new ≡ refused_at i m))) shut c.pass_barrier.ensures)
 
-pub returns-in-AllEnded-clause-step : goal.returns-in-AllEnded-clause-step
-returns-in-AllEnded-clause-step c =
+pub returns-in-AllEnded : goal.returns-in-AllEnded
+returns-in-AllEnded c =
     let s = c.self.inside in
     let d = c.args.self.now in
     let i = c.args.i in
@@ -63,29 +110,25 @@ returns-in-AllEnded-clause-step c =
     let idle : s.pending.items ≡ [] = ap (λ (v : TaskData). v.state.pending) c.self.view_is ∙ c.requires.ready.idle in
     let sent : c.to_all.new.pending.items ≡ to_all s.setup.outputs End = c.to_all.ensures.pending ∙ ap (λ l. l ++ to_all s.setup.outputs End) idle in
     let now : State = record inside.state { inputs = c.end.new.self; over = true; pending = c.to_all.new.pending.items } in
-    let made : now ≡ record d.state { inputs = inputs_from d.state.inputs.marks (slice_set d.state.inputs.shut i Ended); over = true; pending = to_all d.setup.outputs End } =
-    (λ j. record inside.state { inputs = c.end.ensures.ended j; over = true; pending = sent j })
-    ∙ ap (λ (v : TaskData). record v.state { inputs = inputs_from v.state.inputs.marks (slice_set v.state.inputs.shut i Ended); over = true; pending = to_all v.setup.outputs End }) c.self.view_is in
-    λ p k st. ends_all_step p k d i now st c.requires.ready said made
+    let ends : TaskData → TaskData = λ v. record v { state = record (closed_at i Ended v).state { over = true; pending = to_all v.setup.outputs End } } in
+    let made : record inside { state = now } ≡ ends d =
+    (λ j. record inside { state = record inside.state { inputs = c.end.ensures.ended j; over = true; pending = sent j } }) ∙ ap ends c.self.view_is in (
+      c.requires.going,
+      goes_on d (record inside { state = now }) (ends d).state made,
+      λ p k st. ends_all_step p k d i now st c.requires.ready said (ap (λ (v : TaskData). v.state) made),
+    )
 
-pub returns-in-Barrier-clause-step : goal.returns-in-Barrier-clause-step
-returns-in-Barrier-clause-step c =
+pub returns-in-Waiting : goal.returns-in-Waiting
+returns-in-Waiting c =
     let s = c.self.inside in
     let d = c.args.self.now in
     let i = c.args.i in
     let inside = task_view s in
-    let inv = c.self.invariant in
-    let on = going s d i inv c.self.view_is c.requires.ready in
-    let here : alignment (slice_set s.inputs.shut i Ended) ≡ aligned.Barrier = sym (ap (λ (v : InputsData). alignment v.shut) c.end.ensures.ended) ∙ sym c.end.ensures.aligned ∙ c.in-Barrier.is in
-    let said : alignment (slice_set d.state.inputs.shut i Ended) ≡ aligned.Barrier = sym (ap (λ (v : TaskData). alignment (slice_set v.state.inputs.shut i Ended)) c.self.view_is) ∙ here in
-    let last = inv.held on (held_before s.inputs.shut i (held_of (slice_set s.inputs.shut i Ended) here)) in
-    let none : d.setup.saves ≡ 0 = sym (ap (λ (v : TaskData). v.setup.saves) c.self.view_is) ∙ inv.saves in
-    let stops : may_stop d.setup.ending ≡ true = sym (ap (λ (v : TaskData). may_stop v.setup.ending) c.self.view_is) ∙ last.0 in
-    let next : d.state.next ≡ 0 = sym (ap (λ (v : TaskData). v.state.next) c.self.view_is) ∙ last.1 in
-    let idle : s.pending.items ≡ [] = ap (λ (v : TaskData). v.state.pending) c.self.view_is ∙ c.requires.ready.idle in
-    let sent : c.to_all-in-Barrier.new.pending.items ≡ to_all s.setup.outputs (Barrier s.setup.first) = c.to_all-in-Barrier.ensures.pending ∙ ap (λ l. l ++ to_all s.setup.outputs (Barrier s.setup.first)) idle in
-    let now : State = record inside.state { inputs = c.end.new.self; over = true; next = 1; pending = c.to_all-in-Barrier.new.pending.items } in
-    let made : now ≡ record d.state { inputs = inputs_from d.state.inputs.marks (slice_set d.state.inputs.shut i Ended); over = true; next = 1; pending = to_all d.setup.outputs (Barrier d.setup.first) } =
-    (λ j. record inside.state { inputs = c.end.ensures.ended j; over = true; next = 1; pending = sent j })
-    ∙ ap (λ (v : TaskData). record v.state { inputs = inputs_from v.state.inputs.marks (slice_set v.state.inputs.shut i Ended); over = true; next = 1; pending = to_all v.setup.outputs (Barrier v.setup.first) }) c.self.view_is in
-    λ p k st. ends_aligned_step p k d i now st c.requires.ready none stops next said made
+    let said : alignment (slice_set d.state.inputs.shut i Ended) ≡ aligned.Waiting =
+    sym (ap (λ (v : TaskData). alignment (slice_set v.state.inputs.shut i Ended)) c.self.view_is) ∙ sym (ap (λ (v : InputsData). alignment v.shut) c.end.ensures.ended) ∙ sym c.end.ensures.aligned ∙ c.in-Waiting.is in
+    let shut : record inside { state = record inside.state { inputs = c.end.new.self } } ≡ closed_at i Ended d =
+    (λ j. record inside { state = record inside.state { inputs = c.end.ensures.ended j } }) ∙ ap (closed_at i Ended) c.self.view_is in (
+      c.requires.going,
+      goes_on d (record inside { state = record inside.state { inputs = c.end.new.self } }) (closed_at i Ended d).state shut,
+      λ p k st. ends_step p k d i _ st c.requires.ready said (ap (λ (v : TaskData). v.state) shut),
+    )

@@ -1,11 +1,11 @@
-use Rattle.std.proofs.Common.{◌≡◌, ◌+◌, ◌*◌, ◌≤◌, false, length, FitsSigned, to_z, of_z, true, refl, ap, sym, subst, ◌∙◌, arith}
+use Rattle.std.proofs.Common.{◌≡◌, ◌+◌, ◌*◌, ◌≤◌, ◌<◌, false, length, FitsSigned, to_z, of_z, true, refl, ap, sym, subst, ◌∙◌, arith}
 use Rattle.std.specs.Prelude.{ℤ, Option, Some, option_map}
 use Rattle.std.proofs.Math.ListN.{length-set}
 use Rattle.plan_model.specs.declared.spec.WindowSpec.{WindowSpec}
 use Rattle.std.specs.Int.{w64}
 use Rattle.std.proofs.lemmas.Int.{to_z-of_z}
 use Rattle.dataflow_model.specs.Role.{is_source}
-use Rattle.dataflow_model.specs.Ending.{may_stop}
+use Rattle.task_steps.specs.Keeping.{barriers_in}
 use Rattle.input_state.specs.Inputs.{InputsData, all_shut, any_held, inputs_from, raised, rise}
 use Rattle.window_state.specs.State.{StateData}
 use Rattle.dataflow_model.specs.State.{State}
@@ -29,9 +29,11 @@ invariant_of-self-in-Ok c =
       split = inv.split;
       turn = inv.turn;
       offsets = inv.offsets;
-      saves = inv.saves;
+      some = inv.some;
+      numbers = inv.numbers;
+      next = inv.next;
       ended = subst (λ l. s.over ≡ true → is_source s.setup.role ≡ false → all_shut l ≡ true) (sym (ap (λ (v : InputsData). v.shut) c.watermark.ensures.moved)) inv.ended;
-      held = subst (λ l. s.over ≡ false → any_held l ≡ true → (may_stop s.setup.ending ≡ true) × (s.next ≡ 0)) (sym (ap (λ (v : InputsData). v.shut) c.watermark.ensures.moved)) inv.held;
+      held = subst (λ l. s.over ≡ false → is_source s.setup.role ≡ false → any_held l ≡ true → s.next < barriers_in s.setup) (sym (ap (λ (v : InputsData). v.shut) c.watermark.ensures.moved)) inv.held;
       failed = inv.failed;
       taken = inv.taken;
       windowing = windowing_fired s.setup s.taken s.has_failed c.rise-low.result c.in-Some.window c.fire_at.new.window s.setup.outputs c.fire_at.new.pending.items c.in-Ok.ensures.fires was;
@@ -80,7 +82,9 @@ invariant_of-self-in-Err c =
       filters = inv.filters;
       split = inv.split;
       offsets = inv.offsets;
-      saves = inv.saves;
+      some = inv.some;
+      numbers = inv.numbers;
+      next = inv.next;
       taken = inv.taken;
       turn = inv.turn;
       windowing = windowing_spoiled s.setup s.taken s.has_failed c.in-Some.window c.fire_at.new.window was (ap (λ (v : StateData). v.window) c.in-Err.ensures.same);
