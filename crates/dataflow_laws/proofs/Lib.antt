@@ -46,3 +46,4 @@ mod Moments
 mod Owned
 pub mod Facts
 mod Keeping
+mod Completing

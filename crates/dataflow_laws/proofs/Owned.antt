@@ -23,10 +23,11 @@ use Rattle.dataflow_model.specs.Cuts.{cut_of}
 use Rattle.dataflow_model.specs.InputCuts.{records_up_to}
 use Rattle.dataflow_model.specs.Flow.{Flow, IsDrained}
 use Rattle.dataflow_model.proofs.Facts.{total_add, total_le}
+use Rattle.layout_rules.proofs.Facts.{compiled_is_layout}
 use Rattle.input_flow.specs.InputEntries.{entries_of, input_of, counts_at}
 use Rattle.input_flow.proofs.Facts.{input_is_orderly}
 use Rattle.dataflow_laws.specs.Legs.{AreAt, HaveMarks}
-use Rattle.dataflow_laws.specs.Owned.{HaveOwnPanes, CompiledLegKeepsPanes}
+use Rattle.dataflow_laws.specs.Owned.{HaveOwnPanes, CompiledLegKeepsPanes, CompiledLegKeepsPanesAt}
 use Rattle.dataflow_laws.specs.Compiled.{cut_to, layout_to}
 use Rattle.dataflow_laws.proofs.Streams.{weigh, weigh_log}
 use Rattle.dataflow_laws.proofs.Logs.{weigh_of}
@@ -39,7 +40,7 @@ use Rattle.dataflow_laws.proofs.Dealing.{weights, weight_up_to, orderly_of}
 use Rattle.dataflow_laws.proofs.Openings.{opened}
 use Rattle.dataflow_laws.proofs.Complete.{flow_of, drained}
 use Rattle.dataflow_laws.proofs.Admitted.{partitions_before}
-use Rattle.dataflow_laws.proofs.Compiled.{laid, comes}
+use Rattle.dataflow_laws.proofs.Compiled.{comes}
 
 -- ---- how many records a pane has
 
@@ -187,20 +188,24 @@ module _ (p : PlanData) (x : AbstractInput) (leg : Leg) (l : AbstractLayout) (ok
       let r = read_at p l ok start op H t m a in
       get_or_default (H.end t).inputs.marks k n (pos 0) (omega (arith, r.length_marks, kl)) ∙ r.marks k kl ∙ (d.there t k m a kl).watermark (cut_of H.end t k) ∙ ap (x.watermark (partition_read x l t k)) (to t k m a kl)
 
-pub compiled_leg_keeps_panes : CompiledLegKeepsPanes
-compiled_leg_keeps_panes p c i n b saves until stages start ip sc is input orderly belongs b_cut c_cut ask opens at_start has h done =
+pub compiled_leg_keeps_panes_at : CompiledLegKeepsPanesAt
+compiled_leg_keeps_panes_at p c i n b saves until stages start ip sc is input orderly belongs b_cut opens at_start has h done cut is_cut came =
     let x = input_of p i in
     let l = layout_to p i n saves until stages in
-    let both = laid p c i n saves until stages ip sc is ask start opens h done in
     let leg = leg_of n saves until (entries_of i).size in
+    let both = compiled_is_layout p c (entries_of i) leg stages ip sc is in
     let o = orderly_of x leg l both.1 p (input_is_orderly p i input orderly belongs) in
     let op = opened p l start both.0 o opens.leg opens.opens in
-    let came = comes p c i n saves until stages ip sc is ask start opens h done in
     let drain = drained p l both.0 start opens.leg opens.opens h done in
     let before = partitions_before p i b belongs b_cut in
-    let after = partitions_before p i (cut_to i until) belongs c_cut in
-    let kept = keeps_panes p x leg l both.0 both.1 start op (flow_of h) drain (counts_at p b) (counts_at p (cut_to i until)) at_start came (λ u lo hi q a e. let y = has u lo hi q a e in (y.0, omega (arith, y.1, before))) in (
-      came,
-      keeps_marks p x leg l both.0 both.1 start op (flow_of h) drain (counts_at p b) (counts_at p (cut_to i until)) at_start came,
+    let after = partitions_before p i cut belongs is_cut in
+    let kept = keeps_panes p x leg l both.0 both.1 start op (flow_of h) drain (counts_at p b) (counts_at p cut) at_start came (λ u lo hi q a e. let y = has u lo hi q a e in (y.0, omega (arith, y.1, before))) in (
+      keeps_marks p x leg l both.0 both.1 start op (flow_of h) drain (counts_at p b) (counts_at p cut) at_start came,
       λ u lo hi q a e. let y = kept u lo hi q a e in (y.0, omega (arith, y.1, after)),
     )
+
+pub compiled_leg_keeps_panes : CompiledLegKeepsPanes
+compiled_leg_keeps_panes p c i n b saves until stages start ip sc is input orderly belongs b_cut c_cut ask opens at_start has h done =
+    let came = comes p c i n saves until stages ip sc is ask start opens h done in
+    let kept = compiled_leg_keeps_panes_at p c i n b saves until stages start ip sc is input orderly belongs b_cut opens at_start has h done (cut_to i until) c_cut came in
+    (came, kept.0, kept.1)

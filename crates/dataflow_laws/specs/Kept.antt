@@ -1,5 +1,5 @@
 -- What tasks have kept of a leg that goes on, in the words of an input that was read.
-use Rattle.std.specs.Prelude.{◌≡◌, ℕ, ◌<◌, ◌≤◌, List, [], take, length, slice_index_or}
+use Rattle.std.specs.Prelude.{◌≡◌, ◌==◌, ℕ, ◌+◌, ◌<◌, ◌≤◌, Bool, true, false, List, [], ◌∷◌, take, length, slice_index_or, if◌then◌else◌}
 use Rattle.plan_model.specs.PlanData.{PlanData, IsPlan}
 use Rattle.plan_model.specs.declared.spec.Row.{Row}
 use Rattle.plan_model.specs.Rows.{AreRowsOf}
@@ -7,12 +7,15 @@ use Rattle.stream_model.specs.InputData.{InputData, IsInput, BelongsTo}
 use Rattle.stream_model.specs.Watermarks.{IsOrderly, IsCut}
 use Rattle.input_state.specs.Inputs.{inputs_from}
 use Rattle.dataflow_model.specs.declared.role.Role.TheVariants.{Source}
+use Rattle.dataflow_model.specs.declared.message.Message.{Message}
+use Rattle.dataflow_model.specs.declared.message.Message.TheVariants.{Rows, Fired, Watermark, Barrier, End}
 use Rattle.dataflow_model.specs.Leg.{Leg, Until}
 use Rattle.dataflow_model.specs.AbstractLayout.{AbstractLayout, IsLayout, Deals, partition_read}
 use Rattle.dataflow_model.specs.State.{State, kept_at}
 use Rattle.dataflow_model.specs.OneLeg.{IsOneLeg}
 use Rattle.dataflow_model.specs.Cuts.{save_cut}
 use Rattle.dataflow_model.specs.Start.{AreOpenings, IsLegStart}
+use Rattle.dataflow_model.specs.Runs.{sent}
 use Rattle.dataflow_model.specs.History.{History}
 use Rattle.layout_rules.specs.declared.stage.Stage.{Stage}
 use Rattle.layout_rules.specs.Rules.{IsCompiled}
@@ -43,6 +46,27 @@ pub record HaveKept (p : PlanData) (i : InputData) (l : AbstractLayout) (b cut :
 -- every task has aligned on barrier m, counted from 0
 abbrev pub HaveAligned : AbstractLayout → ℕ → (ℕ → State) → Type 0
 HaveAligned l m states = (t : ℕ) → t ≤ l.sink → m < (states t).next
+
+abbrev pub is_barrier : ℕ → Message → Bool
+is_barrier n (Rows t) = false
+is_barrier n (Fired rows) = false
+is_barrier n (Watermark t) = false
+is_barrier n (Barrier m) = m == n
+is_barrier n End = false
+
+-- a barrier with this number is among the messages
+abbrev pub has_barrier : ℕ → List Message → Bool
+has_barrier n [] = false
+has_barrier n (m ∷ log) = if is_barrier n m then true else has_barrier n log
+
+-- a history has come past barrier m, counted from 0: every task has aligned on it, and has put it on each of its outputs
+pub record IsCompleteTo {p : PlanData} {l : AbstractLayout} {start : ℕ → State} (m : ℕ) (h : History p l start) : Type 0 where
+  pub aligned : HaveAligned l m h.end
+  pub put : (t j : ℕ) → t ≤ l.sink → j < (l.task t).outputs → has_barrier ((l.task t).first + m) (sent j (h.steps t)) ≡ true
+
+-- it has where every task has aligned on it
+abbrev pub AlignedIsComplete : Type 0
+AlignedIsComplete = (p : PlanData) (l : AbstractLayout) (start : ℕ → State) (m : ℕ) → IsLayout l → IsLegStart p l start → (h : History p l start) → HaveAligned l m h.end → IsCompleteTo m h
 
 -- once every task has aligned on the barrier of savepoint m, at whatever moment, they have kept just that
 abbrev pub SavepointDelivers : Type 0

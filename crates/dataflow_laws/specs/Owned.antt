@@ -29,3 +29,10 @@ CompiledLegKeepsPanes = (p : PlanData) (c : ScaleData) (i : InputData) (n : ℕ)
     → IsPlan p → IsScale p c → IsCompiled p c stages → IsInput i → IsOrderly i.time i.sources → BelongsTo p i → IsCut i.sources b → IsCut i.sources (cut_to i until) → (until ≡ TillAsked → ⊥)
     → let l = layout_to p i n saves until stages in IsLegStart p l start → AreAt (input_of p i) l start (counts_at p b) → HaveOwnPanes l start (length (records_before i.sources b)) → (h : History p l start) → IsComplete h
     → AreAt (input_of p i) l h.end (counts_at p (cut_to i until)) × HaveMarks (input_of p i) l h.end (counts_at p (cut_to i until)) × HaveOwnPanes l h.end (length (records_before i.sources (cut_to i until)))
+
+-- however it is to end: at the cut that its tasks have come to when all are done, each window task has its own panes, of no more records than stand before that cut, and each source the watermarks there
+abbrev pub CompiledLegKeepsPanesAt : Type 0
+CompiledLegKeepsPanesAt = (p : PlanData) (c : ScaleData) (i : InputData) (n : ℕ) (b : List (List ℕ)) (saves : List (List (List ℕ))) (until : Until) (stages : List Stage) (start : ℕ → State)
+    → IsPlan p → IsScale p c → IsCompiled p c stages → IsInput i → IsOrderly i.time i.sources → BelongsTo p i → IsCut i.sources b
+    → let l = layout_to p i n saves until stages in IsLegStart p l start → AreAt (input_of p i) l start (counts_at p b) → HaveOwnPanes l start (length (records_before i.sources b)) → (h : History p l start) → IsComplete h
+    → (cut : List (List ℕ)) → IsCut i.sources cut → AreAt (input_of p i) l h.end (counts_at p cut) → HaveMarks (input_of p i) l h.end (counts_at p cut) × HaveOwnPanes l h.end (length (records_before i.sources cut))

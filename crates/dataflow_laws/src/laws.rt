@@ -16,8 +16,8 @@ ghost use Rattle.dataflow_laws.specs.Savepoints.{SavepointIsExact};
 ghost use Rattle.dataflow_laws.specs.Inputs.{InputIsAdmitted, LegDelivers, SoFarDelivers, LegsDeliverDue, LegsDeliverAll};
 ghost use Rattle.dataflow_laws.specs.Compiled.{CompiledLegDelivers, CompiledLegDeliversAt, CompiledLegDeliversAll, CompiledLegSoFar};
 ghost use Rattle.dataflow_laws.specs.Moments.{CompiledLegIsAtACut, CompiledEdgesKeepWatermarks, CompiledWindowsHaveTheWatermark, CompiledWindowsFireOnce};
-ghost use Rattle.dataflow_laws.specs.Kept.{SavepointDelivers, CompiledSavepointDelivers};
-ghost use Rattle.dataflow_laws.specs.Owned.{CompiledLegKeepsPanes};
+ghost use Rattle.dataflow_laws.specs.Kept.{SavepointDelivers, CompiledSavepointDelivers, AlignedIsComplete};
+ghost use Rattle.dataflow_laws.specs.Owned.{CompiledLegKeepsPanes, CompiledLegKeepsPanesAt};
 
 /// A task makes a step only where the step's conditions hold.
 pub fn step_needs()
@@ -159,6 +159,11 @@ pub fn compiled_savepoint_delivers()
     ensures { CompiledSavepointDelivers }
 {}
 
+/// A barrier on which every task has aligned was put on every ring: none is left behind on the way.
+pub fn aligned_is_complete()
+    ensures { AlignedIsComplete }
+{}
+
 /// Whatever layout deals the input, its tasks admit the entries: they have the plan's width and times in range, and at
 /// most 2^40 records together.
 pub fn input_is_admitted()
@@ -241,4 +246,9 @@ pub fn compiled_windows_fire_once()
 /// leg was to come to; there are its sources, with the watermarks of that cut.
 pub fn compiled_leg_keeps_panes()
     ensures { CompiledLegKeepsPanes }
+{}
+
+/// However it is to end, so it is at the cut that its tasks have come to when all are done.
+pub fn compiled_leg_keeps_panes_at()
+    ensures { CompiledLegKeepsPanesAt }
 {}
