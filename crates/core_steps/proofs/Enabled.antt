@@ -7,7 +7,7 @@ use Rattle.dataflow_model.specs.declared.ending.Ending.{Ending}
 use Rattle.dataflow_model.specs.declared.ending.Ending.TheVariants.{AtEnd, AtCut, Asked}
 use Rattle.dataflow_model.specs.Role.{is_source}
 use Rattle.dataflow_model.specs.AbstractTask.{AbstractTask}
-use Rattle.dataflow_model.specs.Steps.{Event, Open, Read, Stop, Close, CanOpen, CanRun, MayRead, IsAtLimit, MayStop, MayClose}
+use Rattle.dataflow_model.specs.Steps.{Event, Open, Read, Save, Stop, Close, CanOpen, CanRun, MayRead, IsAtLimit, MaySave, MayStop, MayClose}
 use Rattle.dataflow_laws.specs.Needs.{Needs}
 use Rattle.dataflow_laws.specs.declared.step.Step.{Step}
 use Rattle.dataflow_laws.specs.declared.step.Step.TheVariants as asked
@@ -16,7 +16,7 @@ use Rattle.dataflow_laws.specs.World.{IsInner}
 use Rattle.dataflow_laws.specs.World.Move.{inner}
 use Rattle.dataflow_laws.proofs.Facts.{needs_step}
 use Rattle.task_steps.specs.TaskData.{TaskData, Stands}
-use Rattle.task_steps.specs.Running.{IsOpenable, IsRunning, HasCome, StopsBy, ClosesBy, IsStoppable, IsClosable}
+use Rattle.task_steps.specs.Running.{IsOpenable, IsRunning, HasCome, StopsBy, ClosesBy, IsSavable, IsStoppable, IsClosable}
 use Rattle.task_steps.specs.Reading.{HasMine}
 use Rattle.core_steps.specs.Given.{layout_in}
 use Rattle.core_steps.specs.World.{WorldData, world_in, state_at, IsWorld}
@@ -77,6 +77,12 @@ module _ (p : PlanData) (k : AbstractTask) (d : TaskData) (st : Stands p k d) wh
   next_close AtCut may = absurd may
   next_close Asked may = may.0
 
+  save_test : IsSavable d ↔ (CanRun k d.state × MaySave k d.state)
+  save_test = (
+    λ s. (run_test.0 s.running, (subst (λ n. d.state.next < n) st.saves s.next, (limit_test s.running).0 s.come)),
+    λ c. (let r = run_test.1 c.0 in record { running = r; next = subst (λ n. d.state.next < n) (sym st.saves) c.1.0; come = (limit_test r).1 c.1.1 }),
+  )
+
   stop_test : IsStoppable d ↔ (CanRun k d.state × MayStop k.ending k d.state)
   stop_test = (
     λ s. (run_test.0 s.running, (stops_by k.ending s.running (s.next ∙ st.saves)).0 (subst (λ e. StopsBy e d) st.ending s.by)),
@@ -134,6 +140,10 @@ module _ (w old : WorldData) (t : ℕ) (d : TaskData) (b : Bool) (h : IsWorld w)
   pub open_enabled : IsTrue b ↔ IsOpenable d → IsTrue b ↔ CanMake old (asked.Open t)
   open_enabled test = subst (λ v. IsTrue b ↔ CanMake v (asked.Open t)) same
       (both test (open_test w.given.plan ((layout_in w.given).task t) d (placed_at w t d h l is).stands) (inner_can (asked.Open t) w t d Open h l is (asks_for (asked.Open t) w t Open refl refl (λ e e_is. e_is)) tt))
+
+  pub save_enabled : IsTrue b ↔ IsSavable d → IsTrue b ↔ CanMake old (asked.Save t)
+  save_enabled test = subst (λ v. IsTrue b ↔ CanMake v (asked.Save t)) same
+      (both test (save_test w.given.plan ((layout_in w.given).task t) d (placed_at w t d h l is).stands) (inner_can (asked.Save t) w t d Save h l is (asks_for (asked.Save t) w t Save refl refl (λ e e_is. e_is)) tt))
 
   pub stop_enabled : IsTrue b ↔ IsStoppable d → IsTrue b ↔ CanMake old (asked.Stop t)
   stop_enabled test = subst (λ v. IsTrue b ↔ CanMake v (asked.Stop t)) same

@@ -44,7 +44,7 @@ use Rattle.leg_tasks.specs.Leaving.{CanLeave, CanSave, HaveStates, savepoint_lef
 use Rattle.core_steps.specs.Given.{GivenData, layout_in, start_in}
 use Rattle.core_steps.specs.World.{WorldData, world_in, state_at, IsSound, IsWorld}
 use Rattle.core_steps.specs.declared.finish.Finish.TheVariants.{Ended, Stopped}
-use Rattle.core_steps.specs.Finishing.{AreAtEnd, HasFinished, finish_of, finish_with, rows_of, savepoint_of}
+use Rattle.core_steps.specs.Finishing.{AreAtEnd, HasFinished, finish_of, finish_with, number_after, rows_of, savepoint_of}
 use Rattle.core_steps.proofs.States.{state_here}
 use Rattle.core_steps.proofs.Worlds.{reached_now}
 
@@ -73,8 +73,8 @@ module _ (g : GivenData) (tasks : List TaskData) (sound : IsSound g) (at : AreAt
   own_panes : HaveOwnPanes l (state_at g tasks) MOST_RECORDS
   own_panes u lo hi q a here =
       let given = sound.given in
-      let opens = tasks_have_own_panes g.plan g.layout g.input g.start [] g.stop given.plan given.laid_out given.belongs given.starts in
-      let kept = compiled_leg_keeps_panes g.plan given.laid_out.scale g.input g.start.number (offsets_of g.start) [] (until_of g.stop) stages (start_in g) given.plan given.laid_out.fits compiled given.input given.orderly given.belongs
+      let opens = tasks_have_own_panes g.plan g.layout g.input g.start g.saves g.stop given.plan given.laid_out given.belongs given.starts in
+      let kept = compiled_leg_keeps_panes g.plan given.laid_out.scale g.input g.start.number (offsets_of g.start) g.saves (until_of g.stop) stages (start_in g) given.plan given.laid_out.fits compiled given.input given.orderly given.belongs
       given.starts.cut (end_is_cut g.input (offsets_of g.start) g.stop given.stops) (never_asked g.stop) sound.start opens.0 opens.1 at.history at.complete in
       let one = kept.2 u lo hi q a (subst (λ (f : ℕ → State). get (f u).windows q ≡ Some a) (sym at.ends) here) in
       let few = few_before g.input (cut_to g.input (until_of g.stop)) given.input in
@@ -105,14 +105,14 @@ module _ (g : GivenData) (tasks : List TaskData) (sound : IsSound g) (at : AreAt
   partitions_read =
       let given = sound.given in
       let c = given.laid_out.scale in
-      by_scale (λ m. (t : ℕ) → task_role m.stages t ≡ role.Source → length (partitions_of (partition_counts g.plan) m.stages t) ≡ ((layout_to g.plan g.input g.start.number [] (until_of g.stop) m.stages).task t).inputs)
-      (λ t h. places g.plan c (entries_of g.input) (leg_of g.start.number [] (until_of g.stop) (entries_of g.input).size) given.plan given.laid_out.fits (compiled_ever g.plan c) t h)
+      by_scale (λ m. (t : ℕ) → task_role m.stages t ≡ role.Source → length (partitions_of (partition_counts g.plan) m.stages t) ≡ ((layout_to g.plan g.input g.start.number g.saves (until_of g.stop) m.stages).task t).inputs)
+      (λ t h. places g.plan c (entries_of g.input) (leg_of g.start.number g.saves (until_of g.stop) (entries_of g.input).size) given.plan given.laid_out.fits (compiled_ever g.plan c) t h)
 
   groups_are : (u : ℕ) (key : ℤ) → l.before ≤ u → u < l.sink → l.owner key ≡ u → Has (groups_of g.plan.max stages u) (key_group g.plan.max key)
   groups_are =
       let given = sound.given in
       let c = given.laid_out.scale in
-      by_scale (λ m. let a = layout_to g.plan g.input g.start.number [] (until_of g.stop) m.stages in (u : ℕ) (key : ℤ) → a.before ≤ u → u < a.sink → a.owner key ≡ u → Has (groups_of g.plan.max m.stages u) (key_group g.plan.max key))
+      by_scale (λ m. let a = layout_to g.plan g.input g.start.number g.saves (until_of g.stop) m.stages in (u : ℕ) (key : ℤ) → a.before ≤ u → u < a.sink → a.owner key ≡ u → Has (groups_of g.plan.max m.stages u) (key_group g.plan.max key))
       (λ u key lo hi own. has (groups_of g.plan.max (stages_of g.plan c) u) (key_group g.plan.max key) (owns g.plan c u key given.plan given.laid_out.fits lo hi ∙ eq-eqb _ u own))
 
   pub can_save : CanSave g.plan stages tasks
@@ -150,6 +150,11 @@ at_end w world done =
 
 -- ---- what the calls are made of
 
+-- so many savepoints on, and one more
+pub numbered : (n : ℕ) (cuts : List (List (List ℕ))) → n + length cuts + 1 ≡ number_after n cuts
+numbered n [] = omega arith
+numbered n (cut ∷ cuts) = let rest = numbered (n + 1) cuts in omega (arith, rest)
+
 module _ (g : GivenData) (tasks : List TaskData) (sound : IsSound g) (at : AreAtEnd g tasks) (rows : List Row) (last : (t : ℕ) (d : TaskData) → suc t ≡ length tasks → rows ≡ (slice_index_or tasks t d).state.rows) where
   -- the rows of the last task are those of the sink
   last_rows : (ts : List TaskData) (t : ℕ) → suc t ≡ length ts → ((d : TaskData) → rows ≡ (slice_index_or ts t d).state.rows) → rows ≡ (state_at g ts t).rows
@@ -162,8 +167,8 @@ module _ (g : GivenData) (tasks : List TaskData) (sound : IsSound g) (at : AreAt
   pub ended_is : g.stop ≡ Never → Ended rows ≡ finish_of g (state_at g tasks)
   ended_is never = ap Ended rows_are ∙ ap (λ (x : Stop). finish_with x (rows_of g (state_at g tasks)) (savepoint_of g (state_at g tasks))) (sym never)
 
-  pub stopped_is : (savepoint : Contents) (given : List TaskData) (n : ℕ) {cut : Cut} → given ≡ tasks → ((states : ℕ → State) → HaveStates g.layout.stages given states → savepoint ≡ savepoint_left g.plan g.layout.stages states (n + 1)) → n ≡ g.start.number → g.stop ≡ At cut
+  pub stopped_is : (savepoint : Contents) (given : List TaskData) (n : ℕ) {cut : Cut} → given ≡ tasks → ((states : ℕ → State) → HaveStates g.layout.stages given states → savepoint ≡ savepoint_left g.plan g.layout.stages states n) → n ≡ number_after g.start.number g.saves → g.stop ≡ At cut
       → Stopped rows savepoint ≡ finish_of g (state_at g tasks)
   stopped_is savepoint given n {cut = cut} same is number stops =
-      let saved : savepoint ≡ savepoint_of g (state_at g tasks) = is (state_at g tasks) (subst (λ ts. HaveStates g.layout.stages ts (state_at g tasks)) (sym same) (have_states g tasks sound at)) ∙ ap (λ k. savepoint_left g.plan g.layout.stages (state_at g tasks) (k + 1)) number in
+      let saved : savepoint ≡ savepoint_of g (state_at g tasks) = is (state_at g tasks) (subst (λ ts. HaveStates g.layout.stages ts (state_at g tasks)) (sym same) (have_states g tasks sound at)) ∙ ap (savepoint_left g.plan g.layout.stages (state_at g tasks)) number in
       (λ j. Stopped (rows_are j) (saved j)) ∙ ap (λ (x : Stop). finish_with x (rows_of g (state_at g tasks)) (savepoint_of g (state_at g tasks))) (sym stops)

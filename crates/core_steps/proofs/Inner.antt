@@ -55,6 +55,7 @@ moved w t d e f h l i st =
 takes_none : (step : Step) (e : Event) → IsEventOf step e → IsInner e → is_take step ≡ false
 takes_none (step.Open t) e is i = refl
 takes_none (step.Read t q) e is i = refl
+takes_none (step.Save t) e is i = refl
 takes_none (step.Stop t) e is i = refl
 takes_none (step.Close t) e is i = refl
 takes_none (step.Take t i) e is touch = absurd (subst IsInner is.1 touch)

@@ -2,7 +2,7 @@
 use Rattle.std.proofs.Common.{◌≡◌, ℕ, ◌<◌, ◌≤◌, false, true, length, get_or, set, Bool, refl, sym, ap, subst, ◌∙◌, arith}
 use Rattle.std.specs.Prelude.{Result, Err, IfErr}
 use Rattle.dataflow_model.specs.Role.{is_source}
-use Rattle.dataflow_model.specs.Steps.{Open, Read, Stop, Close, CanOpen, CanRun, MayRead, MayStop, MayClose}
+use Rattle.dataflow_model.specs.Steps.{Open, Read, Save, Stop, Close, CanOpen, CanRun, MayRead, MaySave, MayStop, MayClose}
 use Rattle.dataflow_laws.specs.declared.step.Step.{Step}
 use Rattle.dataflow_laws.specs.declared.step.Step.TheVariants as step
 use Rattle.dataflow_laws.specs.StepTask.{task_of}
@@ -49,3 +49,8 @@ module _ (w : WorldData) (t : ℕ) (d d' : TaskData) (r : Result (Unit {0}) Step
       let placed = placed_at w t d h l is in
       subst (λ b. Goes (step.Read t q) w (after w t d' w.rings b) r) (sym failed)
       (inner_goes (step.Read t q) w t d d' (Read q) (λ p k. Stands p k d × (is_source d.setup.role ≡ true → ReadsFrom k d.setup w.given.input)) r h fine l is (asks_for (step.Read t q) w t (Read q) refl refl (λ e e_is. e_is)) tt (placed.stands, placed.reads) a)
+
+  pub save_goes : (f : Bool) → f ≡ is_memory r → Answers (λ p k. Stands p k d) (λ p k s. CanRun k s × MaySave k s) Save d d' r → Goes (step.Save t) w (after w t d' w.rings f) r
+  save_goes f failed a =
+      subst (λ b. Goes (step.Save t) w (after w t d' w.rings b) r) (sym failed)
+      (inner_goes (step.Save t) w t d d' Save (λ p k. Stands p k d) r h fine l is (asks_for (step.Save t) w t Save refl refl (λ e e_is. e_is)) tt (placed_at w t d h l is).stands a)

@@ -22,7 +22,6 @@ use Rattle.core_steps.specs.Rings.{queue_at}
 use Rattle.core_steps.specs.World.{WorldData, world_in, state_at, held, IsWorld}
 use Rattle.core_steps.specs.Answers.{LeadsTo, CanMake}
 use Rattle.core_steps.specs.RingSteps.{IsPuttable, IsTakeable}
-use Rattle.core_steps.proofs.States.{move_needs}
 use Rattle.core_steps.proofs.Worlds.{state_of, within, inside, reached_now}
 use Rattle.core_steps.proofs.Taking.{take_is_made}
 
@@ -67,11 +66,11 @@ unfinished w old t d h same l is going all =
     let done = subst (λ v. IsFinished (layout_in v.given) (world_in v)) (sym same) all in
     going (subst IsDone (sym (state_of w t d l is)) (done t (within w t h l)))
 
--- a move that is no savepoint's is asked for by a step
+-- a move is asked for by a step
 step_of : (w : WorldData) (t : ℕ) (e : Event) (next : flow.World) → Move w.given.plan (layout_in w.given) w.given.layout.capacity (world_in w) t e next → (step : Step) × CanMake w step
 step_of w t Open next move = (asked.Open t, (next, record { event = Open; is = refl; move = move }))
 step_of w t (Read q) next move = (asked.Read t q, (next, record { event = Read q; is = refl; move = move }))
-step_of w t Save next move = (let needs = move_needs w.given.plan (layout_in w.given) w.given.layout.capacity (world_in w) t Save next move in let few = needs.1.0 in absurd (omega (arith, few)))
+step_of w t Save next move = (asked.Save t, (next, record { event = Save; is = refl; move = move }))
 step_of w t Stop next move = (asked.Stop t, (next, record { event = Stop; is = refl; move = move }))
 step_of w t Close next move = (asked.Close t, (next, record { event = Close; is = refl; move = move }))
 step_of w t (Take i m) next move = (asked.Take t i, (next, record { event = Take i m; is = (m, refl); move = move }))

@@ -1,16 +1,24 @@
 -- What a plan's layout and an input that was read come to is sound.
-use Rattle.std.proofs.Common.{◌<◌, [], sym, ap, subst}
+use Rattle.std.proofs.Common.{◌≡◌, ◌<◌, ℕ, List, [], sym, ap, subst}
 use Rattle.dataflow_laws.proofs.Facts.{input_is_admitted}
 use Rattle.layout_rules.specs.Rules.{IsCompiled}
 use Rattle.layout_rules.proofs.Facts.{compiled_ever, compiled_is_layout, sink_is_last}
 use Rattle.plan_compiler.specs.LayoutData.{LayoutData}
 use Rattle.input_flow.specs.InputEntries.{entries_of}
+use Rattle.legs.specs.declared.cut.Cut.{Cut}
+use Rattle.legs.specs.declared.stop.Stop.{Stop}
 use Rattle.legs.specs.Stops.{until_of}
+use Rattle.stream_model.specs.declared.entry.Entry.{Entry}
 use Rattle.dataflow_model.specs.Leg.{leg_of}
-use Rattle.redistribute.specs.StartData.{offsets_of}
-use Rattle.redistribute.proofs.Facts.{tasks_open, no_saves}
+use Rattle.redistribute.specs.Stopping.{CanSaveAt}
+use Rattle.redistribute.proofs.Facts.{no_saves, tasks_open}
+use Rattle.task_setups.specs.Legs.{counts_of}
 use Rattle.core_steps.specs.Given.{GivenData, layout_in}
 use Rattle.core_steps.specs.World.{IsGiven, IsSound}
+
+-- a leg to which no cuts are given takes no savepoint on its way, and so can be begun
+pub takes_none : (sources : List (List (List Entry))) (begin : List (List ℕ)) (cuts : List Cut) (stop : Stop) → cuts ≡ [] → CanSaveAt sources begin (counts_of cuts) stop
+takes_none sources begin cuts stop none = subst (λ cs. CanSaveAt sources begin (counts_of cs) stop) (sym none) (no_saves sources begin stop)
 
 pub sound : (g : GivenData) → IsGiven g → IsSound g
 sound g given =
@@ -18,12 +26,12 @@ sound g given =
     let laid = given.laid_out in
     let c = laid.scale in
     let compiled : IsCompiled g.plan c g.layout.stages = subst (IsCompiled g.plan c) (sym (ap (λ (l : LayoutData). l.stages) laid.is)) (compiled_ever g.plan c) in
-    let all = compiled_is_layout g.plan c (entries_of g.input) (leg_of g.start.number [] (until_of g.stop) (entries_of g.input).size) g.layout.stages plan laid.fits compiled in
+    let all = compiled_is_layout g.plan c (entries_of g.input) (leg_of g.start.number g.saves (until_of g.stop) (entries_of g.input).size) g.layout.stages plan laid.fits compiled in
     record {
       given = given;
       layout = all.0;
       count = sink_is_last g.plan c g.layout.stages plan laid.fits compiled;
-      start = tasks_open g.plan g.layout g.input g.start [] g.stop plan laid given.belongs given.starts given.stops (no_saves g.input.sources (offsets_of g.start) g.stop);
-      input = input_is_admitted g.plan g.input (leg_of g.start.number [] (until_of g.stop) (entries_of g.input).size) (layout_in g) given.input given.belongs all.1;
+      start = tasks_open g.plan g.layout g.input g.start g.saves g.stop plan laid given.belongs given.starts given.stops given.saves;
+      input = input_is_admitted g.plan g.input (leg_of g.start.number g.saves (until_of g.stop) (entries_of g.input).size) (layout_in g) given.input given.belongs all.1;
       capacity = subst (λ n. 0 < n) (sym (ap (λ (l : LayoutData). l.capacity) laid.is)) laid.fits.capacity.some;
     }

@@ -5,7 +5,7 @@ use Rattle.dataflow_model.specs.declared.message.Message.{Message}
 use Rattle.dataflow_model.specs.declared.message.Message.TheVariants.{Rows, Fired, Watermark, Barrier, End}
 use Rattle.dataflow_laws.specs.World as flow
 use Rattle.dataflow_laws.specs.declared.step.Step.{Step}
-use Rattle.dataflow_laws.specs.declared.step.Step.TheVariants.{Open, Read, Stop, Close, Take, Put}
+use Rattle.dataflow_laws.specs.declared.step.Step.TheVariants.{Open, Read, Save, Stop, Close, Take, Put}
 use Rattle.dataflow_laws.specs.StepTask.{task_of}
 use Rattle.dataflow_laws.specs.StepMoves.{Makes}
 use Rattle.task_steps.specs.declared.fault.StepFault.{StepFault}
@@ -24,6 +24,7 @@ CanMake w step = (next : flow.World) × LeadsTo w step next
 abbrev pub is_take : Step → Bool
 is_take (Open t) = false
 is_take (Read t q) = false
+is_take (Save t) = false
 is_take (Stop t) = false
 is_take (Close t) = false
 is_take (Take t i) = true

@@ -1,5 +1,5 @@
 -- How a leg ends.
-use Rattle.std.specs.Prelude.{◌≡◌, ℕ, ◌+◌, ◌<◌, List, length, slice_index_or, false}
+use Rattle.std.specs.Prelude.{◌≡◌, ℕ, ◌+◌, ◌<◌, List, [], ◌∷◌, length, slice_index_or, false}
 use Rattle.plan_model.specs.declared.spec.Row.{Row}
 use Rattle.dataflow_model.specs.State.{State}
 use Rattle.dataflow_model.specs.History.{History, IsComplete}
@@ -19,9 +19,14 @@ use Rattle.core_steps.specs.World.{WorldData, world_in, state_at, IsPlaced}
 abbrev pub rows_of : GivenData → (ℕ → State) → List Row
 rows_of g states = (states (layout_in g).sink).rows
 
--- the savepoint that they leave, which follows the one that the leg went on from
+-- the number of the savepoint that a leg leaves where it stops: it follows the one that the leg went on from, and those at these cuts on its way
+abbrev pub number_after : ℕ → List (List (List ℕ)) → ℕ
+number_after n [] = n + 1
+number_after n (cut ∷ cuts) = number_after (n + 1) cuts
+
+-- the savepoint that they leave
 abbrev pub savepoint_of : GivenData → (ℕ → State) → Contents
-savepoint_of g states = savepoint_left g.plan g.layout.stages states (g.start.number + 1)
+savepoint_of g states = savepoint_left g.plan g.layout.stages states (number_after g.start.number g.saves)
 
 -- how a leg ended that was to stop so, with these rows and, if it stopped, this savepoint
 abbrev pub finish_with : Stop → List Row → Contents → Finish

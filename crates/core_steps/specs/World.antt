@@ -16,7 +16,7 @@ use Rattle.layout_rules.specs.Stages.{task_count, outputs_of}
 use Rattle.plan_compiler.specs.LayoutData.{IsLayoutOf}
 use Rattle.redistribute.specs.StartData.{offsets_of}
 use Rattle.redistribute.specs.Begins.{IsStartIn}
-use Rattle.redistribute.specs.Stopping.{CanStop}
+use Rattle.redistribute.specs.Stopping.{CanStop, CanSaveAt}
 use Rattle.task_steps.specs.TaskData.{TaskData, Stands}
 use Rattle.task_steps.specs.Reading.{HasPartitions, ReadsFrom}
 use Rattle.core_steps.specs.Given.{GivenData, given_data, layout_in, start_in}
@@ -44,7 +44,7 @@ held r s t = reverse (queue_at r s t).messages
 abbrev pub world_in : WorldData → flow.World
 world_in w = record { tasks = state_at w.given w.tasks; rings = held w.rings }
 
--- a plan and an input that were read, of which the layout and the start are, and the leg can stop as it is to
+-- a plan and an input that were read, of which the layout and the start are, and the leg can stop as it is to and take its savepoints on the way
 pub record IsGiven (g : GivenData) : Type 0 where
   pub plan : IsPlan g.plan
   pub input : IsInput g.input
@@ -53,6 +53,7 @@ pub record IsGiven (g : GivenData) : Type 0 where
   pub laid_out : IsLayoutOf g.plan g.layout
   pub starts : IsStartIn g.plan g.input g.start
   pub stops : CanStop g.input.sources (offsets_of g.start) g.stop
+  pub saves : CanSaveAt g.input.sources (offsets_of g.start) g.saves g.stop
 
 -- the layout is one, its tasks begin one leg in opening states, and they admit the input
 pub record IsSound (g : GivenData) : Type 0 where

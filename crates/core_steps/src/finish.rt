@@ -5,8 +5,8 @@ ghost use Rattle.stream_model.specs.InputData.{BelongsTo};
 ghost use Rattle.legs.specs.declared.stop.Stop.TheVariants.{Never};
 ghost use Rattle.redistribute.specs.StartData.{offsets_of};
 ghost use Rattle.redistribute.specs.Begins.{IsStartIn, IsFromNothing};
-ghost use Rattle.redistribute.specs.Stopping.{CanStop};
-ghost use Rattle.task_setups.specs.Legs.{IsLayoutOf};
+ghost use Rattle.redistribute.specs.Stopping.{CanSaveAt, CanStop};
+ghost use Rattle.task_setups.specs.Legs.{IsLayoutOf, counts_of};
 ghost use Rattle.task_steps.specs.TaskData.{TaskData};
 ghost use Rattle.core_steps.specs.Given.{given_data};
 ghost use Rattle.core_steps.specs.World.{state_at};
@@ -43,10 +43,10 @@ fn sink_rows(tasks: Vec<Task>) -> Items<Row>
 
 /// How a leg ended whose tasks stand at the end of a complete history, in whatever order and in whatever threads they made
 /// their steps: with the rows that its sink has collected and, where it was to stop at a cut, with the savepoint that its tasks
-/// leave, numbered after the one that the leg went on from.
+/// leave, numbered after the one that the leg went on from and those that it took on its way.
 ///
 /// The tasks are those of the layout, in their order, and all are done. The layout is one of the plan, the input was read by it,
-/// the start is one of the input, and the leg could stop so.
+/// the start is one of the input, and the leg could take its savepoints and stop so.
 ///
 /// # Errors
 ///
@@ -61,9 +61,10 @@ pub fn finish_of(
     requires belongs { BelongsTo given.plan.now given.input.now }
     requires starts { IsStartIn given.plan.now given.input.now given.start.now }
     requires stops { CanStop given.input.now.sources (offsets_of given.start.now) stop.now }
+    requires saves { CanSaveAt given.input.now.sources (offsets_of given.start.now) (counts_of given.saves.now) stop.now }
     requires tasks { AreAtEnd (given_data given stop.now) tasks.items }
     ensures is { let g = given_data given.entry stop.now in IfOk result (λ finish. finish ≡ leg.finish_of g (state_at g tasks.items)) }
-    ensures ends { IfOk result (λ finish. IsEndOf given.entry.plan.now given.entry.input.now given.entry.start.now stop.now finish) }
+    ensures ends { IfOk result (λ finish. IsEndOf given.entry.plan.now given.entry.input.now given.entry.start.now (counts_of given.entry.saves.now) stop.now finish) }
     ensures whole { IfOk result (λ finish. IsFromNothing given.entry.input.now given.entry.start.now → stop.now ≡ Never → IsWholeRun given.entry.plan.now given.entry.input.now finish) }
 {
     let Given {
@@ -71,13 +72,15 @@ pub fn finish_of(
         input,
         start,
         layout,
+        saves,
     } = given;
     let _columns = plan.columns();
     let _sources = input.sources();
     match stop {
         Stop::Never => Ok(Finish::Ended(sink_rows(tasks))),
         Stop::At(_) => {
-            let savepoint = save(alloc, plan, layout, tasks.as_slice(), start.number() + 1)?;
+            let number = start.number() + saves.len() as u64 + 1;
+            let savepoint = save(alloc, plan, layout, tasks.as_slice(), number)?;
             Ok(Finish::Stopped(sink_rows(tasks), savepoint))
         }
     }

@@ -1,5 +1,6 @@
 //! What a world is made of.
 
+use legs::Cut;
 use plan_compiler::Layout;
 use plan_model::Plan;
 use redistribute::Start;
@@ -14,4 +15,6 @@ pub struct Given<'a> {
     pub start: &'a Start,
     /// A layout of the plan.
     pub layout: &'a Layout,
+    /// The cuts at which the leg takes a savepoint and goes on, in their order.
+    pub saves: &'a [Cut],
 }

@@ -26,7 +26,7 @@ fn found_no_memory(answer: &Result<(), StepFault>) -> bool
 #[derive(Drop)]
 pub struct World<'a> {
     given: Given<'a>,
-    leg: Leg,
+    leg: Leg<'a>,
     tasks: Vec<Task>,
     rings: Rings,
     has_failed: bool,
@@ -56,8 +56,8 @@ impl<'a> World<'a> {
     ghost use Rattle.redistribute.specs.StartData.{offsets_of};
     ghost use Rattle.redistribute.specs.Begins.{IsStartIn, IsFromNothing};
     ghost use Rattle.legs.specs.declared.stop.Stop.TheVariants.{Never};
-    ghost use Rattle.redistribute.specs.Stopping.{CanStop, IsRefusal};
-    ghost use Rattle.task_setups.specs.Legs.{IsLayoutOf};
+    ghost use Rattle.redistribute.specs.Stopping.{CanSaveAt, CanStop, IsRefusal};
+    ghost use Rattle.task_setups.specs.Legs.{IsLayoutOf, counts_of};
     ghost use Rattle.core_steps.specs.Given.{given_data, layout_in};
     ghost use Rattle.core_steps.specs.World.{world_in, IsWorld};
     ghost use Rattle.core_steps.specs.Beginning.{IsNewWorld};
@@ -67,8 +67,8 @@ impl<'a> World<'a> {
     ghost use Rattle.core_steps.specs.RingSteps.{IsPuttable, IsTakeable};
 
     /// The world of a leg as it opens: each task has done nothing but begin with its part of the start, and all rings are
-    /// empty. The layout is one of the plan, the input was read by it, and the start is one of the input. The panes of the
-    /// windows are hashed by the keys.
+    /// empty. The layout is one of the plan, the input was read by it, the start is one of the input, and the leg can take its
+    /// savepoints on the way from there. The panes of the windows are hashed by the keys.
     ///
     /// # Errors
     ///
@@ -82,6 +82,7 @@ impl<'a> World<'a> {
         requires laid_out { IsLayoutOf given.plan.now given.layout.now }
         requires belongs { BelongsTo given.plan.now given.input.now }
         requires starts { IsStartIn given.plan.now given.input.now given.start.now }
+        requires saves { CanSaveAt given.input.now.sources (offsets_of given.start.now) (counts_of given.saves.now) stop }
         ensures stops { OnOk result (CanStop given.entry.input.now.sources (offsets_of given.entry.start.now) stop) }
         ensures opens { IfOk result (λ world. IsNewWorld (given_data given.entry stop) world) }
         ensures refused { IfErr result (λ fault. IsRefusal given.entry.input.now.sources (offsets_of given.entry.start.now) stop fault) }
@@ -92,6 +93,7 @@ impl<'a> World<'a> {
         let _sources = input.sources();
         let leg = Leg {
             number: given.start.number(),
+            saves: given.saves,
             stop,
         };
         let tasks = tasks(alloc, keys, plan, input, given.start, given.layout, &leg)?;
@@ -118,6 +120,7 @@ impl<'a> World<'a> {
         match step {
             Step::Open(task) => self.open(task),
             Step::Read(task, partition) => self.read(task, partition),
+            Step::Save(task) => self.save(task),
             Step::Stop(task) => self.stop(task),
             Step::Close(task) => self.close(task),
             Step::Take(task, input) => self.take(task, input),
@@ -193,6 +196,26 @@ impl<'a> World<'a> {
             return Err(StepFault::NotEnabled);
         };
         let answer = source.read(input, partition);
+        self.has_failed = found_no_memory(&answer);
+        answer
+    }
+
+    /// Lets a source keep itself for the leg's next savepoint: its barrier is made pending, and the source goes on.
+    ///
+    /// # Errors
+    ///
+    /// `NotEnabled` where there is no such step now, and nothing has changed; `Memory` where there is one, but no memory
+    /// for it; `Failed` in a world that has failed so.
+    fn save(&mut self, task: u32) -> Result<(), StepFault>
+        ensures { StepAnswers (asked.Save task) self.old self.new result }
+    {
+        if self.has_failed {
+            return Err(StepFault::Failed);
+        }
+        let Some(source) = self.tasks.get_mut(task as usize) else {
+            return Err(StepFault::NotEnabled);
+        };
+        let answer = source.save();
         self.has_failed = found_no_memory(&answer);
         answer
     }
@@ -313,6 +336,16 @@ impl<'a> World<'a> {
         source.can_read(partition)
     }
 
+    /// Whether a source could take a savepoint on the leg's way.
+    fn can_save(&self, task: u32) -> bool
+        ensures { IsTrue result ↔ CanMake self.now (asked.Save task) }
+    {
+        let Some(source) = self.tasks.get(task as usize) else {
+            return false;
+        };
+        source.can_save()
+    }
+
     /// Whether a source could stop.
     fn can_stop(&self, task: u32) -> bool
         ensures { IsTrue result ↔ CanMake self.now (asked.Stop task) }
@@ -343,6 +376,7 @@ impl<'a> World<'a> {
         match step {
             Step::Open(task) => self.can_open(task),
             Step::Read(task, partition) => self.can_read(task, partition),
+            Step::Save(task) => self.can_save(task),
             Step::Stop(task) => self.can_stop(task),
             Step::Close(task) => self.can_close(task),
             Step::Take(task, input) => self.sender(task, input).is_some(),
@@ -367,7 +401,7 @@ impl<'a> World<'a> {
     /// Only where memory runs out.
     pub fn finish(self, alloc: Global) -> Result<Option<Finish>, AllocError>
         ensures is { IfOk result (λ answer. MatchOption answer (HasFinished self.entry → ⊥) (λ finish. HasFinished self.entry × (finish ≡ finish_in self.entry))) }
-        ensures ends { let g = self.entry.given in IfOk result (λ answer. IfSome answer (λ finish. IsEndOf g.plan g.input g.start g.stop finish)) }
+        ensures ends { let g = self.entry.given in IfOk result (λ answer. IfSome answer (λ finish. IsEndOf g.plan g.input g.start g.saves g.stop finish)) }
         ensures whole { let g = self.entry.given in IfOk result (λ answer. IfSome answer (λ finish. IsFromNothing g.input g.start → g.stop ≡ Never → IsWholeRun g.plan g.input finish)) }
     {
         if self.has_failed() || !self.is_finished() {

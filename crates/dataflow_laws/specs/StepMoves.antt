@@ -8,12 +8,13 @@ use Rattle.dataflow_model.specs.Steps.{Event}
 use Rattle.dataflow_laws.specs.World.{World, Move}
 use Rattle.dataflow_laws.specs.StepTask.{task_of}
 use Rattle.dataflow_laws.specs.declared.step.Step.{Step}
-use Rattle.dataflow_laws.specs.declared.step.Step.TheVariants.{Open, Read, Stop, Close, Take, Put}
+use Rattle.dataflow_laws.specs.declared.step.Step.TheVariants.{Open, Read, Save, Stop, Close, Take, Put}
 
 -- the events that it asks for: which message is taken or put, and on which output, the world says
 abbrev pub IsEventOf : Step → Event → Type 0
 IsEventOf (Open t) e = e ≡ event.Open
 IsEventOf (Read t q) e = e ≡ event.Read q
+IsEventOf (Save t) e = e ≡ event.Save
 IsEventOf (Stop t) e = e ≡ event.Stop
 IsEventOf (Close t) e = e ≡ event.Close
 IsEventOf (Take t i) e = (m : Message) × (e ≡ event.Take i m)

@@ -10,6 +10,8 @@ pub enum Step {
     Open(u32),
     /// The source reads the next entry of this partition, by its number in the source.
     Read(u32, u32),
+    /// The source keeps itself for a savepoint, and goes on.
+    Save(u32),
     /// The source stops at the leg's cut.
     Stop(u32),
     /// The source closes.
@@ -28,6 +30,7 @@ impl Step {
         match self {
             Step::Open(task)
             | Step::Read(task, _)
+            | Step::Save(task)
             | Step::Stop(task)
             | Step::Close(task)
             | Step::Take(task, _)

@@ -1,5 +1,5 @@
 -- What a leg gives, by how it ended.
-use Rattle.std.proofs.Common.{◌≡◌, ◌∙◌, ◌+◌, List, Some, refl, sym, subst}
+use Rattle.std.proofs.Common.{[], ◌≡◌, ◌∙◌, ◌+◌, List, Some, refl, sym, subst}
 use Rattle.plan_model.specs.Rows.{AreRowsOf}
 use Rattle.plan_model.specs.declared.spec.Row.{Row}
 use Rattle.dataflow_laws.specs.Inputs.{due_between}
@@ -27,7 +27,7 @@ module _ (p : PlanData) (i : InputData) (s : StartData) where
   by_stop Never rows given savepoint left e = absurd cc
   by_stop (At cut) rows given savepoint left e = (cc, cc)
 
-  module _ (stop : Stop) (finish : Finish) (e : IsEndOf p i s stop finish) where
+  module _ (stop : Stop) (finish : Finish) (e : IsEndOf p i s [] stop finish) where
     rows_are : (rows : List Row) → e.rows ≡ rows → AreLegRows (job_to stop) rows
     rows_are rows same = λ has. subst (AreRowsOf (due_between p i.sources (offsets_of s) (cut_to i (until_of stop)))) same (e.delivered has)
 

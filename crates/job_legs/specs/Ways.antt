@@ -1,5 +1,5 @@
 -- Ways in which legs are run, each by a function that is called for one leg after the other.
-use Rattle.std.specs.Prelude.{◌⊎◌, ℕ, List, Result, OnOk, IfOk, IfErr}
+use Rattle.std.specs.Prelude.{[], ◌⊎◌, ℕ, List, Result, OnOk, IfOk, IfErr}
 use Rattle.std.specs.Borrow.{Bor}
 use Rattle.layout_rules.specs.Scale.{IsScale, ScaleData}
 use Rattle.legs.specs.declared.fault.LegFault.{LegFault}
@@ -24,7 +24,7 @@ IsWayRefusal other sources begin stop fault = IsRefusal sources begin stop fault
 -- what a leg answers that is run so: its end where it can stop so, or why it has none
 abbrev pub AnswersLeg : (LegFault → Type 0) → PlanData → InputData → StartData → Stop → Result Finish LegFault → Type 0
 AnswersLeg other p i start stop result =
-    OnOk result (CanStop i.sources (offsets_of start) stop) × IfOk result (λ finish. IsEndOf p i start stop finish) × IfErr result (IsWayRefusal other i.sources (offsets_of start) stop)
+    OnOk result (CanStop i.sources (offsets_of start) stop) × IfOk result (λ finish. IsEndOf p i start [] stop finish) × IfErr result (IsWayRefusal other i.sources (offsets_of start) stop)
 
 -- a function takes any leg
 abbrev pub TakesLegs : {F : Type 0} → (F → Bor PlanData → Bor InputData → Bor StartData → Bor ScaleData → Stop → Type 0) → Type 0

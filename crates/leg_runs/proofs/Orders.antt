@@ -11,7 +11,7 @@ use Rattle.dataflow_laws.specs.World as flow
 use Rattle.dataflow_laws.specs.World.{Move, inner, takes, puts}
 use Rattle.dataflow_laws.specs.Needs.{Needs}
 use Rattle.dataflow_laws.specs.declared.step.Step.{Step}
-use Rattle.dataflow_laws.specs.declared.step.Step.TheVariants.{Open, Read, Stop, Close, Take, Put}
+use Rattle.dataflow_laws.specs.declared.step.Step.TheVariants.{Open, Read, Save, Stop, Close, Take, Put}
 use Rattle.dataflow_laws.specs.StepTask.{task_of}
 use Rattle.dataflow_laws.proofs.Facts.{step_needs}
 use Rattle.layout_rules.specs.Layouts.{partition_counts}
@@ -71,13 +71,14 @@ cannot_take w l t same none i can =
     none i (omega (arith, place, few, long)) can
 
 -- and has no other steps than these
-pub nothing : (w : WorldData) (t : ℕ) → (CanMake w (Open t) → ⊥) → CannotRead w t → (CanMake w (Stop t) → ⊥) → (CanMake w (Close t) → ⊥) → CannotTake w t → (CanMake w (Put t) → ⊥) → CanNothing w t
-nothing w t no_open no_read no_stop no_close no_take no_put (Open u) is can = no_open (subst (λ n. CanMake w (Open n)) is can)
-nothing w t no_open no_read no_stop no_close no_take no_put (Read u q) is can = no_read q (subst (λ n. CanMake w (Read n q)) is can)
-nothing w t no_open no_read no_stop no_close no_take no_put (Stop u) is can = no_stop (subst (λ n. CanMake w (Stop n)) is can)
-nothing w t no_open no_read no_stop no_close no_take no_put (Close u) is can = no_close (subst (λ n. CanMake w (Close n)) is can)
-nothing w t no_open no_read no_stop no_close no_take no_put (Take u i) is can = no_take i (subst (λ n. CanMake w (Take n i)) is can)
-nothing w t no_open no_read no_stop no_close no_take no_put (Put u) is can = no_put (subst (λ n. CanMake w (Put n)) is can)
+pub nothing : (w : WorldData) (t : ℕ) → (CanMake w (Open t) → ⊥) → CannotRead w t → (CanMake w (Save t) → ⊥) → (CanMake w (Stop t) → ⊥) → (CanMake w (Close t) → ⊥) → CannotTake w t → (CanMake w (Put t) → ⊥) → CanNothing w t
+nothing w t no_open no_read no_save no_stop no_close no_take no_put (Open u) is can = no_open (subst (λ n. CanMake w (Open n)) is can)
+nothing w t no_open no_read no_save no_stop no_close no_take no_put (Read u q) is can = no_read q (subst (λ n. CanMake w (Read n q)) is can)
+nothing w t no_open no_read no_save no_stop no_close no_take no_put (Save u) is can = no_save (subst (λ n. CanMake w (Save n)) is can)
+nothing w t no_open no_read no_save no_stop no_close no_take no_put (Stop u) is can = no_stop (subst (λ n. CanMake w (Stop n)) is can)
+nothing w t no_open no_read no_save no_stop no_close no_take no_put (Close u) is can = no_close (subst (λ n. CanMake w (Close n)) is can)
+nothing w t no_open no_read no_save no_stop no_close no_take no_put (Take u i) is can = no_take i (subst (λ n. CanMake w (Take n i)) is can)
+nothing w t no_open no_read no_save no_stop no_close no_take no_put (Put u) is can = no_put (subst (λ n. CanMake w (Put n)) is can)
 
 pub none_of : {X : Type 0} {A B : Type 0} (C : X → Type 0) (r : Option X) → (A → B) → MatchOption r A C → MatchOption r B C
 none_of C None f m = f m

@@ -1,6 +1,6 @@
 //! A leg of a job, run in one thread.
 
-ghost use Rattle.std.specs.Prelude.{◌≡◌, IfErr, IfOk, MatchResult, OnOk, false};
+ghost use Rattle.std.specs.Prelude.{[], ◌≡◌, IfErr, IfOk, MatchResult, OnOk, false};
 ghost use Rattle.plan_model.specs.Rows.{AreRowsOf};
 ghost use Rattle.stream_model.specs.InputData.{BelongsTo};
 ghost use Rattle.stream_model.specs.PlanRows.{plan_rows};
@@ -35,7 +35,7 @@ fn finish_by(
     requires same { layout.now ≡ world.given.layout }
     requires laid_out { IsLayoutOf world.given.plan layout.now }
     requires going { world.has_failed ≡ false }
-    ensures ends { let g = world.entry.given in IfOk result (λ finish. IsEndOf g.plan g.input g.start g.stop finish) }
+    ensures ends { let g = world.entry.given in IfOk result (λ finish. IsEndOf g.plan g.input g.start g.saves g.stop finish) }
     ensures whole { let g = world.entry.given in IfOk result (λ finish. IsFromNothing g.input g.start → g.stop ≡ Never → IsWholeRun g.plan g.input finish) }
 {
     follow(alloc, &mut world, layout, choices)?;
@@ -58,6 +58,7 @@ fn finish_by(
 /// # Errors
 ///
 /// `StopRange` where a leg from the start cannot stop so, else `Memory` where memory runs out.
+#[tactic(auto, using(core_steps::proofs::Sound::takes_none))]
 pub fn run_leg_by(
     alloc: Global,
     keys: HashKeys,
@@ -72,7 +73,7 @@ pub fn run_leg_by(
     requires scale { IsScale plan.now scale.now }
     requires starts { IsStartIn plan.now input.now start.now }
     ensures stops { OnOk result (CanStop input.now.sources (offsets_of start.now) stop) }
-    ensures ends { IfOk result (λ finish. IsEndOf plan.now input.now start.now stop finish) }
+    ensures ends { IfOk result (λ finish. IsEndOf plan.now input.now start.now [] stop finish) }
     ensures whole { IfOk result (λ finish. IsFromNothing input.now start.now → stop ≡ Never → IsWholeRun plan.now input.now finish) }
     ensures refused { IfErr result (λ fault. IsRefusal input.now.sources (offsets_of start.now) stop fault) }
 {
@@ -83,6 +84,7 @@ pub fn run_leg_by(
         input,
         start,
         layout: &layout,
+        saves: &[],
     };
     let _columns = plan.columns();
     let _sources = input.sources();

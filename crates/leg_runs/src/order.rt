@@ -73,6 +73,9 @@ pub(crate) fn task_step(world: &World, layout: &Layout, task: u32) -> Option<Ste
     if let Some(step) = read_step(world, layout, task) {
         return Some(step);
     }
+    if let Some(step) = enabled(world, Step::Save(task)) {
+        return Some(step);
+    }
     if let Some(step) = enabled(world, Step::Stop(task)) {
         return Some(step);
     }

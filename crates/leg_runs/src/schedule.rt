@@ -18,7 +18,7 @@ use std::alloc::{AllocError, Global};
 fn candidate_count(layout: &Layout, task: u32) -> usize
     requires task { task < task_count layout.now.stages }
 {
-    4 + layout.partitions_of(task).len() + layout.inputs_of(task).len()
+    5 + layout.partitions_of(task).len() + layout.inputs_of(task).len()
 }
 
 /// The step of a task with a number, from 0, in the order in which `Step` lists them, then by partition or input.
@@ -36,9 +36,10 @@ fn candidate(layout: &Layout, task: u32, number: usize) -> Step
         return Step::Read(task, *partition);
     }
     match number - 1 - partitions.len() {
-        0 => Step::Stop(task),
-        1 => Step::Close(task),
-        later if later - 2 < inputs => Step::Take(task, (later - 2) as u32),
+        0 => Step::Save(task),
+        1 => Step::Stop(task),
+        2 => Step::Close(task),
+        later if later - 3 < inputs => Step::Take(task, (later - 3) as u32),
         _ => Step::Put(task),
     }
 }

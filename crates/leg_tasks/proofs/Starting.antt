@@ -1,11 +1,13 @@
 -- Tasks that begin with the parts of a start begin a leg.
 use Rattle.std.proofs.Common.{◌≡◌, ℕ, suc, ◌≤◌, false, List, [], length, map, replicate, get_or, refl, sym, ap, subst, ◌∙◌, arith}
 use Rattle.std.specs.FinMap.{empty, from_entries}
+use Rattle.std.specs.List.{AllByRecursion}
 use Rattle.std.proofs.lemmas.List.{length-map}
 use Rattle.std.proofs.lemmas.List.FromFn.{length-map-range_with_len, get_or-map-range_with_len}
 use Rattle.plain_data.specs.Times.{lowest}
 use Rattle.plan_model.specs.PlanData.{PlanData, IsPlan}
 use Rattle.stream_model.specs.InputData.{InputData, BelongsTo}
+use Rattle.stream_model.specs.Watermarks.{IsCut}
 use Rattle.dataflow_model.specs.declared.role.Role.{Role}
 use Rattle.dataflow_model.specs.declared.role.Role.TheVariants.{Source, Chain, Window, Sink}
 use Rattle.dataflow_model.specs.Role.{is_source}
@@ -67,21 +69,22 @@ opens p s leg stages t =
     let n = length (inputs_of stages t) in
     state_is p (task_role stages t) (starts_at p s stages t) (parts_at p s stages t) k n (when_false (is_source (task_role stages t)) (length (partitions_of (partition_counts p) stages t)) n)
 
-pub new_tasks_begin : (p : PlanData) (c : ScaleData) (i : InputData) (s : StartData) (n : ℕ) (until : Until) (stages : List Stage) → IsPlan p → IsScale p c → IsCompiled p c stages → BelongsTo p i → IsWithin i until
-    → BeginLeg p i s stages (layout_to p i n [] until stages) (new_tasks p s (leg_of n [] until (entries_of i).size) stages)
-new_tasks_begin p c i s n until stages sound scaled compiled belongs_to there =
-    let leg : Leg = leg_of n [] until (entries_of i).size in
-    let l : AbstractLayout = layout_to p i n [] until stages in
+pub new_tasks_begin : (p : PlanData) (c : ScaleData) (i : InputData) (s : StartData) (n : ℕ) (saves : List (List (List ℕ))) (until : Until) (stages : List Stage) → IsPlan p → IsScale p c → IsCompiled p c stages → BelongsTo p i
+    → AllByRecursion (IsCut i.sources) saves → IsWithin i until
+    → BeginLeg p i s stages (layout_to p i n saves until stages) (new_tasks p s (leg_of n saves until (entries_of i).size) stages)
+new_tasks_begin p c i s n saves until stages sound scaled compiled belongs_to cuts there =
+    let leg : Leg = leg_of n saves until (entries_of i).size in
+    let l : AbstractLayout = layout_to p i n saves until stages in
     let tasks = new_tasks p s leg stages in
     let count : task_count stages ≡ suc l.sink = sink_is_last p c stages sound scaled compiled in
     let at : (t : ℕ) (d : TaskData) → t ≤ l.sink → get_or tasks t d ≡ new_task p s leg stages t = λ t d m. get_or-map-range_with_len (new_task p s leg stages) 0 (task_count stages) t t d (omega (arith, m, count)) (omega arith) in
     let told : (t : ℕ) → Stands p (l.task t) (new_task p s leg stages t) = λ t.
     subst (λ v. Stands p (l.task t) (record { setup = setup_of p leg stages t; window = v; state = (new_task p s leg stages t).state; has_failed = false })) (sym (operator p leg stages t (task_role stages t) (starts_at p s stages t) (parts_at p s stages t) refl))
-    (every_task_stands p (entries_of i) n [] until stages t (new_task p s leg stages t).state false) in
+    (every_task_stands p (entries_of i) n saves until stages t (new_task p s leg stages t).state false) in
     record {
       count = length-map-range_with_len (new_task p s leg stages) 0 (task_count stages) ∙ count;
       stands = λ t d m. subst (Stands p (l.task t)) (sym (at t d m)) (told t);
-      reads = λ t d m role. subst (λ (v : TaskData). HasPartitions v.setup i × ReadsFrom (l.task t) v.setup i) (sym (at t d m)) (every_task_reads p c i n [] until stages t sound scaled compiled belongs_to tt there m role);
+      reads = λ t d m role. subst (λ (v : TaskData). HasPartitions v.setup i × ReadsFrom (l.task t) v.setup i) (sym (at t d m)) (every_task_reads p c i n saves until stages t sound scaled compiled belongs_to cuts there m role);
       going = λ t d m. ap (λ v. v.has_failed) (at t d m);
       opening = λ t d m. ap (λ v. v.state) (at t d m) ∙ opens p s leg stages t;
     }

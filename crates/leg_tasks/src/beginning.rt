@@ -1,6 +1,6 @@
 //! The tasks of a leg, made.
 
-ghost use Rattle.std.specs.Prelude.{[], ◌≡◌, ◌<◌, IfErr, IfOk, OnOk};
+ghost use Rattle.std.specs.Prelude.{◌≡◌, ◌+◌, ◌<◌, length, IfErr, IfOk, OnOk};
 ghost use Rattle.layout_rules.specs.Stages as rule;
 ghost use Rattle.stream_model.specs.InputData.{BelongsTo};
 ghost use Rattle.dataflow_laws.specs.Compiled.{layout_to};
@@ -8,9 +8,9 @@ ghost use Rattle.legs.specs.Stops.{until_of};
 ghost use Rattle.redistribute.specs.StartData.{offsets_of};
 ghost use Rattle.redistribute.specs.Begins.{IsStartIn};
 ghost use Rattle.redistribute.specs.Parts.{IsPartFor};
-ghost use Rattle.redistribute.specs.Stopping.{CanStop, IsRefusal};
+ghost use Rattle.redistribute.specs.Stopping.{CanSaveAt, CanStop, IsRefusal};
 ghost use Rattle.task_setups.specs.Beginnings.{Suits};
-ghost use Rattle.task_setups.specs.Legs.{IsLayoutOf, leg_over};
+ghost use Rattle.task_setups.specs.Legs.{IsLayoutOf, counts_of, leg_over};
 ghost use Rattle.task_setups.specs.Setups.{setup_of as setup_said};
 ghost use Rattle.task_steps.specs.Beginning.{begun};
 ghost use Rattle.leg_tasks.specs.Beginning as begins;
@@ -28,7 +28,7 @@ use window_state::HashKeys;
 
 /// A task of a leg, told its place in the layout and its part of the leg, that begins with what it is given.
 ///
-/// The layout is one of the plan, the savepoint that follows has a number, and the opening suits the task: it has a
+/// The layout is one of the plan, the savepoints that follow have numbers, and the opening suits the task: it has a
 /// watermark for each input, of a source an offset for each of its partitions, and windows of the plan's operator where it
 /// is the window's task, alone.
 ///
@@ -40,13 +40,13 @@ pub fn begin(
     plan: &Plan,
     input: &Input,
     layout: &Layout,
-    leg: &Leg,
+    leg: &Leg<'_>,
     task: u32,
     opening: Opening,
 ) -> Result<Task, AllocError>
     requires laid_out { IsLayoutOf plan.now layout.now }
     requires task { task < rule.task_count layout.now.stages }
-    requires number { leg.now.number < u64.MAX }
+    requires numbers { leg.now.number + length leg.now.saves.now < u64.MAX }
     requires suits { Suits plan.now (leg_over leg.now input.now) layout.now.stages task opening.offsets.items opening.marks.items opening.window }
     ensures { IfOk result (λ made. made ≡ begun (setup_said plan.now (leg_over leg.now input.now) layout.now.stages task) opening.offsets.items opening.marks.items opening.window) }
 {
@@ -67,13 +67,13 @@ fn task_from(
     plan: &Plan,
     input: &Input,
     layout: &Layout,
-    leg: &Leg,
+    leg: &Leg<'_>,
     task: u32,
     start: &TaskStart,
 ) -> Result<Task, AllocError>
     requires laid_out { IsLayoutOf plan.now layout.now }
     requires task { task < rule.task_count layout.now.stages }
-    requires number { leg.now.number < u64.MAX }
+    requires numbers { leg.now.number + length leg.now.saves.now < u64.MAX }
     requires part { IsPartFor plan.now layout.now.stages task start.now }
     ensures { IfOk result (λ made. made ≡ begins.begun_with plan.now (leg_over leg.now input.now) layout.now.stages task start.now) }
 {
@@ -90,10 +90,10 @@ fn tasks_from(
     input: &Input,
     start: &Start,
     layout: &Layout,
-    leg: &Leg,
+    leg: &Leg<'_>,
 ) -> Result<Vec<Task>, AllocError>
     requires laid_out { IsLayoutOf plan.now layout.now }
-    requires number { leg.now.number < u64.MAX }
+    requires numbers { leg.now.number + length leg.now.saves.now < u64.MAX }
     requires starts { IsStartIn plan.now input.now start.now }
     ensures { IfOk result (λ made. made.items ≡ begins.new_tasks plan.now start.now (leg_over leg.now input.now) layout.now.stages) }
 {
@@ -110,7 +110,7 @@ fn tasks_from(
 /// each of the window's tasks what the start has for its key groups. The panes of the windows are hashed by the keys.
 ///
 /// The layout is one of the plan, the input was read by it, the start is one of the input, and the leg goes on from the
-/// start's savepoint.
+/// start's savepoint and can take its own on the way from there.
 ///
 /// # Errors
 ///
@@ -122,18 +122,20 @@ pub fn tasks(
     input: &Input,
     start: &Start,
     layout: &Layout,
-    leg: &Leg,
+    leg: &Leg<'_>,
 ) -> Result<Vec<Task>, LegFault>
     requires laid_out { IsLayoutOf plan.now layout.now }
     requires belongs { BelongsTo plan.now input.now }
     requires starts { IsStartIn plan.now input.now start.now }
     requires number { leg.now.number ≡ start.now.number }
+    requires saves { CanSaveAt input.now.sources (offsets_of start.now) (counts_of leg.now.saves.now) leg.now.stop }
     ensures stops { OnOk result (CanStop input.now.sources (offsets_of start.now) leg.now.stop) }
     ensures are { IfOk result (λ made. made.items ≡ begins.new_tasks plan.now start.now (leg_over leg.now input.now) layout.now.stages) }
-    ensures begin { IfOk result (λ made. begins.BeginLeg plan.now input.now start.now layout.now.stages (layout_to plan.now input.now leg.now.number [] (until_of leg.now.stop) layout.now.stages) made.items) }
+    ensures begin { IfOk result (λ made. begins.BeginLeg plan.now input.now start.now layout.now.stages (layout_to plan.now input.now leg.now.number (counts_of leg.now.saves.now) (until_of leg.now.stop) layout.now.stages) made.items) }
     ensures refused { IfErr result (λ fault. IsRefusal input.now.sources (offsets_of start.now) leg.now.stop fault) }
 {
     let _columns = plan.columns();
+    let _saves = leg.saves.len();
     start.check_stop(input, &leg.stop)?;
     Ok(tasks_from(alloc, keys, plan, input, start, layout, leg)?)
 }

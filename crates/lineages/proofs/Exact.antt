@@ -29,7 +29,7 @@ use Rattle.restarts.specs.Laws.{IsStartAt, SnapshotsRestart, savepoint_at}
 use Rattle.leg_tasks.specs.Saved.{IsSavedAt, SavedAtIsOne}
 use Rattle.core_steps.specs.Given.{GivenData}
 use Rattle.core_steps.specs.World.{WorldData, IsGiven}
-use Rattle.core_steps.specs.Finishing.{rows_in, savepoint_in}
+use Rattle.core_steps.specs.Finishing.{number_after, rows_in, savepoint_in}
 use Rattle.core_steps.proofs.Ending.{end_is_cut}
 use Rattle.core_steps.proofs.Delivered.{none_at_first, world_delivers, world_saves}
 use Rattle.job_legs.specs.Laws.{NothingDueAtFirst, RowsAddUp}
@@ -66,8 +66,8 @@ bytes_restart restart one p i cut number old s plan input belongs is at savepoin
 
 -- ---- one leg
 
-module _ (p : PlanData) (i : InputData) (s : StartData) (stop : Stop) (w : WorldData) (way : IsUnderWay p i s stop w) where
-  pub given : IsGiven (given_of p i s way.layout stop)
+module _ (p : PlanData) (i : InputData) (s : StartData) (saves : List (List (List ℕ))) (stop : Stop) (w : WorldData) (way : IsUnderWay p i s saves stop w) where
+  pub given : IsGiven (given_of p i s way.layout saves stop)
   given = subst IsGiven way.given way.world.sound.given
 
   pub can_stop : (b : List (List ℕ)) (number : ℕ) → IsStartAt p i b number s → CanStop i.sources b stop
@@ -85,27 +85,27 @@ module _ (p : PlanData) (i : InputData) (s : StartData) (stop : Stop) (w : World
   is_end b number at = end_is_cut i b stop (can_stop b number at)
 
 -- and of one that has finished
-module _ (p : PlanData) (i : InputData) (s : StartData) (stop : Stop) (w : WorldData) (leg : IsLeg p i s stop w) where
+module _ (p : PlanData) (i : InputData) (s : StartData) (saves : List (List (List ℕ))) (stop : Stop) (w : WorldData) (leg : IsLeg p i s saves stop w) where
   rows : HasSnapshot p i s → AreRowsOf (due_between p i.sources (offsets_of s) (cut_to i (until_of stop))) (rows_in w)
   rows = subst (λ (g : GivenData). HasSnapshot g.plan g.input g.start → AreRowsOf (due_between g.plan g.input.sources (offsets_of g.start) (cut_to g.input (until_of g.stop))) (rows_in w)) leg.way.given (world_delivers w leg.way.world leg.finished)
 
-  left : HasSnapshot p i s → IsSavedAt p i (cut_to i (until_of stop)) (s.number + 1) (savepoint_in w)
-  left = subst (λ (g : GivenData). HasSnapshot g.plan g.input g.start → IsSavedAt g.plan g.input (cut_to g.input (until_of g.stop)) (g.start.number + 1) (savepoint_in w)) leg.way.given (world_saves w leg.way.world leg.finished)
+  left : HasSnapshot p i s → IsSavedAt p i (cut_to i (until_of stop)) (number_after s.number saves) (savepoint_in w)
+  left = subst (λ (g : GivenData). HasSnapshot g.plan g.input g.start → IsSavedAt g.plan g.input (cut_to g.input (until_of g.stop)) (number_after g.start.number g.saves) (savepoint_in w)) leg.way.given (world_saves w leg.way.world leg.finished)
 
   -- a leg that begins at a cut with its snapshot leaves the savepoint of the cut where it stops
-  pub saved : (b : List (List ℕ)) (number : ℕ) → IsStartAt p i b number s → (cut : Cut) → stop ≡ At cut → IsSavedAt p i cut.counts (number + 1) (savepoint_in w)
+  pub saved : (b : List (List ℕ)) (number : ℕ) → IsStartAt p i b number s → (cut : Cut) → stop ≡ At cut → IsSavedAt p i cut.counts (number_after number saves) (savepoint_in w)
   saved b number at cut same =
-      subst (λ n. IsSavedAt p i cut.counts (n + 1) (savepoint_in w)) at.number (subst (λ (x : Stop). IsSavedAt p i (cut_to i (until_of x)) (s.number + 1) (savepoint_in w)) same (left at.snapshot))
+      subst (λ n. IsSavedAt p i cut.counts (number_after n saves) (savepoint_in w)) at.number (subst (λ (x : Stop). IsSavedAt p i (cut_to i (until_of x)) (number_after s.number saves) (savepoint_in w)) same (left at.snapshot))
 
   -- and adds the rows that become due
   added : RowsAddUp → (b : List (List ℕ)) (number : ℕ) → IsStartAt p i b number s → IsCut i.sources b → (before : List Row) → AreRowsOf (due_rows p i.sources b) before → AreRowsOf (due_rows p i.sources (cut_to i (until_of stop))) (before ++ rows_in w)
   added add b number at is before due =
-      let can = can_stop p i s stop w leg.way b number at in
+      let can = can_stop p i s saves stop w leg.way b number at in
       let end = cut_to i (until_of stop) in
-      add p i b end before (rows_in w) (given p i s stop w leg.way).input (before_end i b stop is can) (end_is_cut i b stop can) due (subst (λ c. AreRowsOf (due_between p i.sources c end) (rows_in w)) at.offsets (rows at.snapshot))
+      add p i b end before (rows_in w) (given p i s saves stop w leg.way).input (before_end i b stop is can) (end_is_cut i b stop can) due (subst (λ c. AreRowsOf (due_between p i.sources c end) (rows_in w)) at.offsets (rows at.snapshot))
 
   whole : EndIsDue → (found : List Row) → AreRowsOf (due_rows p i.sources (cut_to i (until_of stop))) found → AreRowsOf (rows_to p i stop) found
-  whole end found due = let g = given p i s stop w leg.way in come_to end p i stop found g.plan g.input g.belongs due
+  whole end found due = let g = given p i s saves stop w leg.way in come_to end p i stop found g.plan g.input g.belongs due
 
 -- ---- all of them
 
@@ -124,26 +124,26 @@ one_more : (w : WorldData) (earlier : List WorldData) → length earlier + 1 ≡
 one_more w earlier = omega (arith)
 
 module _ (none : NothingDueAtFirst) (add : RowsAddUp) (restart : SnapshotsRestart) (one : (a b : Contents) → IsSavepoint a → IsSavepoint b → savepoint_bytes a ≡ savepoint_bytes b → a ≡ b) (end : EndIsDue) (p : PlanData) (i : InputData) where
-  after : (s : StartData) (stop : Stop) (w : WorldData) (earlier : List WorldData) → IsLeg p i s stop w → (b : List (List ℕ)) → IsStartAt p i b (length earlier) s → IsCut i.sources b → AreRowsOf (due_rows p i.sources b) (delivered earlier) → Comes p i stop (w ∷ earlier)
+  after : (s : StartData) (stop : Stop) (w : WorldData) (earlier : List WorldData) → IsLeg p i s [] stop w → (b : List (List ℕ)) → IsStartAt p i b (length earlier) s → IsCut i.sources b → AreRowsOf (due_rows p i.sources b) (delivered earlier) → Comes p i stop (w ∷ earlier)
   unfolding LastIs
   after s stop w earlier leg b at is due =
-      let now = added p i s stop w leg add b (length earlier) at is (delivered earlier) due in
+      let now = added p i s [] stop w leg add b (length earlier) at is (delivered earlier) due in
       record {
-        is_cut = is_end p i s stop w leg.way b (length earlier) at;
+        is_cut = is_end p i s [] stop w leg.way b (length earlier) at;
         due = now;
-        rows = whole p i s stop w leg end (delivered (w ∷ earlier)) now;
-        saved = λ cut same. subst (λ n. IsSavedAt p i cut.counts n (savepoint_in w)) (one_more w earlier) (saved p i s stop w leg b (length earlier) at cut same);
+        rows = whole p i s [] stop w leg end (delivered (w ∷ earlier)) now;
+        saved = λ cut same. subst (λ n. IsSavedAt p i cut.counts n (savepoint_in w)) (one_more w earlier) (saved p i s [] stop w leg b (length earlier) at cut same);
       }
 
   pub comes : (stop : Stop) (legs : List WorldData) → Lineage p i stop legs → Comes p i stop legs
   unfolding LastIs
   comes stop [] l = elim l [ ]
   comes stop (w ∷ []) (begins {s = s} nothing leg) =
-      let g = given p i s stop w leg.way in
-      after s stop w [] leg (empty_cut i.sources) (at_first p i s stop w leg.way nothing) (empty_is_cut i.sources) (λ q. sym (ap option_to_list (none p i q (subst (λ t. IsOrderly t i.sources) g.belongs.time g.orderly))))
+      let g = given p i s [] stop w leg.way in
+      after s stop w [] leg (empty_cut i.sources) (at_first p i s [] stop w leg.way nothing) (empty_is_cut i.sources) (λ q. sym (ap option_to_list (none p i q (subst (λ t. IsOrderly t i.sources) g.belongs.time g.orderly))))
   comes stop (w ∷ before ∷ earlier) (goes_on {cut = cut} {s = s} legs savepoint from leg) =
       let c = comes (At cut) (before ∷ earlier) legs in
-      after s stop w (before ∷ earlier) leg cut.counts (from_bytes p i s stop w leg.way restart one cut.counts (length (before ∷ earlier)) (savepoint_in before) c.is_cut (c.saved cut refl) savepoint from) c.is_cut c.due
+      after s stop w (before ∷ earlier) leg cut.counts (from_bytes p i s [] stop w leg.way restart one cut.counts (length (before ∷ earlier)) (savepoint_in before) c.is_cut (c.saved cut refl) savepoint from) c.is_cut c.due
 
   pub exact : (stop : Stop) (last : WorldData) (earlier : List WorldData) → Lineage p i stop (last ∷ earlier) → AreExact p i stop last (last ∷ earlier)
   unfolding LastIs
@@ -158,7 +158,7 @@ headline made p i [] l = elim l [ ]
 -- ---- legs from one snapshot to one cut
 
 pub one_savepoint : SavedAtIsOne → OneSavepoint
-one_savepoint one p i cut number end s other w v at bt leg next =
-    let a = saved p i s (At end) w leg cut number at end refl in
-    let b = saved p i other (At end) v next cut number bt end refl in
-    ap savepoint_bytes (one p i end.counts (number + 1) (savepoint_in w) (savepoint_in v) a b)
+one_savepoint one p i cut number saves end s other w v at bt leg next =
+    let a = saved p i s saves (At end) w leg cut number at end refl in
+    let b = saved p i other saves (At end) v next cut number bt end refl in
+    ap savepoint_bytes (one p i end.counts (number_after number saves) (savepoint_in w) (savepoint_in v) a b)

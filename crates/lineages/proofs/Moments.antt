@@ -48,7 +48,7 @@ together q before rows was more all b (inr r) sum part = inr (filter-append (row
 together q before rows was more all b (inl r) sum (inl none) = inl (filter-append (row_is_at q) before rows ∙ (λ k. b k ++ r k) ∙ append-nil was ∙ none)
 together q before rows was more all b (inl r) sum (inr whole) = inr (filter-append (row_is_at q) before rows ∙ (λ k. b k ++ r k) ∙ append-nil was ∙ whole)
 
-module _ (p : PlanData) (i : InputData) (s : StartData) (stop : Stop) (w : WorldData) (way : IsUnderWay p i s stop w) where
+module _ (p : PlanData) (i : InputData) (s : StartData) (saves : List (List (List ℕ))) (stop : Stop) (w : WorldData) (way : IsUnderWay p i s saves stop w) where
   abbrev end : List (List ℕ)
   end = cut_to i (until_of stop)
 
@@ -59,23 +59,23 @@ module _ (p : PlanData) (i : InputData) (s : StartData) (stop : Stop) (w : World
   with_earlier : EachRowAddsUp → (b : List (List ℕ)) (number : ℕ) → IsStartAt p i b number s → IsCut i.sources b → (before : List Row) → AreRowsOf (due_rows p i.sources b) before → (q : Pane)
       → IsPart (filter (row_is_at q) (before ++ rows_in w)) (option_to_list (due_rows p i.sources end q))
   with_earlier add b number at is before due q =
-      let can = can_stop p i s stop w way b number at in
-      let sum = add p i b end q (given p i s stop w way).input (before_end i b stop is can) (end_is_cut i b stop can) in
+      let can = can_stop p i s saves stop w way b number at in
+      let sum = add p i b end q (given p i s saves stop w way).input (before_end i b stop is can) (end_is_cut i b stop can) in
       let more = subst (λ c. IsPart (filter (row_is_at q) (rows_in w)) (option_to_list (due_between p i.sources c end q))) at.offsets (so_far at.snapshot q) in
       together q before (rows_in w) _ _ _ (due q) more sum (earlier_part (is_due p.window (merged_watermark i.sources b) q.start) (plan_rows p i.sources q) (due_rows p i.sources end q) (due_rows p i.sources end q) sum)
 
   due_there : EndIsDue → (xs : List Row) (q : Pane) → IsPart xs (option_to_list (due_rows p i.sources end q)) → IsPart xs (option_to_list (rows_to p i stop q))
-  due_there at_end xs q = let g = given p i s stop w way in subst (λ o. IsPart xs (option_to_list o)) (row_to at_end p i stop q g.plan g.input g.belongs)
+  due_there at_end xs q = let g = given p i s saves stop w way in subst (λ o. IsPart xs (option_to_list o)) (row_to at_end p i stop q g.plan g.input g.belongs)
 
 pub each_moment : NothingDueAtFirst → RowsAddUp → EachRowAddsUp → SnapshotsRestart → ((a b : Contents) → IsSavepoint a → IsSavepoint b → savepoint_bytes a ≡ savepoint_bytes b → a ≡ b) → EndIsDue → EachMomentIsPart
 unfolding LastIs
 each_moment none add each restart one at_end p i stop [] l q = elim l [ ]
 each_moment none add each restart one at_end p i stop (w ∷ []) (sets_out {s = s} nothing way) q =
-    let g = given p i s stop w way in
-    let at = at_first p i s stop w way nothing in
+    let g = given p i s [] stop w way in
+    let at = at_first p i s [] stop w way nothing in
     let none_due : AreRowsOf (due_rows p i.sources (empty_cut i.sources)) [] = λ x. sym (ap option_to_list (none p i x (subst (λ t. IsOrderly t i.sources) g.belongs.time g.orderly))) in
-    due_there p i s stop w way at_end (filter (row_is_at q) (rows_in w)) q (with_earlier p i s stop w way each (empty_cut i.sources) 0 at (empty_is_cut i.sources) [] none_due q)
+    due_there p i s [] stop w way at_end (filter (row_is_at q) (rows_in w)) q (with_earlier p i s [] stop w way each (empty_cut i.sources) 0 at (empty_is_cut i.sources) [] none_due q)
 each_moment none add each restart one at_end p i stop (w ∷ before ∷ earlier) (goes_further {cut = cut} {s = s} legs savepoint from way) q =
     let c = comes none add restart one at_end p i (At cut) (before ∷ earlier) legs in
-    let at = from_bytes p i s stop w way restart one cut.counts (length (before ∷ earlier)) (savepoint_in before) c.is_cut (c.saved cut refl) savepoint from in
-    due_there p i s stop w way at_end _ q (with_earlier p i s stop w way each cut.counts (length (before ∷ earlier)) at c.is_cut (delivered (before ∷ earlier)) c.due q)
+    let at = from_bytes p i s [] stop w way restart one cut.counts (length (before ∷ earlier)) (savepoint_in before) c.is_cut (c.saved cut refl) savepoint from in
+    due_there p i s [] stop w way at_end _ q (with_earlier p i s [] stop w way each cut.counts (length (before ∷ earlier)) at c.is_cut (delivered (before ∷ earlier)) c.due q)

@@ -27,18 +27,18 @@ use Rattle.leg_tasks.specs.Saved.{IsSavedAt}
 use Rattle.job_legs.specs.Ending.{rows_to}
 
 -- what a world is told of its leg
-abbrev pub given_of : PlanData → InputData → StartData → LayoutData → Stop → GivenData
-given_of p i s l stop = record { plan = p; input = i; start = s; layout = l; stop = stop }
+abbrev pub given_of : PlanData → InputData → StartData → LayoutData → List (List (List ℕ)) → Stop → GivenData
+given_of p i s l saves stop = record { plan = p; input = i; start = s; layout = l; saves = saves; stop = stop }
 
--- a leg on its way from a start to where it is to stop, at any scale: a world to which steps led that it accepted, in any order, be it finished or not, and also where a step found no memory
-pub record IsUnderWay (p : PlanData) (i : InputData) (s : StartData) (stop : Stop) (w : WorldData) : Type 0 where
+-- a leg on its way from a start, with savepoints at these cuts, to where it is to stop, at any scale: a world to which steps led that it accepted, in any order, be it finished or not, and also where a step found no memory
+pub record IsUnderWay (p : PlanData) (i : InputData) (s : StartData) (saves : List (List (List ℕ))) (stop : Stop) (w : WorldData) : Type 0 where
   pub layout : LayoutData
-  pub given : w.given ≡ given_of p i s layout stop
+  pub given : w.given ≡ given_of p i s layout saves stop
   pub world : IsWorld w
 
 -- and one whose tasks are all done
-pub record IsLeg (p : PlanData) (i : InputData) (s : StartData) (stop : Stop) (w : WorldData) : Type 0 where
-  pub way : IsUnderWay p i s stop w
+pub record IsLeg (p : PlanData) (i : InputData) (s : StartData) (saves : List (List (List ℕ))) (stop : Stop) (w : WorldData) : Type 0 where
+  pub way : IsUnderWay p i s saves stop w
   pub finished : HasFinished w
 
 -- a start that is answered of bytes: they spell a savepoint, and its check gives the start
@@ -53,11 +53,11 @@ abbrev pub BytesRestart : Type 0
 BytesRestart = (p : PlanData) (i : InputData) (cut : List (List ℕ)) (number : ℕ) (old : Contents) (s : StartData) → IsPlan p → IsInput i → BelongsTo p i → IsCut i.sources cut → IsSavedAt p i cut number old → IsSavepoint old
     → ComesFrom p i (savepoint_bytes old) s → IsStartAt p i cut number s
 
--- one leg or more, the last first, of which the last was to stop so: the first from nothing, and each other from the bytes of the savepoint that the one before left where it stopped
+-- one leg or more without savepoints on the way, the last first, of which the last was to stop so: the first from nothing, and each other from the bytes of the savepoint that the one before left where it stopped
 pub data Lineage (p : PlanData) (i : InputData) : Stop → List WorldData → Type 0 where
-  begins : {s : StartData} {stop : Stop} {w : WorldData} → IsFromNothing i s → IsLeg p i s stop w → Lineage p i stop (w ∷ [])
+  begins : {s : StartData} {stop : Stop} {w : WorldData} → IsFromNothing i s → IsLeg p i s [] stop w → Lineage p i stop (w ∷ [])
   goes_on : {cut : Cut} {before : WorldData} {earlier : List WorldData} {s : StartData} {stop : Stop} {w : WorldData} → Lineage p i (At cut) (before ∷ earlier) → IsSavepoint (savepoint_in before)
-      → ComesFrom p i (savepoint_bytes (savepoint_in before)) s → IsLeg p i s stop w → Lineage p i stop (w ∷ before ∷ earlier)
+      → ComesFrom p i (savepoint_bytes (savepoint_in before)) s → IsLeg p i s [] stop w → Lineage p i stop (w ∷ before ∷ earlier)
 
 -- the rows that legs have delivered together, those of the first first
 abbrev pub delivered : List WorldData → List Row
@@ -79,20 +79,20 @@ LineagesAreExact = (p : PlanData) (i : InputData) (stop : Stop) (last : WorldDat
 
 -- two legs from one snapshot to one cut leave the same bytes
 abbrev pub OneSavepoint : Type 0
-OneSavepoint = (p : PlanData) (i : InputData) (cut : List (List ℕ)) (number : ℕ) (end : Cut) (s other : StartData) (w v : WorldData) → IsStartAt p i cut number s → IsStartAt p i cut number other → IsLeg p i s (At end) w → IsLeg p i other (At end) v
+OneSavepoint = (p : PlanData) (i : InputData) (cut : List (List ℕ)) (number : ℕ) (saves : List (List (List ℕ))) (end : Cut) (s other : StartData) (w v : WorldData) → IsStartAt p i cut number s → IsStartAt p i cut number other → IsLeg p i s saves (At end) w → IsLeg p i other saves (At end) v
     → savepoint_bytes (savepoint_in w) ≡ savepoint_bytes (savepoint_in v)
 
 -- at every moment of one leg that starts with the snapshot of its cut, of each pane its sink has nothing, or just the row that becomes due between the start and where the leg is to stop, once
 abbrev pub EachMomentOfALeg : Type 0
-EachMomentOfALeg = (p : PlanData) (i : InputData) (s : StartData) (stop : Stop) (w : WorldData) → HasSnapshot p i s → IsUnderWay p i s stop w → (q : Pane)
+EachMomentOfALeg = (p : PlanData) (i : InputData) (s : StartData) (saves : List (List (List ℕ))) (stop : Stop) (w : WorldData) → HasSnapshot p i s → IsUnderWay p i s saves stop w → (q : Pane)
     → let owed = due_between p i.sources (offsets_of s) (cut_to i (until_of stop)) q in
     (filter (row_is_at q) (rows_in w) ≡ []) ⊎ (filter (row_is_at q) (rows_in w) ≡ option_to_list owed)
 
 -- legs one after another, the last first, of which the last is on its way
 pub data UnderWay (p : PlanData) (i : InputData) : Stop → List WorldData → Type 0 where
-  sets_out : {s : StartData} {stop : Stop} {w : WorldData} → IsFromNothing i s → IsUnderWay p i s stop w → UnderWay p i stop (w ∷ [])
+  sets_out : {s : StartData} {stop : Stop} {w : WorldData} → IsFromNothing i s → IsUnderWay p i s [] stop w → UnderWay p i stop (w ∷ [])
   goes_further : {cut : Cut} {before : WorldData} {earlier : List WorldData} {s : StartData} {stop : Stop} {w : WorldData} → Lineage p i (At cut) (before ∷ earlier) → IsSavepoint (savepoint_in before)
-      → ComesFrom p i (savepoint_bytes (savepoint_in before)) s → IsUnderWay p i s stop w → UnderWay p i stop (w ∷ before ∷ earlier)
+      → ComesFrom p i (savepoint_bytes (savepoint_in before)) s → IsUnderWay p i s [] stop w → UnderWay p i stop (w ∷ before ∷ earlier)
 
 -- at every moment, of each pane they have delivered together nothing, or just the row that is due where the last is to stop, once: so no row is wrong, and none comes twice
 abbrev pub EachMomentIsPart : Type 0

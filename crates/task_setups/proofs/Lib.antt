@@ -1,3 +1,4 @@
+mod Limits
 mod Standing
 mod Picked
 mod Counted

@@ -63,7 +63,7 @@ past f from zero m l = refl
 past f from (suc n) zero l = absurd (omega (arith, l))
 past f from (suc n) (suc m) l = past f (from + 1) n m (omega (arith, l))
 
-after_all : (size : ℕ → ℕ → ℕ) (until : Until) (cuts : List (List (List ℕ))) (m x q : ℕ) → length cuts ≤ m → limit_of size until cuts m x q ≡ until_at size until x q
+pub after_all : (size : ℕ → ℕ → ℕ) (until : Until) (cuts : List (List (List ℕ))) (m x q : ℕ) → length cuts ≤ m → limit_of size until cuts m x q ≡ until_at size until x q
 after_all size until [] m x q l = refl
 after_all size until (c ∷ cuts) zero x q l = absurd (omega (arith, l))
 after_all size until (c ∷ cuts) (suc m) x q l = after_all size until cuts m x q (omega (arith, l))

@@ -9,7 +9,7 @@ ghost use Rattle.task_setups.specs.Legs.{IsLayoutOf, leg_over};
 ghost use Rattle.task_setups.specs.Setups as told;
 
 use crate::filters::filters_of;
-use crate::leg::{Leg, ending_of, limits_of};
+use crate::leg::{Leg, ending_of, ends_of, limits_on_way};
 use dataflow_model::Role;
 use key_groups::{MaxParallelism, Parallelism};
 use layout_rules::{Edge, Operator, Stage};
@@ -94,7 +94,7 @@ pub fn setup_of(
     plan: &Plan,
     input: &Input,
     layout: &Layout,
-    leg: &Leg,
+    leg: &Leg<'_>,
     task: u32,
 ) -> Result<Setup, AllocError>
     requires laid_out { IsLayoutOf plan.now layout.now }
@@ -119,10 +119,10 @@ pub fn setup_of(
         key: window.key,
         source,
         partitions: Items::from_vec(Vec::from_slice(alloc, partitions)?),
-        limits: Items::from_vec(Vec::new(alloc)),
-        ends: limits_of(alloc, leg, input, source, partitions)?,
+        limits: limits_on_way(alloc, leg, input, source, partitions)?,
+        ends: ends_of(alloc, leg, input, source, partitions)?,
         first: leg.number + 1,
-        saves: 0,
+        saves: leg.saves.len() as u64,
         ending: ending_of(&leg.stop),
     })
 }

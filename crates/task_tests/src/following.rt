@@ -1,6 +1,6 @@
 //! Choices are followed: each makes the step at its place among all that could be made.
 
-ghost use Rattle.std.specs.Prelude.{◌≡◌, ◌<◌, false};
+ghost use Rattle.std.specs.Prelude.{[], ◌≡◌, ◌<◌, false};
 ghost use Rattle.layout_rules.specs.Stages.{task_count};
 ghost use Rattle.redistribute.specs.Begins.{IsStartIn};
 ghost use Rattle.stream_model.specs.InputData.{BelongsTo};
@@ -91,6 +91,7 @@ fn all_steps(alloc: Global, world: &World, layout: &Layout) -> Result<Vec<Step>,
     for task in 0..layout.task_count() {
         add(&mut steps, world, Step::Open(task))?;
         add_reads(&mut steps, world, layout, task)?;
+        add(&mut steps, world, Step::Save(task))?;
         add(&mut steps, world, Step::Stop(task))?;
         add(&mut steps, world, Step::Close(task))?;
         add_takes(&mut steps, world, layout, task)?;
@@ -227,6 +228,7 @@ struct Leg<'a> {
 }
 
 /// Follows choices in a third world beside two: the rows of the third.
+#[tactic(auto, using(core_steps::proofs::Sound::takes_none))]
 fn follow_third(
     rt: &(impl AllocGlobal + Abort),
     leg: Leg<'_>,
@@ -236,6 +238,7 @@ fn follow_third(
     requires belongs { BelongsTo leg.given.plan.now leg.given.input.now }
     requires starts { IsStartIn leg.given.plan.now leg.given.input.now leg.given.start.now }
     requires laid_out { IsLayoutOf leg.given.plan.now leg.given.layout.now }
+    requires none { leg.given.saves.now ≡ [] }
 {
     let layout = leg.given.layout;
     let stop = stop_at(rt.alloc(), leg.case.stop)?;
@@ -245,6 +248,7 @@ fn follow_third(
 }
 
 /// Follows choices in a second world and a third beside one: the rows of the third.
+#[tactic(auto, using(core_steps::proofs::Sound::takes_none))]
 fn follow_second(
     rt: &(impl AllocGlobal + Abort),
     leg: Leg<'_>,
@@ -253,6 +257,7 @@ fn follow_second(
     requires belongs { BelongsTo leg.given.plan.now leg.given.input.now }
     requires starts { IsStartIn leg.given.plan.now leg.given.input.now leg.given.start.now }
     requires laid_out { IsLayoutOf leg.given.plan.now leg.given.layout.now }
+    requires none { leg.given.saves.now ≡ [] }
 {
     let stop = stop_at(rt.alloc(), leg.case.stop)?;
     let mut one_by_one = World::new(rt.alloc(), leg.keys, leg.given, stop)?;
@@ -274,10 +279,12 @@ fn check_rows(
 }
 
 /// Follows choices in three worlds of one leg.
+#[tactic(auto, using(core_steps::proofs::Sound::takes_none))]
 fn follow_leg(rt: &(impl AllocGlobal + Abort), leg: Leg<'_>) -> Result<(), Fail>
     requires belongs { BelongsTo leg.given.plan.now leg.given.input.now }
     requires starts { IsStartIn leg.given.plan.now leg.given.input.now leg.given.start.now }
     requires laid_out { IsLayoutOf leg.given.plan.now leg.given.layout.now }
+    requires none { leg.given.saves.now ≡ [] }
 {
     let stop = stop_at(rt.alloc(), leg.case.stop)?;
     let mut by_hand = World::new(rt.alloc(), leg.keys, leg.given, stop)?;
@@ -293,6 +300,7 @@ fn follow_given<R: AllocGlobal + Abort + RandomSource>(
     requires belongs { BelongsTo given.plan.now given.input.now }
     requires starts { IsStartIn given.plan.now given.input.now given.start.now }
     requires laid_out { IsLayoutOf given.plan.now given.layout.now }
+    requires none { given.saves.now ≡ [] }
 {
     let keys = HashKeys::random(rt)?;
     follow_leg(rt, Leg { keys, given, case })
@@ -314,6 +322,7 @@ fn follow_input<R: AllocGlobal + Abort + RandomSource>(
         input,
         start: &start,
         layout,
+        saves: &[],
     };
     follow_given(rt, given, case)
 }

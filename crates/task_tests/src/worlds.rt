@@ -1,6 +1,9 @@
+ghost use Rattle.std.specs.Prelude.{[], ◌≡◌};
 ghost use Rattle.stream_model.specs.InputData.{BelongsTo};
 ghost use Rattle.redistribute.specs.Begins.{IsStartIn};
-ghost use Rattle.task_setups.specs.Legs.{IsLayoutOf};
+ghost use Rattle.redistribute.specs.StartData.{offsets_of};
+ghost use Rattle.redistribute.specs.Stopping.{CanSaveAt};
+ghost use Rattle.task_setups.specs.Legs.{IsLayoutOf, counts_of};
 
 use crate::making::{layout_at, stop_at};
 use core_steps::{Finish, Given, World};
@@ -166,12 +169,13 @@ fn check_end<R: AllocGlobal + Abort>(
     Ok(())
 }
 
-/// What is tried: a leg of the job at a scale, to where so many entries were read or to its end, what is done to its world,
-/// from its opening on, and how that has ended then.
+/// What is tried: a leg of the job at a scale, to where so many entries were read or to its end, or with a savepoint where
+/// it goes on there; what is done to its world, from its opening on, and how that has ended then.
 #[derive(Clone, Copy)]
 struct Case<'a> {
     scale: &'a str,
     stop: Option<&'a [u64]>,
+    goes_on: bool,
     parts: &'a [Part],
     ending: Ending,
 }
@@ -186,6 +190,7 @@ fn check_world<R: AllocGlobal + Abort>(
     requires belongs { BelongsTo given.plan.now given.input.now }
     requires starts { IsStartIn given.plan.now given.input.now given.start.now }
     requires laid_out { IsLayoutOf given.plan.now given.layout.now }
+    requires saves { CanSaveAt given.input.now.sources (offsets_of given.start.now) (counts_of given.saves.now) stop }
 {
     let mut world = World::new(rt.alloc(), keys, given, stop)?;
     for part in case.parts {
@@ -195,7 +200,25 @@ fn check_world<R: AllocGlobal + Abort>(
     Ok(())
 }
 
+#[tactic(auto, using(core_steps::proofs::Sound::takes_none))]
 fn check_given<R: AllocGlobal + Abort + RandomSource>(
+    rt: &R,
+    given: Given<'_>,
+    case: &Case<'_>,
+) -> Result<Result<(), LegFault>, Fail>
+    requires belongs { BelongsTo given.plan.now given.input.now }
+    requires starts { IsStartIn given.plan.now given.input.now given.start.now }
+    requires laid_out { IsLayoutOf given.plan.now given.layout.now }
+    requires none { given.saves.now ≡ [] }
+{
+    let keys = HashKeys::random(rt)?;
+    let stop = stop_at(rt.alloc(), case.stop)?;
+    Ok(check_world(rt, keys, given, stop, case))
+}
+
+/// The leg goes on where it could stop, with a savepoint, and runs to its end.
+#[tactic(auto, using(crate::proofs::Saving::saves_where_it_stops))]
+fn check_on_way<R: AllocGlobal + Abort + RandomSource>(
     rt: &R,
     given: Given<'_>,
     case: &Case<'_>,
@@ -206,7 +229,20 @@ fn check_given<R: AllocGlobal + Abort + RandomSource>(
 {
     let keys = HashKeys::random(rt)?;
     let stop = stop_at(rt.alloc(), case.stop)?;
-    Ok(check_world(rt, keys, given, stop, case))
+    if let Err(fault) = given.start.check_stop(given.input, &stop) {
+        return Ok(Err(fault));
+    }
+    let Stop::At(cut) = stop else {
+        return Ok(Ok(()));
+    };
+    let given = Given {
+        plan: given.plan,
+        input: given.input,
+        start: given.start,
+        layout: given.layout,
+        saves: &[cut],
+    };
+    Ok(check_world(rt, keys, given, Stop::Never, case))
 }
 
 fn check_start<R: AllocGlobal + Abort + RandomSource>(
@@ -225,7 +261,11 @@ fn check_start<R: AllocGlobal + Abort + RandomSource>(
         input,
         start,
         layout: &layout,
+        saves: &[],
     };
+    if case.goes_on {
+        return check_on_way(rt, given, case);
+    }
     check_given(rt, given, case)
 }
 
@@ -269,6 +309,9 @@ const OPENS: &[(Step, bool)] = &[
     (Step::Read(1, 1), false),
     (Step::Read(1, 0), false),
     (Step::Read(6, 0), false),
+    (Step::Save(0), false),
+    (Step::Save(5), false),
+    (Step::Save(6), false),
     (Step::Stop(0), false),
     (Step::Stop(5), false),
     (Step::Stop(6), false),
@@ -292,6 +335,7 @@ fn only_sources_can_do_something_as_it_opens(rt: HostRuntime) -> Result<(), Fail
     let case = Case {
         scale: TWO_THREE,
         stop: None,
+        goes_on: false,
         parts: &[Part::Listed(OPENS)],
         ending: Ending::GoesOn,
     };
@@ -319,6 +363,7 @@ fn a_subtask_reads_its_own_partitions(rt: HostRuntime) -> Result<(), Fail> {
     let case = Case {
         scale: TWO_THREE,
         stop: None,
+        goes_on: false,
         parts: &[Part::Steps(READS)],
         ending: Ending::GoesOn,
     };
@@ -345,6 +390,7 @@ fn a_record_is_put_and_taken(rt: HostRuntime) -> Result<(), Fail> {
     let case = Case {
         scale: TWO_THREE,
         stop: None,
+        goes_on: false,
         parts: &[Part::Steps(MOVES)],
         ending: Ending::GoesOn,
     };
@@ -372,6 +418,7 @@ fn a_full_ring_takes_no_more(rt: HostRuntime) -> Result<(), Fail> {
     let case = Case {
         scale: TWO_THREE_SHORT,
         stop: None,
+        goes_on: false,
         parts: &[Part::Steps(FILLS)],
         ending: Ending::GoesOn,
     };
@@ -440,6 +487,7 @@ fn it_ends_with_all_rows(rt: HostRuntime) -> Result<(), Fail> {
     let case = Case {
         scale: ONE_ONE,
         stop: None,
+        goes_on: false,
         parts: &[Part::Steps(TO_THE_CUT), Part::Steps(TO_THE_END)],
         ending: Ending::Ended(ROWS),
     };
@@ -466,8 +514,43 @@ fn it_stops_at_its_cut(rt: HostRuntime) -> Result<(), Fail> {
     let case = Case {
         scale: ONE_ONE,
         stop: Some(&[2, 2]),
+        goes_on: false,
         parts: &[Part::Steps(TO_THE_CUT), Part::Steps(AT_THE_CUT)],
         ending: Ending::Stopped(FIRST_ROWS),
+    };
+    assert_eq!(rt; check(&rt, case)?, Ok(()));
+    Ok(())
+}
+
+const ON_THE_WAY: &[(Step, Option<StepFault>)] = &[
+    (Step::Read(0, 0), REFUSED),
+    (Step::Stop(0), REFUSED),
+    (Step::Close(0), REFUSED),
+    (Step::Save(1), REFUSED),
+    (Step::Save(0), DONE),
+    (Step::Save(0), REFUSED),
+    (Step::Read(0, 0), REFUSED),
+    (Step::Put(0), DONE),
+    (Step::Save(0), REFUSED),
+    (Step::Take(1, 0), DONE),
+    (Step::Put(1), DONE),
+    (Step::Take(2, 0), DONE),
+    (Step::Take(2, 0), REFUSED),
+];
+
+#[test]
+fn it_takes_a_savepoint_and_goes_on(rt: HostRuntime) -> Result<(), Fail> {
+    let case = Case {
+        scale: ONE_ONE,
+        stop: Some(&[2, 2]),
+        goes_on: true,
+        parts: &[
+            Part::Steps(&[(Step::Save(0), REFUSED)]),
+            Part::Steps(TO_THE_CUT),
+            Part::Steps(ON_THE_WAY),
+            Part::Steps(TO_THE_END),
+        ],
+        ending: Ending::Ended(ROWS),
     };
     assert_eq!(rt; check(&rt, case)?, Ok(()));
     Ok(())
@@ -479,6 +562,7 @@ fn a_world_that_found_no_memory_has_failed(rt: HostRuntime) -> Result<(), Fail> 
     let case = Case {
         scale: ONE_ONE,
         stop: None,
+        goes_on: false,
         parts: &[Part::Failing(TO_THE_CUT, OPENS)],
         ending: Ending::GoesOn,
     };

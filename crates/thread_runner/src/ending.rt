@@ -6,8 +6,8 @@ ghost use Rattle.layout_rules.specs.Stages.{task_count};
 ghost use Rattle.legs.specs.declared.stop.Stop.TheVariants.{Never};
 ghost use Rattle.redistribute.specs.StartData.{offsets_of};
 ghost use Rattle.redistribute.specs.Begins.{IsStartIn, IsFromNothing};
-ghost use Rattle.redistribute.specs.Stopping.{CanStop};
-ghost use Rattle.task_setups.specs.Legs.{IsLayoutOf};
+ghost use Rattle.redistribute.specs.Stopping.{CanSaveAt, CanStop};
+ghost use Rattle.task_setups.specs.Legs.{IsLayoutOf, counts_of};
 ghost use Rattle.core_steps.specs.Given.{given_data};
 ghost use Rattle.core_steps.specs.World.{IsSound};
 ghost use Rattle.core_steps.specs.Ending.{IsEndOf, IsWholeRun};
@@ -81,9 +81,10 @@ fn finished(
     requires belongs { BelongsTo given.plan.now given.input.now }
     requires starts { IsStartIn given.plan.now given.input.now given.start.now }
     requires stops { CanStop given.input.now.sources (offsets_of given.start.now) stop.now }
+    requires saves { CanSaveAt given.input.now.sources (offsets_of given.start.now) (counts_of given.saves.now) stop.now }
     requires worked { AreWorked (given_data given stop.now) dones.items }
     requires fine { NoFaults dones.items }
-    ensures ends { IfOk result (λ finish. IsEndOf given.entry.plan.now given.entry.input.now given.entry.start.now stop.now finish) }
+    ensures ends { IfOk result (λ finish. IsEndOf given.entry.plan.now given.entry.input.now given.entry.start.now (counts_of given.entry.saves.now) stop.now finish) }
     ensures whole { IfOk result (λ finish. IsFromNothing given.entry.input.now given.entry.start.now → stop.now ≡ Never → IsWholeRun given.entry.plan.now given.entry.input.now finish) }
 {
     let _edges = layouts_have_edges();
@@ -104,8 +105,9 @@ pub(crate) fn conclude(
     requires belongs { BelongsTo given.plan.now given.input.now }
     requires starts { IsStartIn given.plan.now given.input.now given.start.now }
     requires stops { CanStop given.input.now.sources (offsets_of given.start.now) stop.now }
+    requires saves { CanSaveAt given.input.now.sources (offsets_of given.start.now) (counts_of given.saves.now) stop.now }
     requires worked { AreWorked (given_data given stop.now) dones.items }
-    ensures ends { IfOk result (λ finish. IsEndOf given.entry.plan.now given.entry.input.now given.entry.start.now stop.now finish) }
+    ensures ends { IfOk result (λ finish. IsEndOf given.entry.plan.now given.entry.input.now given.entry.start.now (counts_of given.entry.saves.now) stop.now finish) }
     ensures whole { IfOk result (λ finish. IsFromNothing given.entry.input.now given.entry.start.now → stop.now ≡ Never → IsWholeRun given.entry.plan.now given.entry.input.now finish) }
 {
     if has_fault(dones.as_slice()) {

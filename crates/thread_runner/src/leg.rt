@@ -1,13 +1,13 @@
 //! A leg of a job, run in a thread for each task.
 
-ghost use Rattle.std.specs.Prelude.{◌≡◌, IfOk, IfErr, OnOk};
+ghost use Rattle.std.specs.Prelude.{[], ◌≡◌, IfOk, IfErr, OnOk};
 ghost use Rattle.stream_model.specs.InputData.{BelongsTo};
 ghost use Rattle.layout_rules.specs.Scale.{IsScale};
 ghost use Rattle.legs.specs.declared.stop.Stop.TheVariants.{Never};
 ghost use Rattle.redistribute.specs.StartData.{offsets_of};
 ghost use Rattle.redistribute.specs.Begins.{IsStartIn, IsFromNothing};
-ghost use Rattle.redistribute.specs.Stopping.{CanStop, IsRefusal};
-ghost use Rattle.task_setups.specs.Legs.{IsLayoutOf};
+ghost use Rattle.redistribute.specs.Stopping.{CanSaveAt, CanStop, IsRefusal};
+ghost use Rattle.task_setups.specs.Legs.{IsLayoutOf, counts_of};
 ghost use Rattle.core_steps.specs.Given.{given_data};
 ghost use Rattle.core_steps.specs.World.{IsSound};
 ghost use Rattle.core_steps.specs.Ending.{IsEndOf, IsWholeRun};
@@ -42,12 +42,14 @@ fn prepared(
     alloc: Global,
     keys: HashKeys,
     given: Given<'_>,
-    leg: &Leg,
+    leg: &Leg<'_>,
 ) -> Result<Vec<Job>, LegFault>
     requires laid_out { IsLayoutOf given.plan.now given.layout.now }
     requires belongs { BelongsTo given.plan.now given.input.now }
     requires starts { IsStartIn given.plan.now given.input.now given.start.now }
     requires number { leg.now.number ≡ given.start.now.number }
+    requires same { leg.now.saves.now ≡ given.saves.now }
+    requires saves { CanSaveAt given.input.now.sources (offsets_of given.start.now) (counts_of given.saves.now) leg.now.stop }
     ensures stops { OnOk result (CanStop given.entry.input.now.sources (offsets_of given.entry.start.now) leg.now.stop) }
     ensures sound { OnOk result (IsSound (given_data given.entry leg.now.stop)) }
     ensures refused { IfErr result (λ fault. IsRefusal given.entry.input.now.sources (offsets_of given.entry.start.now) leg.now.stop fault) }
@@ -76,6 +78,7 @@ fn prepared(
 ///
 /// `StopRange` where a leg from the start cannot stop so, else `Threads` where a thread was refused, and `Memory` where
 /// memory runs out.
+#[tactic(auto, using(core_steps::proofs::Sound::takes_none))]
 pub fn run_leg<R: Threads + Wait + Clock + Sync, G: Gate>(
     rt: &R,
     alloc: Global,
@@ -91,7 +94,7 @@ pub fn run_leg<R: Threads + Wait + Clock + Sync, G: Gate>(
     requires scale { IsScale plan.now scale.now }
     requires starts { IsStartIn plan.now input.now start.now }
     ensures stops { OnOk result (CanStop input.now.sources (offsets_of start.now) stop) }
-    ensures ends { IfOk result (λ finish. IsEndOf plan.now input.now start.now stop finish) }
+    ensures ends { IfOk result (λ finish. IsEndOf plan.now input.now start.now [] stop finish) }
     ensures whole { IfOk result (λ finish. IsFromNothing input.now start.now → stop ≡ Never → IsWholeRun plan.now input.now finish) }
     ensures refused { IfErr result (λ fault. IsThreadRefusal input.now.sources (offsets_of start.now) stop fault) }
 {
@@ -102,9 +105,11 @@ pub fn run_leg<R: Threads + Wait + Clock + Sync, G: Gate>(
         input,
         start,
         layout: &layout,
+        saves: &[],
     };
     let leg = Leg {
         number: start.number(),
+        saves: given.saves,
         stop,
     };
     let jobs = prepared(alloc, keys, given, &leg)?;

@@ -103,6 +103,12 @@ fn run_source(input: &Input, task: &mut Task) -> Result<bool, StepFault>
             Err(fault) => Err(fault),
         };
     }
+    if task.can_save() {
+        return match task.save() {
+            Ok(()) => Ok(true),
+            Err(fault) => Err(fault),
+        };
+    }
     if task.can_stop() {
         return match task.stop() {
             Ok(()) => Ok(true),

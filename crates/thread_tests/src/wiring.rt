@@ -1,12 +1,12 @@
 //! A leg whose rings are made, and settled, by hand, and what workers do where one has failed.
 
-ghost use Rattle.std.specs.Prelude.{◌≡◌, IfOk, IfSome, OnOk, length};
+ghost use Rattle.std.specs.Prelude.{[], ◌≡◌, IfOk, IfSome, OnOk, length};
 ghost use Rattle.stream_model.specs.InputData.{BelongsTo};
 ghost use Rattle.redistribute.specs.Begins.{IsStartIn};
 ghost use Rattle.redistribute.specs.StartData.{offsets_of};
-ghost use Rattle.redistribute.specs.Stopping.{CanStop};
+ghost use Rattle.redistribute.specs.Stopping.{CanSaveAt, CanStop};
 ghost use Rattle.layout_rules.specs.Stages.{task_count};
-ghost use Rattle.task_setups.specs.Legs.{IsLayoutOf};
+ghost use Rattle.task_setups.specs.Legs.{IsLayoutOf, counts_of};
 ghost use Rattle.core_steps.specs.Given.{given_data};
 ghost use Rattle.core_steps.specs.World.{IsSound};
 ghost use Rattle.thread_runner.specs.Edges.{AreJoined, AreLeft, HasEdges, SameDones, in_names, out_names, put_tables, taken_tables};
@@ -41,11 +41,18 @@ use thread_runner::{Done, Job, OpenGate, has_fault, jobs_of, run_all, settle_all
 use window_state::HashKeys;
 
 /// The jobs of a leg's tasks, with a ring for each edge.
-fn wired(alloc: Global, keys: HashKeys, given: Given<'_>, leg: &Leg) -> Result<Vec<Job>, LegFault>
+fn wired(
+    alloc: Global,
+    keys: HashKeys,
+    given: Given<'_>,
+    leg: &Leg<'_>,
+) -> Result<Vec<Job>, LegFault>
     requires laid_out { IsLayoutOf given.plan.now given.layout.now }
     requires belongs { BelongsTo given.plan.now given.input.now }
     requires starts { IsStartIn given.plan.now given.input.now given.start.now }
     requires number { leg.now.number ≡ given.start.now.number }
+    requires same { leg.now.saves.now ≡ given.saves.now }
+    requires saves { CanSaveAt given.input.now.sources (offsets_of given.start.now) (counts_of given.saves.now) leg.now.stop }
     ensures stops { OnOk result (CanStop given.entry.input.now.sources (offsets_of given.entry.start.now) leg.now.stop) }
     ensures sound { OnOk result (IsSound (given_data given.entry leg.now.stop)) }
     ensures wired { IfOk result (λ jobs. AreWired (given_data given.entry leg.now.stop) jobs.items) }
@@ -89,6 +96,7 @@ fn settle(
     requires belongs { BelongsTo given.plan.now given.input.now }
     requires starts { IsStartIn given.plan.now given.input.now given.start.now }
     requires stops { CanStop given.input.now.sources (offsets_of given.start.now) stop.now }
+    requires saves { CanSaveAt given.input.now.sources (offsets_of given.start.now) (counts_of given.saves.now) stop.now }
     requires worked { AreWorked (given_data given stop.now) dones.items }
     requires fine { NoFaults dones.items }
 {
@@ -105,12 +113,14 @@ fn run_wired<R: AllocGlobal + Threads + Wait + Clock + Sync>(
     rt: &R,
     keys: HashKeys,
     given: Given<'_>,
-    leg: &Leg,
+    leg: &Leg<'_>,
 ) -> Result<Option<Vec<Done>>, LegFault>
     requires laid_out { IsLayoutOf given.plan.now given.layout.now }
     requires belongs { BelongsTo given.plan.now given.input.now }
     requires starts { IsStartIn given.plan.now given.input.now given.start.now }
     requires number { leg.now.number ≡ given.start.now.number }
+    requires same { leg.now.saves.now ≡ given.saves.now }
+    requires saves { CanSaveAt given.input.now.sources (offsets_of given.start.now) (counts_of given.saves.now) leg.now.stop }
     ensures stops { OnOk result (CanStop given.entry.input.now.sources (offsets_of given.entry.start.now) leg.now.stop) }
     ensures sound { OnOk result (IsSound (given_data given.entry leg.now.stop)) }
     ensures worked { IfOk result (λ dones. IfSome dones (λ v. AreWorked (given_data given.entry leg.now.stop) v.items)) }
@@ -130,12 +140,14 @@ fn check_whole<R: AllocGlobal + Abort + Threads + Wait + Clock + Sync>(
     rt: &R,
     keys: HashKeys,
     given: Given<'_>,
-    leg: &Leg,
+    leg: &Leg<'_>,
 ) -> Result<(), LegFault>
     requires laid_out { IsLayoutOf given.plan.now given.layout.now }
     requires belongs { BelongsTo given.plan.now given.input.now }
     requires starts { IsStartIn given.plan.now given.input.now given.start.now }
     requires number { leg.now.number ≡ given.start.now.number }
+    requires same { leg.now.saves.now ≡ given.saves.now }
+    requires saves { CanSaveAt given.input.now.sources (offsets_of given.start.now) (counts_of given.saves.now) leg.now.stop }
 {
     let Some(dones) = run_wired(rt, keys, given, leg)? else {
         return Err(LegFault::Memory);
@@ -164,13 +176,15 @@ fn check_failed<R: AllocGlobal + Abort + Threads + Wait + Clock + Sync>(
     rt: &R,
     keys: HashKeys,
     given: Given<'_>,
-    leg: &Leg,
+    leg: &Leg<'_>,
     tasks: usize,
 ) -> Result<(), LegFault>
     requires laid_out { IsLayoutOf given.plan.now given.layout.now }
     requires belongs { BelongsTo given.plan.now given.input.now }
     requires starts { IsStartIn given.plan.now given.input.now given.start.now }
     requires number { leg.now.number ≡ given.start.now.number }
+    requires same { leg.now.saves.now ≡ given.saves.now }
+    requires saves { CanSaveAt given.input.now.sources (offsets_of given.start.now) (counts_of given.saves.now) leg.now.stop }
 {
     let jobs = wired(rt.alloc(), keys, given, leg)?;
     let failed = AtomicBool::new(true);
@@ -207,13 +221,15 @@ fn check_leg<R: AllocGlobal + Abort + Threads + Wait + Clock + Sync>(
     rt: &R,
     keys: HashKeys,
     given: Given<'_>,
-    leg: &Leg,
+    leg: &Leg<'_>,
     trial: Trial,
 ) -> Result<(), LegFault>
     requires laid_out { IsLayoutOf given.plan.now given.layout.now }
     requires belongs { BelongsTo given.plan.now given.input.now }
     requires starts { IsStartIn given.plan.now given.input.now given.start.now }
     requires number { leg.now.number ≡ given.start.now.number }
+    requires same { leg.now.saves.now ≡ given.saves.now }
+    requires saves { CanSaveAt given.input.now.sources (offsets_of given.start.now) (counts_of given.saves.now) leg.now.stop }
 {
     match trial {
         Trial::Whole => check_whole(rt, keys, given, leg),
@@ -222,6 +238,7 @@ fn check_leg<R: AllocGlobal + Abort + Threads + Wait + Clock + Sync>(
     }
 }
 
+#[tactic(auto, using(core_steps::proofs::Sound::takes_none))]
 fn check_given<R: AllocGlobal + Abort + RandomSource + Threads + Wait + Clock + Sync>(
     rt: &R,
     given: Given<'_>,
@@ -230,10 +247,12 @@ fn check_given<R: AllocGlobal + Abort + RandomSource + Threads + Wait + Clock + 
     requires laid_out { IsLayoutOf given.plan.now given.layout.now }
     requires belongs { BelongsTo given.plan.now given.input.now }
     requires starts { IsStartIn given.plan.now given.input.now given.start.now }
+    requires none { given.saves.now ≡ [] }
 {
     let keys = HashKeys::random(rt)?;
     let leg = Leg {
         number: given.start.number(),
+        saves: given.saves,
         stop: Stop::Never,
     };
     Ok(check_leg(rt, keys, given, &leg, trial)?)
@@ -256,6 +275,7 @@ fn check_started<R: AllocGlobal + Abort + RandomSource + Threads + Wait + Clock 
         input,
         start,
         layout: &layout,
+        saves: &[],
     };
     check_given(rt, given, trial)
 }

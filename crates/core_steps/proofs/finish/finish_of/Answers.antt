@@ -1,16 +1,27 @@
-use Rattle.std.proofs.Common.{sym, subst, arith}
+use Rattle.std.proofs.Common.{◌≡◌, ℕ, ◌+◌, List, length, refl, sym, subst, ◌∙◌, arith}
+use Rattle.std.proofs.lemmas.List.{length-map}
+use Rattle.legs.specs.declared.cut.Cut.{Cut}
+use Rattle.task_setups.specs.Legs.{counts_of}
 use Rattle.leg_tasks.specs.Leaving.{CanSave}
 use Rattle.core_steps.specs.declared.finish.Finish.TheVariants.{Ended, Stopped}
 use Rattle.core_steps.specs.Given.{given_data}
+use Rattle.core_steps.specs.Finishing.{number_after}
 use Rattle.core_steps.proofs.Sound.{sound}
-use Rattle.core_steps.proofs.Ending.{can_save, ended_is, stopped_is}
+use Rattle.core_steps.proofs.Ending.{can_save, ended_is, numbered, stopped_is}
 use Rattle.core_steps.proofs.Delivered.{end_of, whole_run}
 use Rattle.core_steps.proofs.finish.finish_of.Goals as goal
+
+-- the number of the savepoint, as it is counted
+number_of : (number : ℕ) (saves : List Cut) (n k : ℕ) → n ≡ number → k ≡ length saves → n + k + 1 ≡ number_after number (counts_of saves)
+number_of number saves n k is many =
+    let same = length-map saves (λ (cut : Cut). cut.counts) in
+    let all : n + k + 1 ≡ number + length (counts_of saves) + 1 = omega (arith, is, many, same) in
+    all ∙ numbered number (counts_of saves)
 
 pub sink_rows-requires : goal.sink_rows-requires
 sink_rows-requires c =
     let g = given_data c.args.given c.args.stop.now in
-    let s = sound g (record { plan = c.columns-columns.ensures.sound; input = c.sources-sources.ensures.sound; orderly = c.sources-sources.ensures.orderly; belongs = c.requires.belongs; laid_out = c.requires.laid_out; starts = c.requires.starts; stops = c.requires.stops }) in
+    let s = sound g (record { plan = c.columns-columns.ensures.sound; input = c.sources-sources.ensures.sound; orderly = c.sources-sources.ensures.orderly; belongs = c.requires.belongs; laid_out = c.requires.laid_out; starts = c.requires.starts; stops = c.requires.stops; saves = c.requires.saves }) in
     let one = s.count in
     let two = c.requires.tasks.count in
     omega (arith, one, two)
@@ -18,7 +29,7 @@ sink_rows-requires c =
 pub sink_rows-requires-in-At : goal.sink_rows-requires-in-At
 sink_rows-requires-in-At c =
     let g = given_data c.args.given c.args.stop.now in
-    let s = sound g (record { plan = c.columns-columns.ensures.sound; input = c.sources-sources.ensures.sound; orderly = c.sources-sources.ensures.orderly; belongs = c.requires.belongs; laid_out = c.requires.laid_out; starts = c.requires.starts; stops = c.requires.stops }) in
+    let s = sound g (record { plan = c.columns-columns.ensures.sound; input = c.sources-sources.ensures.sound; orderly = c.sources-sources.ensures.orderly; belongs = c.requires.belongs; laid_out = c.requires.laid_out; starts = c.requires.starts; stops = c.requires.stops; saves = c.requires.saves }) in
     let one = s.count in
     let two = c.requires.tasks.count in
     omega (arith, one, two)
@@ -26,36 +37,36 @@ sink_rows-requires-in-At c =
 pub save-requires-clause-tasks : goal.save-requires-clause-tasks
 save-requires-clause-tasks c =
     let g = given_data c.args.given c.args.stop.now in
-    let s = sound g (record { plan = c.columns-columns.ensures.sound; input = c.sources-sources.ensures.sound; orderly = c.sources-sources.ensures.orderly; belongs = c.requires.belongs; laid_out = c.requires.laid_out; starts = c.requires.starts; stops = c.requires.stops }) in
+    let s = sound g (record { plan = c.columns-columns.ensures.sound; input = c.sources-sources.ensures.sound; orderly = c.sources-sources.ensures.orderly; belongs = c.requires.belongs; laid_out = c.requires.laid_out; starts = c.requires.starts; stops = c.requires.stops; saves = c.requires.saves }) in
     subst (CanSave g.plan g.layout.stages) (sym c.as_slice.ensures.value) (can_save g c.args.tasks.items s c.requires.tasks)
 
 pub returns-in-Never-clause-is : goal.returns-in-Never-clause-is
 returns-in-Never-clause-is c =
     let g = given_data c.args.given c.args.stop.now in
-    let s = sound g (record { plan = c.columns-columns.ensures.sound; input = c.sources-sources.ensures.sound; orderly = c.sources-sources.ensures.orderly; belongs = c.requires.belongs; laid_out = c.requires.laid_out; starts = c.requires.starts; stops = c.requires.stops }) in
+    let s = sound g (record { plan = c.columns-columns.ensures.sound; input = c.sources-sources.ensures.sound; orderly = c.sources-sources.ensures.orderly; belongs = c.requires.belongs; laid_out = c.requires.laid_out; starts = c.requires.starts; stops = c.requires.stops; saves = c.requires.saves }) in
     ended_is g c.args.tasks.items s c.requires.tasks c.sink_rows.result c.sink_rows.ensures c.in-Never.is
 
 pub returns-in-Never-clause-ends : goal.returns-in-Never-clause-ends
 returns-in-Never-clause-ends c =
     let g = given_data c.args.given c.args.stop.now in
-    let s = sound g (record { plan = c.columns-columns.ensures.sound; input = c.sources-sources.ensures.sound; orderly = c.sources-sources.ensures.orderly; belongs = c.requires.belongs; laid_out = c.requires.laid_out; starts = c.requires.starts; stops = c.requires.stops }) in
+    let s = sound g (record { plan = c.columns-columns.ensures.sound; input = c.sources-sources.ensures.sound; orderly = c.sources-sources.ensures.orderly; belongs = c.requires.belongs; laid_out = c.requires.laid_out; starts = c.requires.starts; stops = c.requires.stops; saves = c.requires.saves }) in
     end_of g c.args.tasks.items s c.requires.tasks (Ended c.sink_rows.result) (ended_is g c.args.tasks.items s c.requires.tasks c.sink_rows.result c.sink_rows.ensures c.in-Never.is)
 
 pub returns-in-Never-clause-whole : goal.returns-in-Never-clause-whole
 returns-in-Never-clause-whole c = λ nothing never.
     let g = given_data c.args.given c.args.stop.now in
-    let s = sound g (record { plan = c.columns-columns.ensures.sound; input = c.sources-sources.ensures.sound; orderly = c.sources-sources.ensures.orderly; belongs = c.requires.belongs; laid_out = c.requires.laid_out; starts = c.requires.starts; stops = c.requires.stops }) in
+    let s = sound g (record { plan = c.columns-columns.ensures.sound; input = c.sources-sources.ensures.sound; orderly = c.sources-sources.ensures.orderly; belongs = c.requires.belongs; laid_out = c.requires.laid_out; starts = c.requires.starts; stops = c.requires.stops; saves = c.requires.saves }) in
     whole_run g c.args.tasks.items s c.requires.tasks (Ended c.sink_rows.result) (ended_is g c.args.tasks.items s c.requires.tasks c.sink_rows.result c.sink_rows.ensures c.in-Never.is) nothing never
 
 pub returns-in_ok-savepoint-in-At-clause-is : goal.returns-in_ok-savepoint-in-At-clause-is
 returns-in_ok-savepoint-in-At-clause-is c =
     let g = given_data c.args.given c.args.stop.now in
-    let s = sound g (record { plan = c.columns-columns.ensures.sound; input = c.sources-sources.ensures.sound; orderly = c.sources-sources.ensures.orderly; belongs = c.requires.belongs; laid_out = c.requires.laid_out; starts = c.requires.starts; stops = c.requires.stops }) in
-    stopped_is g c.args.tasks.items s c.requires.tasks c.sink_rows-in-At.result c.sink_rows-in-At.ensures c.in_ok-savepoint-in-At.savepoint _ _ c.as_slice.ensures.value c.in_ok-savepoint-in-At.ensures c.number.ensures c.in-At.is
+    let s = sound g (record { plan = c.columns-columns.ensures.sound; input = c.sources-sources.ensures.sound; orderly = c.sources-sources.ensures.orderly; belongs = c.requires.belongs; laid_out = c.requires.laid_out; starts = c.requires.starts; stops = c.requires.stops; saves = c.requires.saves }) in
+    stopped_is g c.args.tasks.items s c.requires.tasks c.sink_rows-in-At.result c.sink_rows-in-At.ensures c.in_ok-savepoint-in-At.savepoint _ _ c.as_slice.ensures.value c.in_ok-savepoint-in-At.ensures (number_of g.start.number c.args.given.saves.now _ _ c.number.ensures refl) c.in-At.is
 
 pub returns-in_ok-savepoint-in-At-clause-ends : goal.returns-in_ok-savepoint-in-At-clause-ends
 returns-in_ok-savepoint-in-At-clause-ends c =
     let g = given_data c.args.given c.args.stop.now in
-    let s = sound g (record { plan = c.columns-columns.ensures.sound; input = c.sources-sources.ensures.sound; orderly = c.sources-sources.ensures.orderly; belongs = c.requires.belongs; laid_out = c.requires.laid_out; starts = c.requires.starts; stops = c.requires.stops }) in
+    let s = sound g (record { plan = c.columns-columns.ensures.sound; input = c.sources-sources.ensures.sound; orderly = c.sources-sources.ensures.orderly; belongs = c.requires.belongs; laid_out = c.requires.laid_out; starts = c.requires.starts; stops = c.requires.stops; saves = c.requires.saves }) in
     end_of g c.args.tasks.items s c.requires.tasks (Stopped c.sink_rows-in-At.result c.in_ok-savepoint-in-At.savepoint)
-    (stopped_is g c.args.tasks.items s c.requires.tasks c.sink_rows-in-At.result c.sink_rows-in-At.ensures c.in_ok-savepoint-in-At.savepoint _ _ c.as_slice.ensures.value c.in_ok-savepoint-in-At.ensures c.number.ensures c.in-At.is)
+    (stopped_is g c.args.tasks.items s c.requires.tasks c.sink_rows-in-At.result c.sink_rows-in-At.ensures c.in_ok-savepoint-in-At.savepoint _ _ c.as_slice.ensures.value c.in_ok-savepoint-in-At.ensures (number_of g.start.number c.args.given.saves.now _ _ c.number.ensures refl) c.in-At.is)

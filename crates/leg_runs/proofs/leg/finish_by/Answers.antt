@@ -9,8 +9,8 @@ pub returns-clause-ends : goal.returns-clause-ends
 returns-clause-ends c =
     let g = c.run.new.world.given in
     let given = c.in_ok-run.ensures.given ∙ c.in_ok-follow.ensures.given in
-    let ends = subst (λ o. IfSome o (IsEndOf g.plan g.input g.start g.stop)) c.in-Some.is c.in_ok-finish.ensures.ends in
-    subst (λ (x : GivenData). IsEndOf x.plan x.input x.start x.stop c.in-Some.finish) given ends
+    let ends = subst (λ o. IfSome o (IsEndOf g.plan g.input g.start g.saves g.stop)) c.in-Some.is c.in_ok-finish.ensures.ends in
+    subst (λ (x : GivenData). IsEndOf x.plan x.input x.start x.saves x.stop c.in-Some.finish) given ends
 
 pub returns-clause-whole : goal.returns-clause-whole
 returns-clause-whole c =

@@ -1,4 +1,4 @@
-use Rattle.std.proofs.Common.{[], sym, ap, subst}
+use Rattle.std.proofs.Common.{sym, ap, subst}
 use Rattle.stream_model.specs.InputData.{InputData}
 use Rattle.layout_rules.specs.Rules.{IsCompiled}
 use Rattle.layout_rules.proofs.Facts.{compiled_ever}
@@ -9,6 +9,7 @@ use Rattle.dataflow_laws.specs.Compiled.{layout_to}
 use Rattle.redistribute.specs.StartData.{StartData, offsets_of}
 use Rattle.redistribute.specs.Stopping.{CanStop}
 use Rattle.task_setups.specs.Laws.{IsWithin}
+use Rattle.task_setups.specs.Legs.{counts_of}
 use Rattle.leg_tasks.specs.Beginning.{BeginLeg}
 use Rattle.leg_tasks.proofs.Starting.{new_tasks_begin}
 use Rattle.leg_tasks.proofs.beginning.tasks.Goals as goal
@@ -27,5 +28,5 @@ returns-clause-begin c =
     let leg = c.args.leg.now in
     let made = c.requires.laid_out in
     let compiled : IsCompiled p made.scale l.stages = subst (IsCompiled p made.scale) (sym (ap (λ m. m.stages) made.is)) (compiled_ever p made.scale) in
-    subst (BeginLeg p i s l.stages (layout_to p i leg.number [] (until_of leg.stop) l.stages)) (sym c.in_ok-tasks_from.ensures)
-    (new_tasks_begin p made.scale i s leg.number (until_of leg.stop) l.stages c.columns-columns.ensures.sound made.fits compiled c.requires.belongs (stays_within i s leg.stop c.in_ok-check_stop.ensures))
+    subst (BeginLeg p i s l.stages (layout_to p i leg.number (counts_of leg.saves.now) (until_of leg.stop) l.stages)) (sym c.in_ok-tasks_from.ensures)
+    (new_tasks_begin p made.scale i s leg.number (counts_of leg.saves.now) (until_of leg.stop) l.stages c.columns-columns.ensures.sound made.fits compiled c.requires.belongs c.requires.saves.cuts (stays_within i s leg.stop c.in_ok-check_stop.ensures))

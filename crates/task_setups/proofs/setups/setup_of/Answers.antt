@@ -1,11 +1,14 @@
-use Rattle.std.proofs.Common.{◌≡◌, suc, ◌+◌, length, sym, ap, subst, ◌∙◌, arith}
+use Rattle.std.proofs.Common.{◌≡◌, suc, ◌+◌, length, map, sym, ap, subst, ◌∙◌, arith}
+use Rattle.std.specs.List.{range_with_len}
+use Rattle.std.proofs.lemmas.List.{length-map}
 use Rattle.std.specs.Prelude.{if◌then◌else◌}
 use Rattle.dataflow_model.specs.Role.{is_source}
 use Rattle.layout_rules.specs.Scale.{IsParallelism}
 use Rattle.layout_rules.specs.Layouts.{partition_counts}
 use Rattle.layout_rules.specs.Stages as rule
 use Rattle.layout_rules.specs.declared.stage.Edge.TheVariants.{ByGroup}
-use Rattle.task_setups.specs.Legs.{leg_over}
+use Rattle.legs.specs.declared.cut.Cut.{Cut}
+use Rattle.task_setups.specs.Legs.{counts_of, leg_over}
 use Rattle.task_setups.specs.Setups as told
 use Rattle.task_setups.proofs.Leading.{leads_on}
 use Rattle.task_setups.proofs.setups.setup_of.Goals as goal
@@ -31,8 +34,18 @@ returns c =
     let filters = c.in_ok-filters_of.ensures ∙ ap (told.filters_of p) c.as_slice.ensures ∙ ap (λ s. told.filters_of p s.operators) here in
     let having = c.in_ok-copy.ensures ∙ ap (λ w. w.having) window in
     let partitions = c.from_vec.ensures ∙ c.in_ok-from_slice.ensures.items ∙ mine in
-    let limits = c.from_vec-2.ensures ∙ c.new.ensures.items in
-    let ends = c.in_ok-limits_of.ensures ∙ ap (λ x. told.limits_at leg x c.partitions_of-partitions.result.now 0) source ∙ ap (λ qs. told.limits_at leg (rule.source_of (rule.task_stage stages t).operators) qs 0) mine in
+    let saves = c.args.leg.now.saves.now in
+    let count : length saves ≡ length (counts_of saves) = sym (length-map saves (λ (cut : Cut). cut.counts)) in
+    let read = rule.source_of (rule.task_stage stages t).operators in
+    let all = rule.partitions_of (partition_counts p) stages t in
+    let limits = c.in_ok-limits_on_way.ensures
+    ∙ ap (λ x. map (told.limits_at leg x c.partitions_of-partitions.result.now) (range_with_len 0 (length saves))) source
+    ∙ ap (λ qs. map (told.limits_at leg read qs) (range_with_len 0 (length saves))) mine
+    ∙ ap (λ n. map (told.limits_at leg read all) (range_with_len 0 n)) count in
+    let ends = c.in_ok-ends_of.ensures
+    ∙ ap (λ x. told.limits_at leg x c.partitions_of-partitions.result.now (length saves)) source
+    ∙ ap (λ qs. told.limits_at leg read qs (length saves)) mine
+    ∙ ap (told.limits_at leg read all) count in
     let first : c.args.leg.now.number + 1 ≡ suc c.args.leg.now.number = omega arith in
     λ i. record {
       number = c.args.task;
@@ -50,6 +63,6 @@ returns c =
       limits = limits i;
       ends = ends i;
       first = first i;
-      saves = 0;
+      saves = count i;
       ending = c.ending_of.ensures i;
     }

@@ -1,10 +1,9 @@
-use Rattle.std.proofs.Common.{◌≡◌, List, [], map, length, drop, sym, ap, subst, arith, ◌∙◌}
+use Rattle.std.proofs.Common.{◌≡◌, List, map, length, drop, refl, sym, ap, subst, arith, ◌∙◌}
 use Rattle.std.proofs.lemmas.List.{take_at, length-map}
-use Rattle.legs.specs.Stops.{until_of}
-use Rattle.dataflow_laws.specs.Compiled.{layout_to}
 use Rattle.leg_tasks.specs.Beginning.{BeginLeg}
 use Rattle.core_steps.specs.Given.{given_data, layout_in}
 use Rattle.core_steps.specs.World.{IsSound}
+use Rattle.core_steps.proofs.Legs.{begins}
 use Rattle.core_steps.specs.Beginning.{AreNewTasks}
 use Rattle.thread_runner.specs.declared.jobs.Job.{Job}
 use Rattle.thread_runner.specs.Legs.{Wired, AreWired}
@@ -22,9 +21,9 @@ wire-requires-clause-rings c = (c.layouts_have_edges-edges.ensures c.args.given.
 pub wire-requires-clause-count : goal.wire-requires-clause-count
 wire-requires-clause-count c =
     let g = given_data c.args.given c.args.leg.now.stop in
-    let s : IsSound g = c.each_leg_is_sound-sound.ensures g (record { plan = c.columns-columns.ensures.sound; input = c.sources-sources.ensures.sound; orderly = c.sources-sources.ensures.orderly; belongs = c.requires.belongs; laid_out = c.requires.laid_out; starts = c.requires.starts; stops = c.in_ok-tasks.ensures.stops }) in
+    let s : IsSound g = c.each_leg_is_sound-sound.ensures g (record { plan = c.columns-columns.ensures.sound; input = c.sources-sources.ensures.sound; orderly = c.sources-sources.ensures.orderly; belongs = c.requires.belongs; laid_out = c.requires.laid_out; starts = c.requires.starts; stops = c.in_ok-tasks.ensures.stops; saves = c.requires.saves }) in
     let tasks = c.in_ok-tasks.tasks.items in
-    let begin : BeginLeg g.plan g.input g.start g.layout.stages (layout_in g) tasks = subst (λ n. BeginLeg g.plan g.input g.start g.layout.stages (layout_to g.plan g.input n [] (until_of g.stop) g.layout.stages) tasks) c.requires.number c.in_ok-tasks.ensures.begin in
+    let begin : BeginLeg g.plan g.input g.start g.layout.stages (layout_in g) tasks = begins g c.args.leg.now.number c.args.leg.now.saves.now c.args.given.saves.now tasks c.requires.number c.requires.same refl c.in_ok-tasks.ensures.begin in
     let new : AreNewTasks g tasks = c.tasks_begin_new-new.ensures g tasks s c.requires.belongs begin in
     let many = new.count in
     let made = ap (λ (l : List TaskData). length l) c.in_ok-jobs.ensures.0 in
@@ -35,14 +34,14 @@ wire-requires-clause-count c =
 pub returns-clause-sound : goal.returns-clause-sound
 returns-clause-sound c =
     let g = given_data c.args.given c.args.leg.now.stop in
-    c.each_leg_is_sound-sound.ensures g (record { plan = c.columns-columns.ensures.sound; input = c.sources-sources.ensures.sound; orderly = c.sources-sources.ensures.orderly; belongs = c.requires.belongs; laid_out = c.requires.laid_out; starts = c.requires.starts; stops = c.in_ok-tasks.ensures.stops })
+    c.each_leg_is_sound-sound.ensures g (record { plan = c.columns-columns.ensures.sound; input = c.sources-sources.ensures.sound; orderly = c.sources-sources.ensures.orderly; belongs = c.requires.belongs; laid_out = c.requires.laid_out; starts = c.requires.starts; stops = c.in_ok-tasks.ensures.stops; saves = c.requires.saves })
 
 pub returns-clause-wired : goal.returns-clause-wired
 returns-clause-wired c =
     let g = given_data c.args.given c.args.leg.now.stop in
-    let s : IsSound g = c.each_leg_is_sound-sound.ensures g (record { plan = c.columns-columns.ensures.sound; input = c.sources-sources.ensures.sound; orderly = c.sources-sources.ensures.orderly; belongs = c.requires.belongs; laid_out = c.requires.laid_out; starts = c.requires.starts; stops = c.in_ok-tasks.ensures.stops }) in
+    let s : IsSound g = c.each_leg_is_sound-sound.ensures g (record { plan = c.columns-columns.ensures.sound; input = c.sources-sources.ensures.sound; orderly = c.sources-sources.ensures.orderly; belongs = c.requires.belongs; laid_out = c.requires.laid_out; starts = c.requires.starts; stops = c.in_ok-tasks.ensures.stops; saves = c.requires.saves }) in
     let tasks = c.in_ok-tasks.tasks.items in
-    let begin : BeginLeg g.plan g.input g.start g.layout.stages (layout_in g) tasks = subst (λ n. BeginLeg g.plan g.input g.start g.layout.stages (layout_to g.plan g.input n [] (until_of g.stop) g.layout.stages) tasks) c.requires.number c.in_ok-tasks.ensures.begin in
+    let begin : BeginLeg g.plan g.input g.start g.layout.stages (layout_in g) tasks = begins g c.args.leg.now.number c.args.leg.now.saves.now c.args.given.saves.now tasks c.requires.number c.requires.same refl c.in_ok-tasks.ensures.begin in
     let new : AreNewTasks g tasks = c.tasks_begin_new-new.ensures g tasks s c.requires.belongs begin in
     let made : AreNewTasks g (map job_task c.in_ok-jobs.jobs.items) = subst (AreNewTasks g) (sym c.in_ok-jobs.ensures.0) new in
     let len : length c.wire.new.jobs ≡ c.in_ok-jobs.jobs.len = c.wire.auto.jobs ∙ c.as_mut_slice.ensures.len in

@@ -1,4 +1,4 @@
-use Rattle.dataflow_laws.specs.declared.step.Step.TheVariants.{Open, Read, Stop, Close, Take, Put}
+use Rattle.dataflow_laws.specs.declared.step.Step.TheVariants.{Open, Read, Save, Stop, Close, Take, Put}
 use Rattle.core_steps.specs.World.{world_view}
 use Rattle.core_steps.proofs.Ready.{enabled_by, take_enabled, put_enabled}
 use Rattle.core_steps.proofs.world.World.enabled.Goals as goal
@@ -8,6 +8,9 @@ returns-in-Open c = enabled_by (world_view c.self.inside) c.args.self.now c.args
 
 pub returns-in-Read : goal.returns-in-Read
 returns-in-Read c = enabled_by (world_view c.self.inside) c.args.self.now c.args.step (Read c.in-Read.task c.in-Read.partition) c.can_read.result c.if-self.false c.self.view_is c.in-Read.is c.can_read.ensures
+
+pub returns-in-Save : goal.returns-in-Save
+returns-in-Save c = enabled_by (world_view c.self.inside) c.args.self.now c.args.step (Save c.in-Save.task) c.can_save.result c.if-self.false c.self.view_is c.in-Save.is c.can_save.ensures
 
 pub returns-in-Stop : goal.returns-in-Stop
 returns-in-Stop c = enabled_by (world_view c.self.inside) c.args.self.now c.args.step (Stop c.in-Stop.task) c.can_stop.result c.if-self.false c.self.view_is c.in-Stop.is c.can_stop.ensures

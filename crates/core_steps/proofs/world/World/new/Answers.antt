@@ -1,4 +1,4 @@
-use Rattle.std.proofs.Common.{[], subst}
+use Rattle.std.proofs.Common.{subst}
 use Rattle.legs.specs.Stops.{until_of}
 use Rattle.dataflow_laws.specs.Compiled.{layout_to}
 use Rattle.leg_tasks.specs.Beginning.{BeginLeg}
@@ -12,14 +12,14 @@ pub invariant_of-world : goal.invariant_of-world
 invariant_of-world c =
     let g = given_data c.args.given c.args.stop in
     let tasks = c.in_ok-tasks.tasks.items in
-    let begin : BeginLeg g.plan g.input g.start g.layout.stages (layout_in g) tasks = subst (λ n. BeginLeg g.plan g.input g.start g.layout.stages (layout_to g.plan g.input n [] (until_of g.stop) g.layout.stages) tasks) c.number.ensures c.in_ok-tasks.ensures.begin in
-    let s = sound g (record { plan = c.columns-columns.ensures.sound; input = c.sources-sources.ensures.sound; orderly = c.sources-sources.ensures.orderly; belongs = c.requires.belongs; laid_out = c.requires.laid_out; starts = c.requires.starts; stops = c.in_ok-tasks.ensures.stops }) in
+    let begin : BeginLeg g.plan g.input g.start g.layout.stages (layout_in g) tasks = subst (λ n. BeginLeg g.plan g.input g.start g.layout.stages (layout_to g.plan g.input n g.saves (until_of g.stop) g.layout.stages) tasks) c.number.ensures c.in_ok-tasks.ensures.begin in
+    let s = sound g (record { plan = c.columns-columns.ensures.sound; input = c.sources-sources.ensures.sound; orderly = c.sources-sources.ensures.orderly; belongs = c.requires.belongs; laid_out = c.requires.laid_out; starts = c.requires.starts; stops = c.in_ok-tasks.ensures.stops; saves = c.requires.saves }) in
     is_world g tasks c.in_ok-rings.rings s (are_new_tasks g tasks s c.requires.belongs begin) c.in_ok-rings.ensures
 
 pub returns-clause-opens : goal.returns-clause-opens
 returns-clause-opens c =
     let g = given_data c.args.given c.args.stop in
     let tasks = c.in_ok-tasks.tasks.items in
-    let begin : BeginLeg g.plan g.input g.start g.layout.stages (layout_in g) tasks = subst (λ n. BeginLeg g.plan g.input g.start g.layout.stages (layout_to g.plan g.input n [] (until_of g.stop) g.layout.stages) tasks) c.number.ensures c.in_ok-tasks.ensures.begin in
-    let s = sound g (record { plan = c.columns-columns.ensures.sound; input = c.sources-sources.ensures.sound; orderly = c.sources-sources.ensures.orderly; belongs = c.requires.belongs; laid_out = c.requires.laid_out; starts = c.requires.starts; stops = c.in_ok-tasks.ensures.stops }) in
+    let begin : BeginLeg g.plan g.input g.start g.layout.stages (layout_in g) tasks = subst (λ n. BeginLeg g.plan g.input g.start g.layout.stages (layout_to g.plan g.input n g.saves (until_of g.stop) g.layout.stages) tasks) c.number.ensures c.in_ok-tasks.ensures.begin in
+    let s = sound g (record { plan = c.columns-columns.ensures.sound; input = c.sources-sources.ensures.sound; orderly = c.sources-sources.ensures.orderly; belongs = c.requires.belongs; laid_out = c.requires.laid_out; starts = c.requires.starts; stops = c.in_ok-tasks.ensures.stops; saves = c.requires.saves }) in
     is_new g tasks c.in_ok-rings.rings (are_new_tasks g tasks s c.requires.belongs begin) c.in_ok-rings.ensures
