@@ -1,4 +1,4 @@
--- Tasks at the end of a complete history have delivered the rows that became due, and leave the savepoint of their cut.
+-- A leg that has ended has delivered the rows that became due, and leaves the savepoint of its cut.
 use Rattle.std.proofs.Common.{◌≡◌, ◌⊎◌, inl, inr, ℕ, Bool, true, false, List, [], map, refl, sym, ap, subst, ◌∙◌}
 use Rattle.std.proofs.lemmas.Bool.{cases_eq, eq-eqb, ne_eqb}
 use Rattle.std.specs.FinMap.{get, get-empty, from_entries}
@@ -20,9 +20,6 @@ use Rattle.dataflow_laws.specs.Inputs.{due_between, HaveCut}
 use Rattle.dataflow_laws.specs.Compiled.{cut_to, layout_to}
 use Rattle.dataflow_laws.specs.World.{with_task}
 use Rattle.dataflow_laws.proofs.Facts.{worlds_are_histories, compiled_leg_delivers, compiled_leg_delivers_all, compiled_leg_so_far}
-use Rattle.layout_rules.specs.Rules.{IsCompiled}
-use Rattle.layout_rules.proofs.Facts.{compiled_ever}
-use Rattle.plan_compiler.specs.LayoutData.{LayoutData}
 use Rattle.legs.specs.declared.stop.Stop.{Stop}
 use Rattle.legs.specs.declared.stop.Stop.TheVariants.{Never}
 use Rattle.legs.specs.Stops.{until_of}
@@ -33,15 +30,15 @@ use Rattle.redistribute.specs.Begins.{IsFromNothing, HasSnapshot}
 use Rattle.window_state.specs.Parts.{entries_of}
 use Rattle.redistribute.specs.Parts.{part_of}
 use Rattle.redistribute.proofs.Facts.{tasks_have_snapshot}
-use Rattle.task_steps.specs.TaskData.{TaskData}
 use Rattle.leg_tasks.specs.Saved.{IsSavedAt}
 use Rattle.leg_tasks.proofs.Facts.{tasks_save_the_cut}
 use Rattle.core_steps.specs.declared.finish.Finish.{Finish}
 use Rattle.core_steps.specs.Given.{GivenData, layout_in, start_in}
-use Rattle.core_steps.specs.World.{WorldData, world_in, state_at, IsSound, IsEnd, IsWorld}
-use Rattle.core_steps.specs.Finishing.{AreAtEnd, HasFinished, finish_of, finish_with, number_after, rows_in, rows_of, savepoint_in, savepoint_of}
+use Rattle.core_steps.specs.World.{WorldData, world_in, IsGiven, IsSound, IsEnd, IsWorld}
+use Rattle.core_steps.specs.Finishing.{HasEnded, finish_of, finish_with, number_after, rows_in, rows_of, savepoint_of}
 use Rattle.core_steps.specs.Ending.{IsEndOf, IsWholeRun}
-use Rattle.core_steps.proofs.Ending.{at_end, compiled, end_is_cut, never_asked}
+use Rattle.core_steps.proofs.Ending.{end_is_cut, never_asked}
+use Rattle.core_steps.proofs.Sound.{compiled, sound}
 
 none_there : {X : Type 0} (b : Bool) (x y : Option X) → x ≡ None → y ≡ (if b then x else None) → y ≡ None
 none_there true x y none e = e ∙ none
@@ -54,48 +51,47 @@ none_at_first p i s nothing q =
     ∙ get-empty pane_cmp q
     ∙ sym (ap (λ cut. snapshot p i.sources cut q) nothing.offsets ∙ nothing_at_first p i.sources q)
 
-module _ (g : GivenData) (tasks : List TaskData) (sound : IsSound g) (at : AreAtEnd g tasks) where
+module _ (g : GivenData) (states : ℕ → State) (ended : HasEnded g states) where
+  abbrev given : IsGiven g
+  given = ended.given
+
   abbrev cut : List (List ℕ)
   cut = cut_to g.input (until_of g.stop)
 
   snapshot_at : HasSnapshot g.plan g.input g.start → HaveCut g.plan g.input (layout_in g) (start_in g) (offsets_of g.start)
-  snapshot_at has = let given = sound.given in (tasks_have_snapshot g.plan g.layout g.input g.start g.saves g.stop given.plan given.laid_out given.belongs given.starts has).0
+  snapshot_at has = (tasks_have_snapshot g.plan g.layout g.input g.start g.saves g.stop given.plan given.laid_out given.belongs given.starts has).0
 
   -- what a leg delivers and leaves whose start has the snapshot of its cut
   leg : HasSnapshot g.plan g.input g.start
-      → AreRowsOf (due_between g.plan g.input.sources (offsets_of g.start) cut) (at.history.end (layout_in g).sink).rows × HaveCut g.plan g.input (layout_in g) at.history.end cut × HaveMarks (input_of g.plan g.input) (layout_in g) at.history.end (counts_at g.plan cut)
+      → AreRowsOf (due_between g.plan g.input.sources (offsets_of g.start) cut) (rows_of g states) × HaveCut g.plan g.input (layout_in g) states cut × HaveMarks (input_of g.plan g.input) (layout_in g) states (counts_at g.plan cut)
   leg has =
-      let given = sound.given in
-      compiled_leg_delivers g.plan given.laid_out.scale g.input g.start.number (offsets_of g.start) g.saves (until_of g.stop) g.layout.stages (start_in g) given.plan given.laid_out.fits (compiled g tasks sound at) given.input given.orderly given.belongs
-      given.starts.cut (end_is_cut g.input (offsets_of g.start) g.stop given.stops) (never_asked g.stop) sound.start (snapshot_at has) at.history at.complete
+      subst (λ (f : ℕ → State). AreRowsOf (due_between g.plan g.input.sources (offsets_of g.start) cut) (f (layout_in g).sink).rows × HaveCut g.plan g.input (layout_in g) f cut × HaveMarks (input_of g.plan g.input) (layout_in g) f (counts_at g.plan cut)) ended.ends
+      (compiled_leg_delivers g.plan given.laid_out.scale g.input g.start.number (offsets_of g.start) g.saves (until_of g.stop) g.layout.stages (start_in g) given.plan given.laid_out.fits (compiled g given) given.input given.orderly given.belongs
+      given.starts.cut (end_is_cut g.input (offsets_of g.start) g.stop given.stops) (never_asked g.stop) (sound g given).start (snapshot_at has) ended.history ended.complete)
 
-  pub delivers : HasSnapshot g.plan g.input g.start → AreRowsOf (due_between g.plan g.input.sources (offsets_of g.start) cut) (rows_of g (state_at g tasks))
-  delivers has = subst (λ (f : ℕ → State). AreRowsOf (due_between g.plan g.input.sources (offsets_of g.start) cut) (f (layout_in g).sink).rows) at.ends (leg has).0
+  pub delivers : HasSnapshot g.plan g.input g.start → AreRowsOf (due_between g.plan g.input.sources (offsets_of g.start) cut) (rows_of g states)
+  delivers has = (leg has).0
 
-  pub saves : HasSnapshot g.plan g.input g.start → IsSavedAt g.plan g.input cut (number_after g.start.number g.saves) (savepoint_of g (state_at g tasks))
+  pub saves : HasSnapshot g.plan g.input g.start → IsSavedAt g.plan g.input cut (number_after g.start.number g.saves) (savepoint_of g states)
   saves has =
-      let given = sound.given in
       let all = leg has in
-      let here = subst (λ (f : ℕ → State). HaveCut g.plan g.input (layout_in g) f cut) at.ends all.1 in
-      let marks = subst (λ (f : ℕ → State). HaveMarks (input_of g.plan g.input) (layout_in g) f (counts_at g.plan cut)) at.ends all.2 in
-      tasks_save_the_cut g.plan g.layout g.input g.start.number g.saves (until_of g.stop) cut (state_at g tasks) (number_after g.start.number g.saves) given.plan given.laid_out given.belongs (end_is_cut g.input (offsets_of g.start) g.stop given.stops) here marks
+      tasks_save_the_cut g.plan g.layout g.input g.start.number g.saves (until_of g.stop) cut states (number_after g.start.number g.saves) given.plan given.laid_out given.belongs (end_is_cut g.input (offsets_of g.start) g.stop given.stops) all.1 all.2
 
   -- how such a leg has ended
-  pub end_of : (finish : Finish) → finish ≡ finish_of g (state_at g tasks) → IsEndOf g.plan g.input g.start g.saves g.stop finish
+  pub end_of : (finish : Finish) → finish ≡ finish_of g states → IsEndOf g.plan g.input g.start g.saves g.stop finish
   end_of finish is = record {
-    rows = rows_of g (state_at g tasks);
-    savepoint = savepoint_of g (state_at g tasks);
+    rows = rows_of g states;
+    savepoint = savepoint_of g states;
     is = is;
     delivered = delivers;
-    saved = λ end stops has. subst (λ (x : Stop). IsSavedAt g.plan g.input (cut_to g.input (until_of x)) (number_after g.start.number g.saves) (savepoint_of g (state_at g tasks))) stops (saves has);
+    saved = λ end stops has. subst (λ (x : Stop). IsSavedAt g.plan g.input (cut_to g.input (until_of x)) (number_after g.start.number g.saves) (savepoint_of g states)) stops (saves has);
   }
 
   all_rows : (n : ℕ) → n ≡ 0 → (start : ℕ → State) → let a = layout_to g.plan g.input n g.saves ToEnd g.layout.stages in IsLegStart g.plan a start → HaveNothing (input_of g.plan g.input) a start → (h : History g.plan a start) → IsComplete h
       → AreRowsOf (plan_rows g.plan g.input.sources) (h.end a.sink).rows
   all_rows n e =
-      let given = sound.given in
       subst (λ m. (start : ℕ → State) → let a = layout_to g.plan g.input m g.saves ToEnd g.layout.stages in IsLegStart g.plan a start → HaveNothing (input_of g.plan g.input) a start → (h : History g.plan a start) → IsComplete h → AreRowsOf (plan_rows g.plan g.input.sources) (h.end a.sink).rows) (sym e)
-      (λ start opens none h done. compiled_leg_delivers_all g.plan given.laid_out.scale g.input g.saves g.layout.stages start given.plan given.laid_out.fits (compiled g tasks sound at) given.input given.orderly given.belongs opens none h done)
+      (λ start opens none h done. compiled_leg_delivers_all g.plan given.laid_out.scale g.input g.saves g.layout.stages start given.plan given.laid_out.fits (compiled g given) given.input given.orderly given.belongs opens none h done)
 
   -- no window has anything where a leg starts from nothing
   nothing_here : IsFromNothing g.input g.start → HaveNothing (input_of g.plan g.input) (layout_in g) (start_in g)
@@ -108,16 +104,16 @@ module _ (g : GivenData) (tasks : List TaskData) (sound : IsSound g) (at : AreAt
       }
 
 -- one that starts from nothing and runs to the end has delivered all rows of the plan
-to_end : (g : GivenData) (tasks : List TaskData) → let n = record g { stop = Never } in IsSound n → AreAtEnd n tasks → IsFromNothing g.input g.start → AreRowsOf (plan_rows g.plan g.input.sources) (rows_of n (state_at n tasks))
-to_end g tasks sound at nothing =
+to_end : (g : GivenData) (states : ℕ → State) → let n = record g { stop = Never } in HasEnded n states → IsFromNothing g.input g.start → AreRowsOf (plan_rows g.plan g.input.sources) (rows_of n states)
+to_end g states ended nothing =
     let n = record g { stop = Never } in
-    subst (λ (f : ℕ → State). AreRowsOf (plan_rows g.plan g.input.sources) (f (layout_in n).sink).rows) at.ends
-    (all_rows n tasks sound at g.start.number nothing.number (start_in n) sound.start (nothing_here n tasks sound at nothing) at.history at.complete)
+    subst (λ (f : ℕ → State). AreRowsOf (plan_rows g.plan g.input.sources) (f (layout_in n).sink).rows) ended.ends
+    (all_rows n states ended g.start.number nothing.number (start_in n) (sound n ended.given).start (nothing_here n states ended nothing) ended.history ended.complete)
 
-pub whole_run : (g : GivenData) (tasks : List TaskData) → IsSound g → AreAtEnd g tasks → (finish : Finish) → finish ≡ finish_of g (state_at g tasks) → IsFromNothing g.input g.start → g.stop ≡ Never → IsWholeRun g.plan g.input finish
-whole_run g tasks sound at finish is nothing never =
-    let rows = subst (λ (x : Stop). let n = record g { stop = x } in IsSound n → AreAtEnd n tasks → AreRowsOf (plan_rows g.plan g.input.sources) (rows_of n (state_at n tasks))) (sym never) (λ s a. to_end g tasks s a nothing) sound at in
-    subst (IsWholeRun g.plan g.input) (sym (is ∙ ap (λ (x : Stop). finish_with x (rows_of g (state_at g tasks)) (savepoint_of g (state_at g tasks))) never)) rows
+pub whole_run : (g : GivenData) (states : ℕ → State) → HasEnded g states → (finish : Finish) → finish ≡ finish_of g states → IsFromNothing g.input g.start → g.stop ≡ Never → IsWholeRun g.plan g.input finish
+whole_run g states ended finish is nothing never =
+    let rows = subst (λ (x : Stop). let n = record g { stop = x } in HasEnded n states → AreRowsOf (plan_rows g.plan g.input.sources) (rows_of n states)) (sym never) (λ e. to_end g states e nothing) ended in
+    subst (IsWholeRun g.plan g.input) (sym (is ∙ ap (λ (x : Stop). finish_with x (rows_of g states) (savepoint_of g states)) never)) rows
 
 -- ---- of worlds
 
@@ -146,17 +142,10 @@ world_so_far w world has q =
     let g = w.given in
     let given = world.sound.given in
     let led = led_by w.has_failed w world.sound world.reached in
-    let compiled : IsCompiled g.plan given.laid_out.scale g.layout.stages = subst (IsCompiled g.plan given.laid_out.scale) (sym (ap (λ (x : LayoutData). x.stages) given.laid_out.is)) (compiled_ever g.plan given.laid_out.scale) in
     let begins = (tasks_have_snapshot g.plan g.layout g.input g.start g.saves g.stop given.plan given.laid_out given.belongs given.starts has).0 in
     let same = ap (filter (row_is_at q)) (sym led.1) in
-    elim (compiled_leg_so_far g.plan given.laid_out.scale g.input g.start.number (offsets_of g.start) g.saves (until_of g.stop) g.layout.stages (start_in g) given.plan given.laid_out.fits compiled given.input given.orderly given.belongs
+    elim (compiled_leg_so_far g.plan given.laid_out.scale g.input g.start.number (offsets_of g.start) g.saves (until_of g.stop) g.layout.stages (start_in g) given.plan given.laid_out.fits (compiled g given) given.input given.orderly given.belongs
     given.starts.cut (end_is_cut g.input (offsets_of g.start) g.stop given.stops) world.sound.start begins led.0 q) [
       | inl e ↦ inl (same ∙ e)
       | inr e ↦ inr (same ∙ e)
     ]
-
-pub world_delivers : (w : WorldData) → IsWorld w → HasFinished w → HasSnapshot w.given.plan w.given.input w.given.start → AreRowsOf (due_between w.given.plan w.given.input.sources (offsets_of w.given.start) (cut_to w.given.input (until_of w.given.stop))) (rows_in w)
-world_delivers w world done has = delivers w.given w.tasks world.sound (at_end w world done) has
-
-pub world_saves : (w : WorldData) → IsWorld w → HasFinished w → HasSnapshot w.given.plan w.given.input w.given.start → IsSavedAt w.given.plan w.given.input (cut_to w.given.input (until_of w.given.stop)) (number_after w.given.start.number w.given.saves) (savepoint_in w)
-world_saves w world done has = saves w.given w.tasks world.sound (at_end w world done) has

@@ -1,52 +1,48 @@
 -- When all tasks of a leg are done, they leave what can be saved.
-use Rattle.std.proofs.Common.{◌≡◌, ℕ, suc, ◌+◌, ◌<◌, ◌≤◌, ℤ, Bool, true, false, List, [], ◌∷◌, length, Option, Some, None, sym, ap, subst, ◌∙◌, inl, inr, arith}
+use Rattle.std.proofs.Common.{◌≡◌, ℕ, suc, ◌+◌, ◌<◌, ◌≤◌, ℤ, List, [], ◌∷◌, length, Some, sym, ap, subst, ◌∙◌, inl, inr, arith}
 use Rattle.std.specs.Prelude.{slice_index_or}
 use Rattle.std.specs.FinMap.{get}
 use Rattle.std.proofs.lemmas.Bool.{cases_lt, eq-eqb}
 use Rattle.key_groups.specs.Groups.{key_group}
 use Rattle.key_groups.specs.Laws.{Has}
-use Rattle.plan_model.specs.declared.spec.Pane.{Pane}
 use Rattle.plan_model.specs.declared.spec.Row.{Row}
 use Rattle.plan_model.specs.declared.limits.TheConstants.{MOST_RECORDS}
-use Rattle.plan_model.specs.Aggregates.{Aggregated}
-use Rattle.plan_model.specs.PlanData.{PlanData, IsPlan}
 use Rattle.stream_model.specs.InputData.{InputData}
 use Rattle.stream_model.specs.Watermarks.{IsCut}
 use Rattle.dataflow_model.specs.declared.role.Role.TheVariants as role
-use Rattle.dataflow_model.specs.AbstractLayout.{AbstractLayout, IsLayout}
+use Rattle.dataflow_model.specs.AbstractLayout.{AbstractLayout}
 use Rattle.dataflow_model.specs.Leg.{leg_of}
 use Rattle.dataflow_model.specs.Leg.Until.{TillAsked}
 use Rattle.dataflow_model.specs.State.{State}
 use Rattle.dataflow_model.specs.Steps.{IsDone}
-use Rattle.layout_rules.specs.Layouts.{partition_counts, abstract_layout}
-use Rattle.layout_rules.specs.Rules.{IsCompiled, stages_of, window_of}
-use Rattle.layout_rules.specs.Scale.{ScaleData, IsScale}
+use Rattle.layout_rules.specs.Layouts.{partition_counts}
+use Rattle.layout_rules.specs.Rules.{stages_of}
 use Rattle.layout_rules.specs.Stages.{task_role, task_count, partitions_of, groups_of}
 use Rattle.layout_rules.specs.declared.stage.Stage.{Stage}
-use Rattle.layout_rules.proofs.Facts.{compiled_ever, compiled_is_layout}
+use Rattle.layout_rules.proofs.Facts.{compiled_ever}
 use Rattle.plan_compiler.specs.LayoutData.{LayoutData, layout_of}
 use Rattle.input_flow.specs.InputEntries.{entries_of}
 use Rattle.input_flow.proofs.Facts.{full_is_cut}
 use Rattle.dataflow_laws.specs.Compiled.{cut_to, layout_to}
 use Rattle.dataflow_laws.specs.Owned.{HaveOwnPanes}
-use Rattle.dataflow_laws.specs.World as flow
-use Rattle.dataflow_laws.proofs.Facts.{worlds_are_histories, few_before, compiled_leg_keeps_panes}
+use Rattle.dataflow_laws.proofs.Facts.{few_before, compiled_leg_keeps_panes}
 use Rattle.legs.specs.declared.stop.Stop.{Stop}
 use Rattle.legs.specs.declared.stop.Stop.TheVariants.{Never, At}
 use Rattle.legs.specs.Stops.{until_of}
-use Rattle.redistribute.specs.StartData.{StartData, offsets_of}
+use Rattle.redistribute.specs.StartData.{offsets_of}
 use Rattle.redistribute.specs.Stopping.{CanStop}
-use Rattle.redistribute.proofs.Facts.{early, places, has, owns, tasks_have_own_panes}
+use Rattle.redistribute.proofs.Facts.{places, has, owns, tasks_have_own_panes}
 use Rattle.task_steps.specs.TaskData.{TaskData}
 use Rattle.savepoint_codec.specs.declared.savepoint.Contents.{Contents}
 use Rattle.legs.specs.declared.cut.Cut.{Cut}
-use Rattle.leg_tasks.specs.Leaving.{CanLeave, CanSave, HaveStates, savepoint_left}
+use Rattle.leg_tasks.specs.Leaving.{CanSave, HaveStates, savepoint_left}
 use Rattle.core_steps.specs.Given.{GivenData, layout_in, start_in}
-use Rattle.core_steps.specs.World.{WorldData, world_in, state_at, IsSound, IsWorld}
+use Rattle.core_steps.specs.World.{WorldData, world_in, state_at, IsGiven, IsSound, IsWorld}
 use Rattle.core_steps.specs.declared.finish.Finish.TheVariants.{Ended, Stopped}
-use Rattle.core_steps.specs.Finishing.{AreAtEnd, HasFinished, finish_of, finish_with, number_after, rows_of, savepoint_of}
+use Rattle.core_steps.specs.Finishing.{AreAtEnd, HasEnded, HasFinished, finish_of, finish_with, number_after, rows_of, savepoint_of}
 use Rattle.core_steps.proofs.States.{state_here}
-use Rattle.core_steps.proofs.Worlds.{reached_now}
+use Rattle.core_steps.proofs.Sound.{compiled, sound}
+use Rattle.core_steps.proofs.Worlds.{history_of}
 
 -- where a leg that can stop so comes to is a cut of the input
 pub end_is_cut : (i : InputData) (cut : List (List ℕ)) (stop : Stop) → CanStop i.sources cut stop → IsCut i.sources (cut_to i (until_of stop))
@@ -57,28 +53,33 @@ pub never_asked : (stop : Stop) → until_of stop ≡ TillAsked → ⊥
 never_asked Never e = cc
 never_asked (At cut) e = cc
 
--- ---- tasks at the end of a complete history
+-- ---- a leg that has ended
 
-module _ (g : GivenData) (tasks : List TaskData) (sound : IsSound g) (at : AreAtEnd g tasks) where
+-- each of the window's tasks has its own panes, of few records
+own_panes : (g : GivenData) (states : ℕ → State) → HasEnded g states → HaveOwnPanes (layout_in g) states MOST_RECORDS
+own_panes g states ended u lo hi q a here =
+    let given = ended.given in
+    let opens = tasks_have_own_panes g.plan g.layout g.input g.start g.saves g.stop given.plan given.laid_out given.belongs given.starts in
+    let kept = compiled_leg_keeps_panes g.plan given.laid_out.scale g.input g.start.number (offsets_of g.start) g.saves (until_of g.stop) g.layout.stages (start_in g) given.plan given.laid_out.fits (compiled g given) given.input given.orderly given.belongs
+    given.starts.cut (end_is_cut g.input (offsets_of g.start) g.stop given.stops) (never_asked g.stop) (sound g given).start opens.0 opens.1 ended.history ended.complete in
+    let one = kept.2 u lo hi q a (subst (λ (f : ℕ → State). get (f u).windows q ≡ Some a) (sym ended.ends) here) in
+    let few = few_before g.input (cut_to g.input (until_of g.stop)) given.input in
+    (one.0, omega (arith, one.1, few))
+
+-- ---- its tasks
+
+module _ (g : GivenData) (tasks : List TaskData) (at : AreAtEnd g tasks) where
   abbrev l : AbstractLayout
   l = layout_in g
 
   abbrev stages : List Stage
   stages = g.layout.stages
 
-  pub compiled : IsCompiled g.plan sound.given.laid_out.scale stages
-  compiled = subst (IsCompiled g.plan sound.given.laid_out.scale) (sym (ap (λ (x : LayoutData). x.stages) sound.given.laid_out.is)) (compiled_ever g.plan sound.given.laid_out.scale)
+  abbrev given : IsGiven g
+  given = at.ended.given
 
-  -- each of the window's tasks has its own panes, of few records
-  own_panes : HaveOwnPanes l (state_at g tasks) MOST_RECORDS
-  own_panes u lo hi q a here =
-      let given = sound.given in
-      let opens = tasks_have_own_panes g.plan g.layout g.input g.start g.saves g.stop given.plan given.laid_out given.belongs given.starts in
-      let kept = compiled_leg_keeps_panes g.plan given.laid_out.scale g.input g.start.number (offsets_of g.start) g.saves (until_of g.stop) stages (start_in g) given.plan given.laid_out.fits compiled given.input given.orderly given.belongs
-      given.starts.cut (end_is_cut g.input (offsets_of g.start) g.stop given.stops) (never_asked g.stop) sound.start opens.0 opens.1 at.history at.complete in
-      let one = kept.2 u lo hi q a (subst (λ (f : ℕ → State). get (f u).windows q ≡ Some a) (sym at.ends) here) in
-      let few = few_before g.input (cut_to g.input (until_of g.stop)) given.input in
-      (one.0, omega (arith, one.1, few))
+  is_sound : IsSound g
+  is_sound = sound g at.ended.given
 
   -- a window's task stands between the tasks before the windows and the sink
   is_window : (t : ℕ) → t < task_count stages → task_role stages t ≡ role.Window → (l.before ≤ t) × (t < l.sink)
@@ -86,31 +87,29 @@ module _ (g : GivenData) (tasks : List TaskData) (sound : IsSound g) (at : AreAt
       elim (cases_lt t l.before) [
         | inl b ↦ absurd (
             let source : task_role stages t ≡ role.Source → ⊥ = λ y. let z : role.Source ≡ role.Window = sym y ∙ h in cc in
-            let z : role.Chain ≡ role.Window = sym (sound.layout.roles_before t b source) ∙ h in
+            let z : role.Chain ≡ role.Window = sym (is_sound.layout.roles_before t b source) ∙ h in
             cc)
         | inr b ↦ elim (cases_lt t l.sink) [
           | inl s ↦ (b, s)
           | inr s ↦ absurd (
-              let last : t ≡ l.sink = (let c = sound.count in omega (arith, k, s, c)) in
-              let z : role.Sink ≡ role.Window = sym sound.layout.role_sink ∙ ap (task_role stages) (sym last) ∙ h in
+              let last : t ≡ l.sink = (let c = is_sound.count in omega (arith, k, s, c)) in
+              let z : role.Sink ≡ role.Window = sym is_sound.layout.role_sink ∙ ap (task_role stages) (sym last) ∙ h in
               cc)
         ]
       ]
 
   -- what holds of the compiled layout holds of the world's
-  by_scale : (R : LayoutData → Type 0) → R (layout_of g.plan sound.given.laid_out.scale) → R g.layout
-  by_scale R r = subst R (sym sound.given.laid_out.is) r
+  by_scale : (R : LayoutData → Type 0) → R (layout_of g.plan given.laid_out.scale) → R g.layout
+  by_scale R r = subst R (sym given.laid_out.is) r
 
   partitions_read : (t : ℕ) → task_role stages t ≡ role.Source → length (partitions_of (partition_counts g.plan) stages t) ≡ (l.task t).inputs
   partitions_read =
-      let given = sound.given in
       let c = given.laid_out.scale in
       by_scale (λ m. (t : ℕ) → task_role m.stages t ≡ role.Source → length (partitions_of (partition_counts g.plan) m.stages t) ≡ ((layout_to g.plan g.input g.start.number g.saves (until_of g.stop) m.stages).task t).inputs)
       (λ t h. places g.plan c (entries_of g.input) (leg_of g.start.number g.saves (until_of g.stop) (entries_of g.input).size) given.plan given.laid_out.fits (compiled_ever g.plan c) t h)
 
   groups_are : (u : ℕ) (key : ℤ) → l.before ≤ u → u < l.sink → l.owner key ≡ u → Has (groups_of g.plan.max stages u) (key_group g.plan.max key)
   groups_are =
-      let given = sound.given in
       let c = given.laid_out.scale in
       by_scale (λ m. let a = layout_to g.plan g.input g.start.number g.saves (until_of g.stop) m.stages in (u : ℕ) (key : ℤ) → a.before ≤ u → u < a.sink → a.owner key ≡ u → Has (groups_of g.plan.max m.stages u) (key_group g.plan.max key))
       (λ u key lo hi own. has (groups_of g.plan.max (stages_of g.plan c) u) (key_group g.plan.max key) (owns g.plan c u key given.plan given.laid_out.fits lo hi ∙ eq-eqb _ u own))
@@ -126,7 +125,7 @@ module _ (g : GivenData) (tasks : List TaskData) (sound : IsSound g) (at : AreAt
           window = placed.stands.window;
           panes = λ q a h e.
               let m = is_window t k h in
-              let one = own_panes t m.0 m.1 q a (subst (λ (s : State). get s.windows q ≡ Some a) (sym (state_here g tasks t d (let n = at.count in omega (arith, k, n)))) e) in
+              let one = own_panes g (state_at g tasks) at.ended t m.0 m.1 q a (subst (λ (s : State). get s.windows q ≡ Some a) (sym (state_here g tasks t d (let n = at.count in omega (arith, k, n)))) e) in
               (groups_are t q.key m.0 m.1 one.0, one.1);
         };
   }
@@ -136,17 +135,18 @@ module _ (g : GivenData) (tasks : List TaskData) (sound : IsSound g) (at : AreAt
 
 -- ---- a world whose tasks are all done
 
-pub at_end : (w : WorldData) → IsWorld w → HasFinished w → AreAtEnd w.given w.tasks
-at_end w world done =
-    let g = w.given in
-    let end : flow.IsEnd g.plan (layout_in g) (start_in g) (world_in w) = worlds_are_histories g.plan (layout_in g) g.layout.capacity (start_in g) (world_in w) world.sound.layout (reached_now w world done.going) in
+pub world_has_ended : (w : WorldData) → IsWorld w → HasFinished w → HasEnded w.given (world_in w).tasks
+world_has_ended w world done =
+    let end = history_of w world done.going in
     record {
-      count = world.built.count;
-      placed = world.built.placed;
+      given = world.sound.given;
       history = end.0;
       ends = end.1.tasks;
       complete = λ t m. subst (λ (f : ℕ → State). IsDone (f t)) (sym end.1.tasks) (done.finished t m);
     }
+
+pub at_end : (w : WorldData) → IsWorld w → HasFinished w → AreAtEnd w.given w.tasks
+at_end w world done = record { count = world.built.count; placed = world.built.placed; ended = world_has_ended w world done }
 
 -- ---- what the calls are made of
 
@@ -155,20 +155,20 @@ pub numbered : (n : ℕ) (cuts : List (List (List ℕ))) → n + length cuts + 1
 numbered n [] = omega arith
 numbered n (cut ∷ cuts) = let rest = numbered (n + 1) cuts in omega (arith, rest)
 
-module _ (g : GivenData) (tasks : List TaskData) (sound : IsSound g) (at : AreAtEnd g tasks) (rows : List Row) (last : (t : ℕ) (d : TaskData) → suc t ≡ length tasks → rows ≡ (slice_index_or tasks t d).state.rows) where
+module _ (g : GivenData) (tasks : List TaskData) (at : AreAtEnd g tasks) (rows : List Row) (last : (t : ℕ) (d : TaskData) → suc t ≡ length tasks → rows ≡ (slice_index_or tasks t d).state.rows) where
   -- the rows of the last task are those of the sink
   last_rows : (ts : List TaskData) (t : ℕ) → suc t ≡ length ts → ((d : TaskData) → rows ≡ (slice_index_or ts t d).state.rows) → rows ≡ (state_at g ts t).rows
   last_rows [] t l is = absurd (omega (arith, l))
   last_rows (d ∷ ts) t l is = is d ∙ ap (λ (s : State). s.rows) (sym (state_here g (d ∷ ts) t d (omega (arith, l))))
 
   rows_are : rows ≡ rows_of g (state_at g tasks)
-  rows_are = let all : suc (layout_in g).sink ≡ length tasks = sym (at.count ∙ sound.count) in last_rows tasks (layout_in g).sink all (λ d. last (layout_in g).sink d all)
+  rows_are = let all : suc (layout_in g).sink ≡ length tasks = sym (at.count ∙ (sound g at.ended.given).count) in last_rows tasks (layout_in g).sink all (λ d. last (layout_in g).sink d all)
 
   pub ended_is : g.stop ≡ Never → Ended rows ≡ finish_of g (state_at g tasks)
   ended_is never = ap Ended rows_are ∙ ap (λ (x : Stop). finish_with x (rows_of g (state_at g tasks)) (savepoint_of g (state_at g tasks))) (sym never)
 
-  pub stopped_is : (savepoint : Contents) (given : List TaskData) (n : ℕ) {cut : Cut} → given ≡ tasks → ((states : ℕ → State) → HaveStates g.layout.stages given states → savepoint ≡ savepoint_left g.plan g.layout.stages states n) → n ≡ number_after g.start.number g.saves → g.stop ≡ At cut
+  pub stopped_is : (savepoint : Contents) (held : List TaskData) (n : ℕ) {cut : Cut} → held ≡ tasks → ((states : ℕ → State) → HaveStates g.layout.stages held states → savepoint ≡ savepoint_left g.plan g.layout.stages states n) → n ≡ number_after g.start.number g.saves → g.stop ≡ At cut
       → Stopped rows savepoint ≡ finish_of g (state_at g tasks)
-  stopped_is savepoint given n {cut = cut} same is number stops =
-      let saved : savepoint ≡ savepoint_of g (state_at g tasks) = is (state_at g tasks) (subst (λ ts. HaveStates g.layout.stages ts (state_at g tasks)) (sym same) (have_states g tasks sound at)) ∙ ap (savepoint_left g.plan g.layout.stages (state_at g tasks)) number in
+  stopped_is savepoint held n {cut = cut} same is number stops =
+      let saved : savepoint ≡ savepoint_of g (state_at g tasks) = is (state_at g tasks) (subst (λ ts. HaveStates g.layout.stages ts (state_at g tasks)) (sym same) (have_states g tasks at)) ∙ ap (savepoint_left g.plan g.layout.stages (state_at g tasks)) number in
       (λ j. Stopped (rows_are j) (saved j)) ∙ ap (λ (x : Stop). finish_with x (rows_of g (state_at g tasks)) (savepoint_of g (state_at g tasks))) (sym stops)

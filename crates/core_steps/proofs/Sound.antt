@@ -20,17 +20,20 @@ use Rattle.core_steps.specs.World.{IsGiven, IsSound}
 pub takes_none : (sources : List (List (List Entry))) (begin : List (List ℕ)) (cuts : List Cut) (stop : Stop) → cuts ≡ [] → CanSaveAt sources begin (counts_of cuts) stop
 takes_none sources begin cuts stop none = subst (λ cs. CanSaveAt sources begin (counts_of cs) stop) (sym none) (no_saves sources begin stop)
 
+-- the stages of its layout are those of a scale
+pub compiled : (g : GivenData) (given : IsGiven g) → IsCompiled g.plan given.laid_out.scale g.layout.stages
+compiled g given = subst (IsCompiled g.plan given.laid_out.scale) (sym (ap (λ (l : LayoutData). l.stages) given.laid_out.is)) (compiled_ever g.plan given.laid_out.scale)
+
 pub sound : (g : GivenData) → IsGiven g → IsSound g
 sound g given =
     let plan = given.plan in
     let laid = given.laid_out in
     let c = laid.scale in
-    let compiled : IsCompiled g.plan c g.layout.stages = subst (IsCompiled g.plan c) (sym (ap (λ (l : LayoutData). l.stages) laid.is)) (compiled_ever g.plan c) in
-    let all = compiled_is_layout g.plan c (entries_of g.input) (leg_of g.start.number g.saves (until_of g.stop) (entries_of g.input).size) g.layout.stages plan laid.fits compiled in
+    let all = compiled_is_layout g.plan c (entries_of g.input) (leg_of g.start.number g.saves (until_of g.stop) (entries_of g.input).size) g.layout.stages plan laid.fits (compiled g given) in
     record {
       given = given;
       layout = all.0;
-      count = sink_is_last g.plan c g.layout.stages plan laid.fits compiled;
+      count = sink_is_last g.plan c g.layout.stages plan laid.fits (compiled g given);
       start = tasks_open g.plan g.layout g.input g.start g.saves g.stop plan laid given.belongs given.starts given.stops given.saves;
       input = input_is_admitted g.plan g.input (leg_of g.start.number g.saves (until_of g.stop) (entries_of g.input).size) (layout_in g) given.input given.belongs all.1;
       capacity = subst (λ n. 0 < n) (sym (ap (λ (l : LayoutData). l.capacity) laid.is)) laid.fits.capacity.some;

@@ -13,6 +13,7 @@ use Rattle.layout_rules.specs.Stages.{task_count}
 use Rattle.dataflow_laws.specs.World as flow
 use Rattle.dataflow_laws.specs.World.{Move, Reached}
 use Rattle.dataflow_laws.specs.World.Reached.{moves}
+use Rattle.dataflow_laws.proofs.Facts.{worlds_are_histories}
 use Rattle.task_steps.specs.declared.fault.StepFault.{StepFault}
 use Rattle.task_steps.specs.declared.fault.StepFault.TheVariants.{NotEnabled, Memory}
 use Rattle.task_steps.specs.TaskData.{TaskData}
@@ -90,6 +91,10 @@ inside w t h l = omega (arith, l, h.built.count, h.sound.count)
 
 pub reached_now : (w : WorldData) → IsWorld w → w.has_failed ≡ false → Reached w.given.plan (layout_in w.given) w.given.layout.capacity (start_in w.given) (world_in w)
 reached_now w h fine = subst (λ b. IsEnd b w) fine h.reached
+
+-- a world that has not failed is the end of a history
+pub history_of : (w : WorldData) → IsWorld w → w.has_failed ≡ false → flow.IsEnd w.given.plan (layout_in w.given) (start_in w.given) (world_in w)
+history_of w world fine = worlds_are_histories w.given.plan (layout_in w.given) w.given.layout.capacity (start_in w.given) (world_in w) world.sound.layout (reached_now w world fine)
 
 built : (w : WorldData) (t : ℕ) (d : TaskData) (rings : RingsData) (f : Bool) → IsBuilt w → t < length w.tasks → IsPlaced w.given.plan w.given.input ((layout_in w.given).task t) d → HaveRoom w.rings rings
     → (f ≡ false → d.has_failed ≡ false) → w.has_failed ≡ false → IsBuilt (after w t d rings f)

@@ -13,7 +13,7 @@ use Rattle.legs.specs.declared.stop.Stop.TheVariants.{Never, At}
 use Rattle.core_steps.specs.declared.finish.Finish.{Finish}
 use Rattle.core_steps.specs.declared.finish.Finish.TheVariants.{Ended, Stopped}
 use Rattle.core_steps.specs.Given.{GivenData, layout_in, start_in}
-use Rattle.core_steps.specs.World.{WorldData, world_in, state_at, IsPlaced}
+use Rattle.core_steps.specs.World.{WorldData, world_in, state_at, IsGiven, IsPlaced}
 
 -- the rows that the sink has collected, where tasks are in these states
 abbrev pub rows_of : GivenData → (ℕ → State) → List Row
@@ -36,20 +36,22 @@ finish_with (At cut) rows savepoint = Stopped rows savepoint
 abbrev pub finish_of : GivenData → (ℕ → State) → Finish
 finish_of g states = finish_with g.stop (rows_of g states) (savepoint_of g states)
 
--- tasks of a leg stand where a complete history ends: each where its own steps have led it from where it began, what was taken from each ring is the older part of what was put on it, and all are done
+-- a leg has ended with its tasks in these states, in one world or on threads: what it was given is such as legs are given, and a complete history, which has no order between tasks, leads there from where they began
+pub record HasEnded (g : GivenData) (states : ℕ → State) : Type 0 where
+  pub given : IsGiven g
+  pub history : History g.plan (layout_in g) (start_in g)
+  pub ends : history.end ≡ states
+  pub complete : IsComplete history
+
+-- tasks stand where a leg has ended: they are those of its layout, over its input
 pub record AreAtEnd (g : GivenData) (tasks : List TaskData) : Type 0 where
   pub count : length tasks ≡ task_count g.layout.stages
   pub placed : (t : ℕ) (d : TaskData) → t < task_count g.layout.stages → IsPlaced g.plan g.input ((layout_in g).task t) (slice_index_or tasks t d)
-  pub history : History g.plan (layout_in g) (start_in g)
-  pub ends : history.end ≡ state_at g tasks
-  pub complete : IsComplete history
+  pub ended : HasEnded g (state_at g tasks)
 
 -- the same of a world
 abbrev pub rows_in : WorldData → List Row
 rows_in w = rows_of w.given (world_in w).tasks
-
-abbrev pub savepoint_in : WorldData → Contents
-savepoint_in w = savepoint_of w.given (world_in w).tasks
 
 abbrev pub finish_in : WorldData → Finish
 finish_in w = finish_of w.given (world_in w).tasks

@@ -1,12 +1,9 @@
 //! How a leg ends.
 
 ghost use Rattle.std.specs.Prelude.{◌≡◌, ◌<◌, ℕ, IfOk, length, slice_index_or, suc};
-ghost use Rattle.stream_model.specs.InputData.{BelongsTo};
 ghost use Rattle.legs.specs.declared.stop.Stop.TheVariants.{Never};
-ghost use Rattle.redistribute.specs.StartData.{offsets_of};
-ghost use Rattle.redistribute.specs.Begins.{IsStartIn, IsFromNothing};
-ghost use Rattle.redistribute.specs.Stopping.{CanSaveAt, CanStop};
-ghost use Rattle.task_setups.specs.Legs.{IsLayoutOf, counts_of};
+ghost use Rattle.redistribute.specs.Begins.{IsFromNothing};
+ghost use Rattle.task_setups.specs.Legs.{counts_of};
 ghost use Rattle.task_steps.specs.TaskData.{TaskData};
 ghost use Rattle.core_steps.specs.Given.{given_data};
 ghost use Rattle.core_steps.specs.World.{state_at};
@@ -57,25 +54,18 @@ pub fn finish_of(
     stop: &Stop,
     tasks: Vec<Task>,
 ) -> Result<Finish, AllocError>
-    requires laid_out { IsLayoutOf given.plan.now given.layout.now }
-    requires belongs { BelongsTo given.plan.now given.input.now }
-    requires starts { IsStartIn given.plan.now given.input.now given.start.now }
-    requires stops { CanStop given.input.now.sources (offsets_of given.start.now) stop.now }
-    requires saves { CanSaveAt given.input.now.sources (offsets_of given.start.now) (counts_of given.saves.now) stop.now }
-    requires tasks { AreAtEnd (given_data given stop.now) tasks.items }
+    requires { AreAtEnd (given_data given stop.now) tasks.items }
     ensures is { let g = given_data given.entry stop.now in IfOk result (λ finish. finish ≡ leg.finish_of g (state_at g tasks.items)) }
     ensures ends { IfOk result (λ finish. IsEndOf given.entry.plan.now given.entry.input.now given.entry.start.now (counts_of given.entry.saves.now) stop.now finish) }
     ensures whole { IfOk result (λ finish. IsFromNothing given.entry.input.now given.entry.start.now → stop.now ≡ Never → IsWholeRun given.entry.plan.now given.entry.input.now finish) }
 {
     let Given {
         plan,
-        input,
         start,
         layout,
         saves,
+        ..
     } = given;
-    let _columns = plan.columns();
-    let _sources = input.sources();
     match stop {
         Stop::Never => Ok(Finish::Ended(sink_rows(tasks))),
         Stop::At(_) => {

@@ -1,6 +1,6 @@
 //! Laws of the definitions, each the contract of a function that does nothing.
 
-ghost use Rattle.core_steps.specs.Laws.{EachLegIsSound, TasksBeginNew};
+ghost use Rattle.core_steps.specs.Laws.{EachLegIsSound, TasksBeginNew, WorldHasEnded};
 
 /// A plan with its compiled layout, an input that was read by it, a start of the input and a stop that the start allows are
 /// sound: the layout wires every ring, the tasks open, and the input is admitted.
@@ -11,4 +11,9 @@ pub fn each_leg_is_sound()
 /// Tasks that begin a leg of a sound layout are new ones: they stand for its tasks, and have done nothing.
 pub fn tasks_begin_new()
     ensures { TasksBeginNew }
+{}
+
+/// A world whose tasks are all done is a leg that has ended: a complete history leads to where they stand.
+pub fn world_has_ended()
+    ensures { WorldHasEnded }
 {}

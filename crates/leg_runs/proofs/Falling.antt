@@ -2,18 +2,14 @@
 use Rattle.std.proofs.Common.{◌≡◌, ◌<◌, false, sym, subst}
 use Rattle.dataflow_laws.specs.declared.step.Step.{Step}
 use Rattle.dataflow_laws.specs.StepTask.{task_of}
-use Rattle.dataflow_laws.specs.World as flow
 use Rattle.dataflow_laws.specs.Measure.{world_cost}
-use Rattle.dataflow_laws.proofs.Facts.{worlds_are_histories, falls}
+use Rattle.dataflow_laws.proofs.Facts.{falls}
 use Rattle.core_steps.specs.Given.{GivenData, layout_in, start_in}
-use Rattle.core_steps.specs.World.{WorldData, world_in, IsWorld, IsEnd}
+use Rattle.core_steps.specs.World.{WorldData, world_in, IsWorld}
 use Rattle.core_steps.specs.Answers.{LeadsTo}
-
--- a world that has not failed is the end of a history
-pub ended : (w : WorldData) → IsWorld w → w.has_failed ≡ false → flow.IsEnd w.given.plan (layout_in w.given) (start_in w.given) (world_in w)
-ended w world fine = worlds_are_histories w.given.plan (layout_in w.given) w.given.layout.capacity (start_in w.given) (world_in w) world.sound.layout (subst (λ b. IsEnd b w) fine world.reached)
+use Rattle.core_steps.proofs.Worlds.{history_of}
 
 pub step_falls : (w new : WorldData) (step : Step) → IsWorld w → w.has_failed ≡ false → new.given ≡ w.given → LeadsTo w step (world_in new) → world_cost (layout_in new.given) (world_in new) < world_cost (layout_in w.given) (world_in w)
 step_falls w new step world fine same m =
     subst (λ (g : GivenData). world_cost (layout_in g) (world_in new) < world_cost (layout_in w.given) (world_in w)) (sym same)
-    (falls w.given.plan (layout_in w.given) w.given.layout.capacity (start_in w.given) (world_in w) (task_of step) m.event (world_in new) world.sound.layout world.sound.start (ended w world fine) m.move)
+    (falls w.given.plan (layout_in w.given) w.given.layout.capacity (start_in w.given) (world_in w) (task_of step) m.event (world_in new) world.sound.layout world.sound.start (history_of w world fine) m.move)

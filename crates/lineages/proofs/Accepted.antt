@@ -1,7 +1,7 @@
 -- A savepoint that is accepted is the one of what its start says.
 use Rattle.std.proofs.Common.{◌≡◌, ℕ, zero, suc, ◌+◌, ◌<◌, ◌≤◌, Bool, true, false, cond, ◌||◌, List, [], ◌∷◌, ◌++◌, length, map, get_or, Option, Some, None, Ok, refl, sym, ap, subst, ◌∙◌, append_assoc, inl, inr, length-append, arith}
 use Rattle.std.specs.Prelude.{T, bytes_eq, nat_lt, position, slice_index_or, ◌==◌}
-use Rattle.std.specs.FinMap.{entries, find as find_key}
+use Rattle.std.specs.FinMap.{find as find_key}
 use Rattle.std.specs.FinMap.Entries.{is_sorted, where_key, same_entries}
 use Rattle.std.specs.List.{All, AllByRecursion, find, flat_map, list_all, list_any, position_or_len, range_with_len}
 use Rattle.std.specs.List.Sorted.{IsStrictlySortedBy}

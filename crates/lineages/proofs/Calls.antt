@@ -49,7 +49,7 @@ use Rattle.job.proofs.Facts.{job_ok, ok_is, then_ok}
 use Rattle.lineages.specs.Lineage.{ComesFrom}
 use Rattle.lineages.specs.Calls.{AreExactCalls, AreGivenAt, AreRead, Calls, CallsAreAnswered, CallsAreExact, IsAnswered, LegCall, SaidComesFrom, written}
 use Rattle.lineages.specs.Calls.Calls.{first, next}
-use Rattle.lineages.proofs.Exact.{bytes_restart}
+use Rattle.lineages.proofs.Exact.{bytes_restart, one_more}
 
 -- ---- what was said
 
@@ -128,9 +128,6 @@ says plan input p i c job read e =
     let b = then_ok (λ s. and_then (λ t. Ok (leg_job p i s t)) (stop_said c.stop)) (start_said p i c.from) job a.2 in
     let d = then_ok (λ t. Ok (leg_job p i b.0 t)) (stop_said c.stop) job b.2 in
     record { start = b.0; stop = d.0; is = ok_is (leg_job p i b.0 d.0) job d.2; started = b.1; stopped = d.1 }
-
-one_more : (c : LegCall) (earlier : List LegCall) → length earlier + 1 ≡ length (c ∷ earlier)
-one_more c earlier = omega (arith)
 
 left_by : (p : PlanData) (i : InputData) (s : StartData) (stop at : Stop) (number : ℕ) (bytes : Option (List ℕ)) (saved : Option Contents) → HasSnapshot p i s → s.number + 1 ≡ number → bytes ≡ option_map savepoint_bytes saved
     → IsSavedBy (leg_job p i s stop) at saved → AreGivenAt p i number at bytes

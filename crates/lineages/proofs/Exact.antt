@@ -13,6 +13,7 @@ use Rattle.stream_model.specs.PlanRows.{due_rows}
 use Rattle.input_flow.proofs.Facts.{empty_is_cut}
 use Rattle.dataflow_laws.specs.Compiled.{cut_to}
 use Rattle.dataflow_laws.specs.Inputs.{due_between}
+use Rattle.plan_compiler.specs.LayoutData.{LayoutData}
 use Rattle.legs.specs.declared.cut.Cut.{Cut}
 use Rattle.legs.specs.declared.stop.Stop.{Stop}
 use Rattle.legs.specs.declared.stop.Stop.TheVariants.{Never, At}
@@ -28,14 +29,14 @@ use Rattle.restore.specs.declared.fault.RestoreFault.TheVariants.{MaxParallelism
 use Rattle.restarts.specs.Laws.{IsStartAt, SnapshotsRestart, savepoint_at}
 use Rattle.leg_tasks.specs.Saved.{IsSavedAt, SavedAtIsOne}
 use Rattle.core_steps.specs.Given.{GivenData}
-use Rattle.core_steps.specs.World.{WorldData, IsGiven}
-use Rattle.core_steps.specs.Finishing.{number_after, rows_in, savepoint_in}
-use Rattle.core_steps.proofs.Ending.{end_is_cut}
-use Rattle.core_steps.proofs.Delivered.{none_at_first, world_delivers, world_saves}
+use Rattle.core_steps.specs.World.{IsGiven}
+use Rattle.core_steps.specs.Finishing.{number_after}
+use Rattle.core_steps.proofs.Ending.{end_is_cut, world_has_ended}
+use Rattle.core_steps.proofs.Delivered.{delivers, none_at_first, saves as leg_saves}
 use Rattle.job_legs.specs.Laws.{NothingDueAtFirst, RowsAddUp}
 use Rattle.job_legs.specs.Ending.{rows_to}
 use Rattle.job_legs.proofs.Facts.{before_end, come_to}
-use Rattle.lineages.specs.Lineage.{AreExact, BytesRestart, ComesFrom, Headline, IsLeg, IsUnderWay, Lineage, LineagesAreExact, OneSavepoint, delivered, given_of}
+use Rattle.lineages.specs.Lineage.{AreExact, BytesRestart, ComesFrom, FinishedIsLeg, Headline, IsLeg, LegEnd, Lineage, LineagesAreExact, OneSavepoint, TasksAreLeg, delivered, given_of, leg_rows, leg_savepoint}
 use Rattle.lineages.specs.Lineage.Lineage.{begins, goes_on}
 
 -- ---- a start from bytes
@@ -64,12 +65,9 @@ bytes_restart restart one p i cut number old s plan input belongs is at savepoin
     let start = (no_fault _ (start_of p held) s checked).1 in
     subst (IsStartAt p i cut number) start (restart p i cut at.windows number (record { plan = plan; input = input; belongs = belongs; cut = is; windows = at.snapshot }) (few p i held s checked))
 
--- ---- one leg
+-- ---- where a leg begins and stops
 
-module _ (p : PlanData) (i : InputData) (s : StartData) (saves : List (List (List ℕ))) (stop : Stop) (w : WorldData) (way : IsUnderWay p i s saves stop w) where
-  pub given : IsGiven (given_of p i s way.layout saves stop)
-  given = subst IsGiven way.given way.world.sound.given
-
+module _ (p : PlanData) (i : InputData) (s : StartData) (l : LayoutData) (saves : List (List (List ℕ))) (stop : Stop) (given : IsGiven (given_of p i s l saves stop)) where
   pub can_stop : (b : List (List ℕ)) (number : ℕ) → IsStartAt p i b number s → CanStop i.sources b stop
   can_stop b number at = subst (λ c. CanStop i.sources c stop) at.offsets given.stops
 
@@ -84,81 +82,92 @@ module _ (p : PlanData) (i : InputData) (s : StartData) (saves : List (List (Lis
   pub is_end : (b : List (List ℕ)) (number : ℕ) → IsStartAt p i b number s → IsCut i.sources (cut_to i (until_of stop))
   is_end b number at = end_is_cut i b stop (can_stop b number at)
 
--- and of one that has finished
-module _ (p : PlanData) (i : InputData) (s : StartData) (saves : List (List (List ℕ))) (stop : Stop) (w : WorldData) (leg : IsLeg p i s saves stop w) where
-  rows : HasSnapshot p i s → AreRowsOf (due_between p i.sources (offsets_of s) (cut_to i (until_of stop))) (rows_in w)
-  rows = subst (λ (g : GivenData). HasSnapshot g.plan g.input g.start → AreRowsOf (due_between g.plan g.input.sources (offsets_of g.start) (cut_to g.input (until_of g.stop))) (rows_in w)) leg.way.given (world_delivers w leg.way.world leg.finished)
+-- ---- a leg that has ended
 
-  left : HasSnapshot p i s → IsSavedAt p i (cut_to i (until_of stop)) (number_after s.number saves) (savepoint_in w)
-  left = subst (λ (g : GivenData). HasSnapshot g.plan g.input g.start → IsSavedAt g.plan g.input (cut_to g.input (until_of g.stop)) (number_after g.start.number g.saves) (savepoint_in w)) leg.way.given (world_saves w leg.way.world leg.finished)
+pub finished_is_leg : FinishedIsLeg
+finished_is_leg p i s saves stop w way done = record { layout = way.layout; given = way.given; ended = world_has_ended w way.world done }
+
+pub tasks_are_leg : TasksAreLeg
+tasks_are_leg g tasks at = record { layout = g.layout; given = refl; ended = at.ended }
+
+module _ (p : PlanData) (i : InputData) (s : StartData) (saves : List (List (List ℕ))) (stop : Stop) (e : LegEnd) (leg : IsLeg p i s saves stop e) where
+  pub given : IsGiven (given_of p i s leg.layout saves stop)
+  given = subst IsGiven leg.given leg.ended.given
+
+  rows : HasSnapshot p i s → AreRowsOf (due_between p i.sources (offsets_of s) (cut_to i (until_of stop))) (leg_rows e)
+  rows = subst (λ (g : GivenData). HasSnapshot g.plan g.input g.start → AreRowsOf (due_between g.plan g.input.sources (offsets_of g.start) (cut_to g.input (until_of g.stop))) (leg_rows e)) leg.given (delivers e.given e.states leg.ended)
+
+  left : HasSnapshot p i s → IsSavedAt p i (cut_to i (until_of stop)) (number_after s.number saves) (leg_savepoint e)
+  left = subst (λ (g : GivenData). HasSnapshot g.plan g.input g.start → IsSavedAt g.plan g.input (cut_to g.input (until_of g.stop)) (number_after g.start.number g.saves) (leg_savepoint e)) leg.given (leg_saves e.given e.states leg.ended)
 
   -- a leg that begins at a cut with its snapshot leaves the savepoint of the cut where it stops
-  pub saved : (b : List (List ℕ)) (number : ℕ) → IsStartAt p i b number s → (cut : Cut) → stop ≡ At cut → IsSavedAt p i cut.counts (number_after number saves) (savepoint_in w)
+  pub saved : (b : List (List ℕ)) (number : ℕ) → IsStartAt p i b number s → (cut : Cut) → stop ≡ At cut → IsSavedAt p i cut.counts (number_after number saves) (leg_savepoint e)
   saved b number at cut same =
-      subst (λ n. IsSavedAt p i cut.counts (number_after n saves) (savepoint_in w)) at.number (subst (λ (x : Stop). IsSavedAt p i (cut_to i (until_of x)) (number_after s.number saves) (savepoint_in w)) same (left at.snapshot))
+      subst (λ n. IsSavedAt p i cut.counts (number_after n saves) (leg_savepoint e)) at.number (subst (λ (x : Stop). IsSavedAt p i (cut_to i (until_of x)) (number_after s.number saves) (leg_savepoint e)) same (left at.snapshot))
 
   -- and adds the rows that become due
-  added : RowsAddUp → (b : List (List ℕ)) (number : ℕ) → IsStartAt p i b number s → IsCut i.sources b → (before : List Row) → AreRowsOf (due_rows p i.sources b) before → AreRowsOf (due_rows p i.sources (cut_to i (until_of stop))) (before ++ rows_in w)
+  added : RowsAddUp → (b : List (List ℕ)) (number : ℕ) → IsStartAt p i b number s → IsCut i.sources b → (before : List Row) → AreRowsOf (due_rows p i.sources b) before → AreRowsOf (due_rows p i.sources (cut_to i (until_of stop))) (before ++ leg_rows e)
   added add b number at is before due =
-      let can = can_stop p i s saves stop w leg.way b number at in
+      let can = can_stop p i s leg.layout saves stop given b number at in
       let end = cut_to i (until_of stop) in
-      add p i b end before (rows_in w) (given p i s saves stop w leg.way).input (before_end i b stop is can) (end_is_cut i b stop can) due (subst (λ c. AreRowsOf (due_between p i.sources c end) (rows_in w)) at.offsets (rows at.snapshot))
+      add p i b end before (leg_rows e) given.input (before_end i b stop is can) (end_is_cut i b stop can) due (subst (λ c. AreRowsOf (due_between p i.sources c end) (leg_rows e)) at.offsets (rows at.snapshot))
 
   whole : EndIsDue → (found : List Row) → AreRowsOf (due_rows p i.sources (cut_to i (until_of stop))) found → AreRowsOf (rows_to p i stop) found
-  whole end found due = let g = given p i s saves stop w leg.way in come_to end p i stop found g.plan g.input g.belongs due
+  whole end found due = come_to end p i stop found given.plan given.input given.belongs due
 
 -- ---- all of them
 
 -- what holds of the last
-unfoldable pub LastIs : (WorldData → Type 0) → List WorldData → Type 0
+unfoldable pub LastIs : (LegEnd → Type 0) → List LegEnd → Type 0
 LastIs P [] = Unit {0}
-LastIs P (w ∷ earlier) = P w
+LastIs P (e ∷ earlier) = P e
 
-pub record Comes (p : PlanData) (i : InputData) (stop : Stop) (legs : List WorldData) : Type 0 where
+pub record Comes (p : PlanData) (i : InputData) (stop : Stop) (legs : List LegEnd) : Type 0 where
   pub is_cut : IsCut i.sources (cut_to i (until_of stop))
   pub due : AreRowsOf (due_rows p i.sources (cut_to i (until_of stop))) (delivered legs)
   pub rows : AreRowsOf (rows_to p i stop) (delivered legs)
-  pub saved : (cut : Cut) → stop ≡ At cut → LastIs (λ w. IsSavedAt p i cut.counts (length legs) (savepoint_in w)) legs
+  pub saved : (cut : Cut) → stop ≡ At cut → LastIs (λ e. IsSavedAt p i cut.counts (length legs) (leg_savepoint e)) legs
 
-one_more : (w : WorldData) (earlier : List WorldData) → length earlier + 1 ≡ length (w ∷ earlier)
-one_more w earlier = omega (arith)
+pub one_more : {X : Type 0} (last : X) (earlier : List X) → length earlier + 1 ≡ length (last ∷ earlier)
+one_more last earlier = omega (arith)
 
 module _ (none : NothingDueAtFirst) (add : RowsAddUp) (restart : SnapshotsRestart) (one : (a b : Contents) → IsSavepoint a → IsSavepoint b → savepoint_bytes a ≡ savepoint_bytes b → a ≡ b) (end : EndIsDue) (p : PlanData) (i : InputData) where
-  after : (s : StartData) (stop : Stop) (w : WorldData) (earlier : List WorldData) → IsLeg p i s [] stop w → (b : List (List ℕ)) → IsStartAt p i b (length earlier) s → IsCut i.sources b → AreRowsOf (due_rows p i.sources b) (delivered earlier) → Comes p i stop (w ∷ earlier)
+  after : (s : StartData) (stop : Stop) (e : LegEnd) (earlier : List LegEnd) → IsLeg p i s [] stop e → (b : List (List ℕ)) → IsStartAt p i b (length earlier) s → IsCut i.sources b → AreRowsOf (due_rows p i.sources b) (delivered earlier) → Comes p i stop (e ∷ earlier)
   unfolding LastIs
-  after s stop w earlier leg b at is due =
-      let now = added p i s [] stop w leg add b (length earlier) at is (delivered earlier) due in
+  after s stop e earlier leg b at is due =
+      let now = added p i s [] stop e leg add b (length earlier) at is (delivered earlier) due in
       record {
-        is_cut = is_end p i s [] stop w leg.way b (length earlier) at;
+        is_cut = is_end p i s leg.layout [] stop (given p i s [] stop e leg) b (length earlier) at;
         due = now;
-        rows = whole p i s [] stop w leg end (delivered (w ∷ earlier)) now;
-        saved = λ cut same. subst (λ n. IsSavedAt p i cut.counts n (savepoint_in w)) (one_more w earlier) (saved p i s [] stop w leg b (length earlier) at cut same);
+        rows = whole p i s [] stop e leg end (delivered (e ∷ earlier)) now;
+        saved = λ cut same. subst (λ n. IsSavedAt p i cut.counts n (leg_savepoint e)) (one_more e earlier) (saved p i s [] stop e leg b (length earlier) at cut same);
       }
 
-  pub comes : (stop : Stop) (legs : List WorldData) → Lineage p i stop legs → Comes p i stop legs
+  pub comes : (stop : Stop) (legs : List LegEnd) → Lineage p i stop legs → Comes p i stop legs
   unfolding LastIs
   comes stop [] l = elim l [ ]
-  comes stop (w ∷ []) (begins {s = s} nothing leg) =
-      let g = given p i s [] stop w leg.way in
-      after s stop w [] leg (empty_cut i.sources) (at_first p i s [] stop w leg.way nothing) (empty_is_cut i.sources) (λ q. sym (ap option_to_list (none p i q (subst (λ t. IsOrderly t i.sources) g.belongs.time g.orderly))))
-  comes stop (w ∷ before ∷ earlier) (goes_on {cut = cut} {s = s} legs savepoint from leg) =
+  comes stop (e ∷ []) (begins {s = s} nothing leg) =
+      let g = given p i s [] stop e leg in
+      after s stop e [] leg (empty_cut i.sources) (at_first p i s leg.layout [] stop g nothing) (empty_is_cut i.sources) (λ q. sym (ap option_to_list (none p i q (subst (λ t. IsOrderly t i.sources) g.belongs.time g.orderly))))
+  comes stop (e ∷ before ∷ earlier) (goes_on {cut = cut} {s = s} legs savepoint from leg) =
       let c = comes (At cut) (before ∷ earlier) legs in
-      after s stop w (before ∷ earlier) leg cut.counts (from_bytes p i s [] stop w leg.way restart one cut.counts (length (before ∷ earlier)) (savepoint_in before) c.is_cut (c.saved cut refl) savepoint from) c.is_cut c.due
+      after s stop e (before ∷ earlier) leg cut.counts
+      (from_bytes p i s leg.layout [] stop (given p i s [] stop e leg) restart one cut.counts (length (before ∷ earlier)) (leg_savepoint before) c.is_cut (c.saved cut refl) savepoint from) c.is_cut c.due
 
-  pub exact : (stop : Stop) (last : WorldData) (earlier : List WorldData) → Lineage p i stop (last ∷ earlier) → AreExact p i stop last (last ∷ earlier)
+  pub exact : (stop : Stop) (last : LegEnd) (earlier : List LegEnd) → Lineage p i stop (last ∷ earlier) → AreExact p i stop last (last ∷ earlier)
   unfolding LastIs
   exact stop last earlier l =
       let c = comes stop (last ∷ earlier) l in
       record { rows = c.rows; saved = c.saved }
 
 pub headline : LineagesAreExact → Headline
-headline made p i (w ∷ earlier) l = (made p i Never w earlier l).rows
+headline made p i (e ∷ earlier) l = (made p i Never e earlier l).rows
 headline made p i [] l = elim l [ ]
 
 -- ---- legs from one snapshot to one cut
 
 pub one_savepoint : SavedAtIsOne → OneSavepoint
-one_savepoint one p i cut number saves end s other w v at bt leg next =
-    let a = saved p i s saves (At end) w leg cut number at end refl in
-    let b = saved p i other saves (At end) v next cut number bt end refl in
-    ap savepoint_bytes (one p i end.counts (number_after number saves) (savepoint_in w) (savepoint_in v) a b)
+one_savepoint one p i cut number saves end s other e d at bt leg next =
+    let a = saved p i s saves (At end) e leg cut number at end refl in
+    let b = saved p i other saves (At end) d next cut number bt end refl in
+    ap savepoint_bytes (one p i end.counts (number_after number saves) (leg_savepoint e) (leg_savepoint d) a b)

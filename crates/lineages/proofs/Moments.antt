@@ -23,16 +23,16 @@ use Rattle.savepoint_codec.specs.Layout.{IsSavepoint, savepoint_bytes}
 use Rattle.savepoint_codec.specs.declared.savepoint.Contents.{Contents}
 use Rattle.restarts.specs.Laws.{IsStartAt, SnapshotsRestart}
 use Rattle.core_steps.specs.Given.{GivenData}
-use Rattle.core_steps.specs.World.{WorldData}
-use Rattle.core_steps.specs.Finishing.{rows_in, savepoint_in}
+use Rattle.core_steps.specs.World.{WorldData, IsGiven}
+use Rattle.core_steps.specs.Finishing.{rows_in}
 use Rattle.core_steps.proofs.Delivered.{world_so_far}
 use Rattle.core_steps.proofs.Ending.{end_is_cut}
 use Rattle.job_legs.specs.Laws.{EachRowAddsUp, NothingDueAtFirst, RowsAddUp}
 use Rattle.job_legs.specs.Ending.{rows_to}
 use Rattle.job_legs.proofs.Facts.{before_end, row_to}
-use Rattle.lineages.specs.Lineage.{EachMomentIsPart, IsUnderWay, delivered}
+use Rattle.lineages.specs.Lineage.{EachMomentIsPart, IsUnderWay, delivered, given_of, leg_savepoint}
 use Rattle.lineages.specs.Lineage.UnderWay.{sets_out, goes_further}
-use Rattle.lineages.proofs.Exact.{LastIs, at_first, can_stop, comes, from_bytes, given}
+use Rattle.lineages.proofs.Exact.{LastIs, at_first, can_stop, comes, from_bytes}
 
 -- nothing of a list, or all of it
 abbrev IsPart : List Row → List Row → Type 0
@@ -52,6 +52,9 @@ module _ (p : PlanData) (i : InputData) (s : StartData) (saves : List (List (Lis
   abbrev end : List (List ℕ)
   end = cut_to i (until_of stop)
 
+  on_way : IsGiven (given_of p i s way.layout saves stop)
+  on_way = subst IsGiven way.given way.world.sound.given
+
   pub so_far : HasSnapshot p i s → (q : Pane) → IsPart (filter (row_is_at q) (rows_in w)) (option_to_list (due_between p i.sources (offsets_of s) end q))
   so_far = subst (λ (g : GivenData). HasSnapshot g.plan g.input g.start → (q : Pane) → IsPart (filter (row_is_at q) (rows_in w)) (option_to_list (due_between g.plan g.input.sources (offsets_of g.start) (cut_to g.input (until_of g.stop)) q))) way.given (world_so_far w way.world)
 
@@ -59,23 +62,22 @@ module _ (p : PlanData) (i : InputData) (s : StartData) (saves : List (List (Lis
   with_earlier : EachRowAddsUp → (b : List (List ℕ)) (number : ℕ) → IsStartAt p i b number s → IsCut i.sources b → (before : List Row) → AreRowsOf (due_rows p i.sources b) before → (q : Pane)
       → IsPart (filter (row_is_at q) (before ++ rows_in w)) (option_to_list (due_rows p i.sources end q))
   with_earlier add b number at is before due q =
-      let can = can_stop p i s saves stop w way b number at in
-      let sum = add p i b end q (given p i s saves stop w way).input (before_end i b stop is can) (end_is_cut i b stop can) in
+      let can = can_stop p i s way.layout saves stop on_way b number at in
+      let sum = add p i b end q on_way.input (before_end i b stop is can) (end_is_cut i b stop can) in
       let more = subst (λ c. IsPart (filter (row_is_at q) (rows_in w)) (option_to_list (due_between p i.sources c end q))) at.offsets (so_far at.snapshot q) in
       together q before (rows_in w) _ _ _ (due q) more sum (earlier_part (is_due p.window (merged_watermark i.sources b) q.start) (plan_rows p i.sources q) (due_rows p i.sources end q) (due_rows p i.sources end q) sum)
 
   due_there : EndIsDue → (xs : List Row) (q : Pane) → IsPart xs (option_to_list (due_rows p i.sources end q)) → IsPart xs (option_to_list (rows_to p i stop q))
-  due_there at_end xs q = let g = given p i s saves stop w way in subst (λ o. IsPart xs (option_to_list o)) (row_to at_end p i stop q g.plan g.input g.belongs)
+  due_there at_end xs q = subst (λ o. IsPart xs (option_to_list o)) (row_to at_end p i stop q on_way.plan on_way.input on_way.belongs)
 
 pub each_moment : NothingDueAtFirst → RowsAddUp → EachRowAddsUp → SnapshotsRestart → ((a b : Contents) → IsSavepoint a → IsSavepoint b → savepoint_bytes a ≡ savepoint_bytes b → a ≡ b) → EndIsDue → EachMomentIsPart
 unfolding LastIs
-each_moment none add each restart one at_end p i stop [] l q = elim l [ ]
-each_moment none add each restart one at_end p i stop (w ∷ []) (sets_out {s = s} nothing way) q =
-    let g = given p i s [] stop w way in
-    let at = at_first p i s [] stop w way nothing in
+each_moment none add each restart one at_end p i stop w [] (sets_out {s = s} nothing way) q =
+    let g = on_way p i s [] stop w way in
+    let at = at_first p i s way.layout [] stop g nothing in
     let none_due : AreRowsOf (due_rows p i.sources (empty_cut i.sources)) [] = λ x. sym (ap option_to_list (none p i x (subst (λ t. IsOrderly t i.sources) g.belongs.time g.orderly))) in
     due_there p i s [] stop w way at_end (filter (row_is_at q) (rows_in w)) q (with_earlier p i s [] stop w way each (empty_cut i.sources) 0 at (empty_is_cut i.sources) [] none_due q)
-each_moment none add each restart one at_end p i stop (w ∷ before ∷ earlier) (goes_further {cut = cut} {s = s} legs savepoint from way) q =
+each_moment none add each restart one at_end p i stop w (before ∷ earlier) (goes_further {cut = cut} {s = s} legs savepoint from way) q =
     let c = comes none add restart one at_end p i (At cut) (before ∷ earlier) legs in
-    let at = from_bytes p i s [] stop w way restart one cut.counts (length (before ∷ earlier)) (savepoint_in before) c.is_cut (c.saved cut refl) savepoint from in
+    let at = from_bytes p i s way.layout [] stop (on_way p i s [] stop w way) restart one cut.counts (length (before ∷ earlier)) (leg_savepoint before) c.is_cut (c.saved cut refl) savepoint from in
     due_there p i s [] stop w way at_end _ q (with_earlier p i s [] stop w way each cut.counts (length (before ∷ earlier)) at c.is_cut (delivered (before ∷ earlier)) c.due q)

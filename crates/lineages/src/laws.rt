@@ -2,7 +2,7 @@
 
 ghost use Rattle.lineages.specs.Calls.{CallsAreAnswered, CallsAreExact, SaidComesFrom};
 ghost use Rattle.lineages.specs.Dealing.{DealtAreGathered, SavepointsAreGatheredAgain};
-ghost use Rattle.lineages.specs.Lineage.{BytesRestart, EachMomentIsPart, EachMomentOfALeg, Headline, LineagesAreExact, OneSavepoint};
+ghost use Rattle.lineages.specs.Lineage.{BytesRestart, EachMomentIsPart, EachMomentOfALeg, FinishedIsLeg, Headline, LineagesAreExact, OneSavepoint, TasksAreLeg};
 ghost use Rattle.lineages.specs.Steps.{EachStepFalls};
 
 use gather::laws::same_panes_same_savepoint;
@@ -17,13 +17,24 @@ use stream_input::laws::said_is_input;
 use stream_model::laws::end_is_due;
 
 /// The headline theorem: once one leg of a job runs to the end of its input, the rows that all its legs have delivered together
-/// are just the plan's rows on the whole input, each once, whatever the order of steps and at whatever cuts, parallelisms and
-/// chainings the job was stopped with a savepoint and started again.
+/// are just the plan's rows on the whole input, each once, whatever the order of steps, in one thread or many, and at whatever
+/// cuts, parallelisms and chainings the job was stopped with a savepoint and started again.
 pub fn headline()
     ensures { Headline }
 {
     let _exact = lineages_are_exact();
 }
+
+/// A world on its way is a leg once all its tasks are done.
+pub fn finished_is_leg()
+    ensures { FinishedIsLeg }
+{}
+
+/// Tasks that stand at the end of a complete history, as those do that workers on threads hand back
+/// (`thread_runner::laws::workers_are_at_end`), are a leg.
+pub fn tasks_are_leg()
+    ensures { TasksAreLeg }
+{}
 
 /// Legs of which the last stopped at a cut have delivered just the rows that are due there, each once, and leave the savepoint
 /// of the cut, numbered by the legs.
@@ -94,7 +105,8 @@ pub fn calls_are_exact()
     let _input = said_is_input();
 }
 
-/// Legs from one snapshot to one cut, after as many savepoints, leave the same bytes at every scale and in every order of steps.
+/// Legs from one snapshot to one cut, after as many savepoints, leave the same bytes at every scale and in every order of steps,
+/// in one thread and on many.
 pub fn one_savepoint()
     ensures { OneSavepoint }
 {

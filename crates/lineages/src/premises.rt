@@ -5,7 +5,7 @@ ghost use Rattle.answers.specs.Answer.{Gives};
 ghost use Rattle.core_steps.specs.Finishing.{HasFinished, finish_in};
 ghost use Rattle.job_texts.specs.Fault.{is_memory};
 ghost use Rattle.job.specs.Leg.{start_said};
-ghost use Rattle.lineages.specs.Lineage.{ComesFrom, IsLeg};
+ghost use Rattle.lineages.specs.Lineage.{ComesFrom, IsLeg, end_in};
 
 use core_steps::{Finish, World};
 use job_texts::JobFault;
@@ -24,7 +24,7 @@ use stream_model::Input;
 /// Only where memory runs out.
 pub fn leg_of(alloc: Global, world: World<'_>) -> Result<Option<Finish>, AllocError>
     ensures is { IfOk result (λ answer. MatchOption answer (HasFinished world.entry → ⊥) (λ finish. HasFinished world.entry × (finish ≡ finish_in world.entry))) }
-    ensures leg { let g = world.entry.given in IfOk result (λ answer. IfSome answer (λ _. IsLeg g.plan g.input g.start g.saves g.stop world.entry)) }
+    ensures leg { let g = world.entry.given in IfOk result (λ answer. IfSome answer (λ _. IsLeg g.plan g.input g.start g.saves g.stop (end_in world.entry))) }
 {
     let _failed = world.has_failed();
     world.finish(alloc)

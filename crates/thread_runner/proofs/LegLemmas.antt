@@ -194,9 +194,7 @@ module _ (g : GivenData) (js : List Job) (ds : List Done) (sound : IsSound g) (w
   at_end = record {
     count = length-map ds done_task ∙ (sym (same_count (Worked g.input) js ds h) ∙ many);
     placed = λ t d l. placed_at g.input js ds h g.plan (layout_in g).task placed t d (omega (arith, l, many));
-    history = history;
-    ends = refl;
-    complete = complete;
+    ended = record { given = sound.given; history = history; ends = refl; complete = complete };
   }
 
 -- the tasks of workers without a fault stand where a complete history ends, once all edges are settled

@@ -1,13 +1,10 @@
 //! What a leg comes to, out of what its workers have done.
 
 ghost use Rattle.std.specs.Prelude.{◌≡◌, ◌↔◌, List, map, length, IsFalse, IfOk};
-ghost use Rattle.stream_model.specs.InputData.{BelongsTo};
 ghost use Rattle.layout_rules.specs.Stages.{task_count};
 ghost use Rattle.legs.specs.declared.stop.Stop.TheVariants.{Never};
-ghost use Rattle.redistribute.specs.StartData.{offsets_of};
-ghost use Rattle.redistribute.specs.Begins.{IsStartIn, IsFromNothing};
-ghost use Rattle.redistribute.specs.Stopping.{CanSaveAt, CanStop};
-ghost use Rattle.task_setups.specs.Legs.{IsLayoutOf, counts_of};
+ghost use Rattle.redistribute.specs.Begins.{IsFromNothing};
+ghost use Rattle.task_setups.specs.Legs.{counts_of};
 ghost use Rattle.core_steps.specs.Given.{given_data};
 ghost use Rattle.core_steps.specs.World.{IsSound};
 ghost use Rattle.core_steps.specs.Ending.{IsEndOf, IsWholeRun};
@@ -77,11 +74,6 @@ fn finished(
     dones: Vec<Done>,
 ) -> Result<Finish, AllocError>
     requires sound { IsSound (given_data given stop.now) }
-    requires laid_out { IsLayoutOf given.plan.now given.layout.now }
-    requires belongs { BelongsTo given.plan.now given.input.now }
-    requires starts { IsStartIn given.plan.now given.input.now given.start.now }
-    requires stops { CanStop given.input.now.sources (offsets_of given.start.now) stop.now }
-    requires saves { CanSaveAt given.input.now.sources (offsets_of given.start.now) (counts_of given.saves.now) stop.now }
     requires worked { AreWorked (given_data given stop.now) dones.items }
     requires fine { NoFaults dones.items }
     ensures ends { IfOk result (λ finish. IsEndOf given.entry.plan.now given.entry.input.now given.entry.start.now (counts_of given.entry.saves.now) stop.now finish) }
@@ -101,11 +93,6 @@ pub(crate) fn conclude(
     dones: Vec<Done>,
 ) -> Result<Finish, AllocError>
     requires sound { IsSound (given_data given stop.now) }
-    requires laid_out { IsLayoutOf given.plan.now given.layout.now }
-    requires belongs { BelongsTo given.plan.now given.input.now }
-    requires starts { IsStartIn given.plan.now given.input.now given.start.now }
-    requires stops { CanStop given.input.now.sources (offsets_of given.start.now) stop.now }
-    requires saves { CanSaveAt given.input.now.sources (offsets_of given.start.now) (counts_of given.saves.now) stop.now }
     requires worked { AreWorked (given_data given stop.now) dones.items }
     ensures ends { IfOk result (λ finish. IsEndOf given.entry.plan.now given.entry.input.now given.entry.start.now (counts_of given.entry.saves.now) stop.now finish) }
     ensures whole { IfOk result (λ finish. IsFromNothing given.entry.input.now given.entry.start.now → stop.now ≡ Never → IsWholeRun given.entry.plan.now given.entry.input.now finish) }

@@ -92,11 +92,6 @@ fn settle(
     dones: Vec<Done>,
 ) -> Result<(Finish, u64), AllocError>
     requires sound { IsSound (given_data given stop.now) }
-    requires laid_out { IsLayoutOf given.plan.now given.layout.now }
-    requires belongs { BelongsTo given.plan.now given.input.now }
-    requires starts { IsStartIn given.plan.now given.input.now given.start.now }
-    requires stops { CanStop given.input.now.sources (offsets_of given.start.now) stop.now }
-    requires saves { CanSaveAt given.input.now.sources (offsets_of given.start.now) (counts_of given.saves.now) stop.now }
     requires worked { AreWorked (given_data given stop.now) dones.items }
     requires fine { NoFaults dones.items }
 {

@@ -6,11 +6,11 @@ pub settled-dones-requires-clause-count : goal.settled-dones-requires-clause-cou
 settled-dones-requires-clause-count c = as_many (given_data c.args.given c.args.stop.now) c.args.dones.items c.requires.worked c.requires.fine
 
 pub settled-dones-requires-clause-edges : goal.settled-dones-requires-clause-edges
-settled-dones-requires-clause-edges c = (c.layouts_have_edges-edges.ensures c.args.given.plan.now c.args.given.layout.now c.requires.sound.given.plan c.requires.laid_out).0
+settled-dones-requires-clause-edges c = (c.layouts_have_edges-edges.ensures c.args.given.plan.now c.args.given.layout.now c.requires.sound.given.plan c.requires.sound.given.laid_out).0
 
 pub settled-dones-requires-clause-joined : goal.settled-dones-requires-clause-joined
 settled-dones-requires-clause-joined c = are_joined (given_data c.args.given c.args.stop.now) c.args.dones.items c.requires.worked c.requires.fine
 
-pub finish_of-requires-clause-tasks : goal.finish_of-requires-clause-tasks
-finish_of-requires-clause-tasks c =
+pub finish_of-requires : goal.finish_of-requires
+finish_of-requires c =
     rw c.in_ok-tasks.ensures (are_at_end (given_data c.args.given c.args.stop.now) c.args.dones.items c.settled-dones.result.items c.requires.sound c.requires.worked c.requires.fine c.settled-dones.ensures.same c.settled-dones.ensures.left)

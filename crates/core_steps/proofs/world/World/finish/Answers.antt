@@ -4,8 +4,8 @@ use Rattle.core_steps.specs.World.{world_view}
 use Rattle.core_steps.proofs.Ending.{at_end}
 use Rattle.core_steps.proofs.world.World.finish.Goals as goal
 
-pub finish_of-requires-clause-tasks : goal.finish_of-requires-clause-tasks
-finish_of-requires-clause-tasks c =
+pub finish_of-requires : goal.finish_of-requires
+finish_of-requires c =
     let done : HasFinished c.args.self = record { going = sym c.has_failed.ensures.says ∙ c.if-has_failed.false; finished = c.is_finished.ensures.done.0 c.if-not-is_finished.false } in
     at_end (world_view c.self.inside) c.self.invariant (subst HasFinished (sym c.self.view_is) done)
 

@@ -1,0 +1,16 @@
+use Rattle.std.proofs.Common.{◌≡◌, refl, Option, Some, None}
+use Rattle.std.specs.Prelude.{IfSome, MatchOption}
+use Rattle.std.proofs.lemmas.Result.{IfOk-weaker}
+use Rattle.core_steps.specs.declared.finish.Finish.{Finish}
+use Rattle.core_steps.specs.Finishing.{HasFinished, finish_in}
+use Rattle.core_steps.specs.World.{WorldData, IsWorld}
+use Rattle.lineages.specs.Lineage.{IsLeg, end_in}
+use Rattle.lineages.proofs.Exact.{finished_is_leg}
+use Rattle.lineages.proofs.premises.leg_of.Goals as goal
+
+finished : (w : WorldData) → IsWorld w → (answer : Option Finish) → MatchOption answer (HasFinished w → ⊥) (λ finish. HasFinished w × (finish ≡ finish_in w)) → IfSome answer (λ _. IsLeg w.given.plan w.given.input w.given.start w.given.saves w.given.stop (end_in w))
+finished w world None is = tt
+finished w world (Some finish) is = finished_is_leg w.given.plan w.given.input w.given.start w.given.saves w.given.stop w (record { layout = w.given.layout; given = refl; world = world }) is.0
+
+pub returns-clause-leg : goal.returns-clause-leg
+returns-clause-leg c = IfOk-weaker c.finish.result _ _ (finished c.args.world c.has_failed-failed.ensures.sound) c.finish.ensures.is
