@@ -1,19 +1,13 @@
 -- A task has no steps but those that are looked for.
-use Rattle.std.proofs.Common.{◌≡◌, ℕ, ◌<◌, ◌≤◌, Bool, true, false, List, length, refl, sym, ap, subst, ◌∙◌, arith, Option, if◌then◌else◌}
+use Rattle.std.proofs.Common.{◌≡◌, ℕ, ◌<◌, Bool, true, false, List, length, refl, sym, ap, subst, ◌∙◌, arith, Option, if◌then◌else◌}
 use Rattle.std.proofs.lemmas.Bool.{false≢true}
 use Rattle.std.specs.Prelude.{slice_index, Some, None, MatchOption}
-use Rattle.plan_model.specs.PlanData.{PlanData}
 use Rattle.dataflow_model.specs.Role.{is_source}
-use Rattle.dataflow_model.specs.AbstractLayout.{AbstractLayout}
-use Rattle.dataflow_model.specs.Steps as event
-use Rattle.dataflow_model.specs.Steps.{Event, MayRead, CanTake}
-use Rattle.dataflow_laws.specs.World as flow
-use Rattle.dataflow_laws.specs.World.{Move, inner, takes, puts}
+use Rattle.dataflow_model.specs.Steps.{MayRead, CanTake}
 use Rattle.dataflow_laws.specs.Needs.{Needs}
 use Rattle.dataflow_laws.specs.declared.step.Step.{Step}
 use Rattle.dataflow_laws.specs.declared.step.Step.TheVariants.{Open, Read, Save, Stop, Close, Take, Put}
 use Rattle.dataflow_laws.specs.StepTask.{task_of}
-use Rattle.dataflow_laws.proofs.Facts.{step_needs}
 use Rattle.layout_rules.specs.Layouts.{partition_counts}
 use Rattle.layout_rules.specs.Stages.{task_count, inputs_of, partitions_of}
 use Rattle.plan_compiler.specs.LayoutData.{LayoutData}
@@ -21,23 +15,19 @@ use Rattle.task_setups.specs.Legs.{IsLayoutOf}
 use Rattle.core_steps.specs.Given.{layout_in}
 use Rattle.core_steps.specs.World.{WorldData, world_in, IsWorld}
 use Rattle.core_steps.specs.Answers.{CanMake}
+use Rattle.core_steps.proofs.States.{move_needs, move_task}
 use Rattle.leg_runs.specs.Order.{CanNothing, CannotRead, CannotTake}
-
-needed : (p : PlanData) (l : AbstractLayout) (capacity : ℕ) (w : flow.World) (t : ℕ) (e : Event) (next : flow.World) → Move p l capacity w t e next → Needs p (l.task t) (w.tasks t) e
-needed p l capacity w t e next (inner {s = s} early is_inner step) = step_needs p (l.task t) (w.tasks t) e s step
-needed p l capacity w t e next (takes {i = i} {m = m} {s = s} early rest front step) = step_needs p (l.task t) (w.tasks t) (event.Take i m) s step
-needed p l capacity w t e next (puts {j = j} {m = m} {s = s} early room there step) = step_needs p (l.task t) (w.tasks t) (event.Put j m) s step
 
 -- what is read and what is taken
 may_read : (w : WorldData) (t q : ℕ) → CanMake w (Read t q) → MayRead ((layout_in w.given).task t) ((world_in w).tasks t) q
 may_read w t q can =
     let m = can.1 in
-    subst (Needs w.given.plan ((layout_in w.given).task t) ((world_in w).tasks t)) m.is (needed w.given.plan (layout_in w.given) w.given.layout.capacity (world_in w) t m.event can.0 m.move)
+    subst (Needs w.given.plan ((layout_in w.given).task t) ((world_in w).tasks t)) m.is (move_needs w.given.plan (layout_in w.given) w.given.layout.capacity (world_in w) t m.event can.0 m.move)
 
 can_take : (w : WorldData) (t i : ℕ) → CanMake w (Take t i) → CanTake ((layout_in w.given).task t) ((world_in w).tasks t) i
 can_take w t i can =
     let m = can.1 in
-    (subst (Needs w.given.plan ((layout_in w.given).task t) ((world_in w).tasks t)) m.is.1 (needed w.given.plan (layout_in w.given) w.given.layout.capacity (world_in w) t m.event can.0 m.move)).can
+    (subst (Needs w.given.plan ((layout_in w.given).task t) ((world_in w).tasks t)) m.is.1 (move_needs w.given.plan (layout_in w.given) w.given.layout.capacity (world_in w) t m.event can.0 m.move)).can
 
 chosen : (b : Bool) (x y : ℕ) → b ≡ true → (if b then x else y) ≡ x
 chosen true x y e = refl
@@ -88,16 +78,11 @@ pub missed : {X : Type 0} {A : Type 0} (C : X → Type 0) (r : Option X) → ((x
 missed C None never m = m
 missed C (Some x) never m = absurd (never x refl)
 
-in_layout : (p : PlanData) (l : AbstractLayout) (capacity : ℕ) (w : flow.World) (t : ℕ) (e : Event) (next : flow.World) → Move p l capacity w t e next → t ≤ l.sink
-in_layout p l capacity w t e next (inner early is_inner step) = early
-in_layout p l capacity w t e next (takes early rest front step) = early
-in_layout p l capacity w t e next (puts early room there step) = early
-
 -- a step that can be made is one of the world's tasks
 pub is_task : (w : WorldData) (l : LayoutData) (step : Step) → IsWorld w → l ≡ w.given.layout → CanMake w step → task_of step < task_count l.stages
 is_task w l step world same can =
     let m = can.1 in
-    let early = in_layout w.given.plan (layout_in w.given) w.given.layout.capacity (world_in w) (task_of step) m.event can.0 m.move in
+    let early = move_task w.given.plan (layout_in w.given) w.given.layout.capacity (world_in w) (task_of step) m.event can.0 m.move in
     let count = world.sound.count in
     let here = ap (λ (x : LayoutData). task_count x.stages) same in
     omega (arith, early, count, here)
