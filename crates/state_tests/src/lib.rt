@@ -1,7 +1,9 @@
-//! Tests of the hashes of panes, and of the codes of the state's faults.
+//! Tests of the hashes of panes, of the bytes of savepoints, and of the codes of the state's faults.
 #![tactic(auto)]
 
 #[cfg(test)]
 mod hashes;
+#[cfg(test)]
+mod savepoints;
 #[cfg(test)]
 mod windows;
