@@ -3,4 +3,5 @@ mod LegAnswers
 mod LegEnds
 mod RunAnswers
 mod TextAnswers
+mod Loses
 mod Written

@@ -4,3 +4,4 @@ pub mod Run
 pub mod Parallel
 pub mod Show
 pub mod Leg
+pub mod Readers

@@ -4,6 +4,7 @@
 mod layout;
 mod leg;
 mod parallel;
+mod readers;
 mod reading;
 mod run;
 mod show;
@@ -14,6 +15,7 @@ pub use job_texts::{JobFault, fault_line, job_group, read_cut, status_of};
 pub use layout::job_layout;
 pub use leg::job_leg;
 pub use parallel::job_run_parallel;
+pub use readers::{MOST_BYTES, read_all};
 pub use run::job_run;
 pub use show::job_show;
 pub use simulate::job_simulate;
