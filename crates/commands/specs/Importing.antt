@@ -1,6 +1,6 @@
 -- What the command `import` answers.
 use Rattle.std.specs.Prelude.{◌≡◌, ◌⊎◌, ℕ, List, Result, Ok, Err}
-use Rattle.imports.specs.declared.refusal.ImportFault.{ImportFault}
+use Rattle.import_words.specs.declared.refusal.ImportFault.{ImportFault}
 use Rattle.job_texts.specs.Fault.{plan_fault}
 use Rattle.job_texts.specs.declared.fault.JobFault.{JobFault}
 use Rattle.job_texts.specs.declared.fault.JobFault.TheVariants.{Read, Memory}

@@ -1,11 +1,11 @@
 -- The status that the program ends with where a command is not done.
 use Rattle.std.specs.Prelude.{ℕ}
-use Rattle.imports.specs.Status as imports
+use Rattle.import_words.specs.Status as import_words
 use Rattle.job_texts.specs.FaultText.{status}
 use Rattle.commands.specs.declared.fault.CommandFault.{CommandFault}
 use Rattle.commands.specs.declared.fault.CommandFault.TheVariants.{Job, Import, NoPage}
 
 abbrev pub command_status : CommandFault → ℕ
 command_status (Job fault) = status fault
-command_status (Import fault) = imports.status fault
+command_status (Import fault) = import_words.status fault
 command_status NoPage = 2

@@ -1,12 +1,12 @@
 //! Why a command is not done.
 
 ghost use Rattle.std.specs.Prelude.{◌≡◌};
-ghost use Rattle.imports.specs.Status.{status as import_status};
+ghost use Rattle.import_words.specs.Status.{status as import_status};
 ghost use Rattle.job_texts.specs.FaultText as fault_text;
 ghost use Rattle.commands.specs.Outcome.{after_command, after_text};
 ghost use Rattle.commands.specs.Status as statuses;
 
-use imports::ImportFault;
+use import_words::ImportFault;
 use job::{JobFault, status_of};
 use user_texts::TextFault;
 
@@ -55,7 +55,7 @@ fn not_imported<R: Eprint>(rt: &R, fault: &ImportFault) -> u8
     ensures { result ≡ import_status fault.now }
 {
     let _ = rt.eprintln(fault);
-    imports::status_of(fault)
+    import_words::status_of(fault)
 }
 
 /// Says that a code is none.

@@ -6,7 +6,7 @@ ghost use Rattle.commands.specs.Importing.{AnswersImport, ReadsPlan, ReadsText, 
 use crate::fault::CommandFault;
 use crate::files::file;
 use import_command::ImportWords;
-use imports::ImportFault;
+use import_words::ImportFault;
 use job::JobFault;
 use logical_plan::ReadPlan;
 use plan_model::Plan;

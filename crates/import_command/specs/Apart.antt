@@ -2,7 +2,7 @@
 use Rattle.std.specs.Prelude.{nat_eq, ℕ, Bool, true, false, not, ◌&&◌, ◌||◌, List, bytes_eq, codes, Option, Some, None}
 use Rattle.std.specs.Borrow.{Bor}
 use Rattle.std.specs.List.{list_any, after_first, starts_with}
-use Rattle.imports.specs.Words.{parts, has_equals, is_equals}
+use Rattle.import_words.specs.Words.{parts, has_equals, is_equals}
 use Rattle.import_command.specs.declared.words.ImportWords.{ImportWords}
 
 -- what a device takes is lost in no file

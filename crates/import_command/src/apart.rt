@@ -1,11 +1,11 @@
 //! That an import writes no file that it reads, and none twice.
 
 ghost use Rattle.std.specs.Prelude.{◌≡◌};
-ghost use Rattle.imports.specs.Judging.{IsRefusal, Judges};
+ghost use Rattle.import_words.specs.Judging.{IsRefusal, Judges};
 ghost use Rattle.import_command.specs.Apart.{is_device, has_file, names_file, is_read, may_write, is_path, is_taken, may_write_late, may_write_names, are_apart};
 
 use crate::words::ImportWords;
-use imports::{ImportCode, ImportFault, refused};
+use import_words::{ImportCode, ImportFault, refused};
 use std::alloc::Global;
 
 /// Whether a path is one of a device.

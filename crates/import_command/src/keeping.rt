@@ -2,7 +2,8 @@
 
 use crate::words::ImportWords;
 use import_columns::Column;
-use imports::{ImportCode, ImportFault, LateRows, RowFault, refused};
+use import_words::{ImportCode, ImportFault, refused};
+use imports::{LateRows, RowFault};
 use new_files::{NewFile, NewStream};
 use std::io;
 use std::io::ErrorKind;

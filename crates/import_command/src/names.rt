@@ -1,9 +1,8 @@
 //! The table of names, from its file and back.
 
 use crate::keeping::{write_fault, written};
-use imports::{
-    CsvRows, ImportCode, ImportFault, read_names, refused, refused_names, text_of_names,
-};
+use import_words::{ImportCode, ImportFault, refused};
+use imports::{CsvRows, read_names, refused_names, text_of_names};
 use name_table::NameTable;
 use new_files::{LockFile, write_whole};
 use std::fs;

@@ -3,7 +3,7 @@
 use columns::MOST_ROWS;
 use field_values::are_digits;
 use import_entries::EntryRule;
-use imports::{ImportCode, ImportFault, refused};
+use import_words::{ImportCode, ImportFault, refused};
 use std::alloc::Global;
 
 /// The words of an import, behind that of its plan.

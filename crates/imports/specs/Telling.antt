@@ -4,13 +4,13 @@ use Rattle.import_entries.specs.declared.place.PlaceFault.{PlaceFault}
 use Rattle.import_entries.specs.declared.place.PlaceFault.TheVariants as place
 use Rattle.object_lines.specs.declared.fault.MemberFault.{MemberFault}
 use Rattle.object_lines.specs.declared.fault.MemberFault.TheVariants as member
-use Rattle.imports.specs.Judging.{IsRefusal}
+use Rattle.import_words.specs.Judging.{IsRefusal}
 use Rattle.imports.specs.declared.fault.RowFault.{RowFault}
 use Rattle.imports.specs.declared.fault.RowFault.TheVariants as row
-use Rattle.imports.specs.declared.refusal.ImportCode.{ImportCode}
-use Rattle.imports.specs.declared.refusal.ImportCode.TheVariants as code
-use Rattle.imports.specs.declared.refusal.ImportFault.{ImportFault}
-use Rattle.imports.specs.declared.refusal.ImportFault.TheVariants as fault
+use Rattle.import_words.specs.declared.refusal.ImportCode.{ImportCode}
+use Rattle.import_words.specs.declared.refusal.ImportCode.TheVariants as code
+use Rattle.import_words.specs.declared.refusal.ImportFault.{ImportFault}
+use Rattle.import_words.specs.declared.refusal.ImportFault.TheVariants as fault
 
 abbrev pub member_code : MemberFault → ImportCode
 member_code member.Missing = code.Object

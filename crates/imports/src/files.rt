@@ -3,11 +3,10 @@
 use crate::kinds::Records;
 use crate::late::LateRows;
 use crate::partition::copy_rows;
-use crate::refusal::ImportFault;
 use crate::telling::{refused_file, refused_row};
-use crate::words::files_of;
 use import_columns::Column;
 use import_entries::EntryRule;
+use import_words::{ImportFault, files_of};
 use name_table::NameTable;
 use plan_model::SourceSpec;
 use std::alloc::Global;

@@ -11,11 +11,9 @@ mod partition;
 mod placing;
 mod reader;
 mod records;
-mod refusal;
 mod row;
 mod telling;
 mod watched;
-mod words;
 mod writer;
 
 pub use fault::RowFault;
@@ -25,6 +23,4 @@ pub use late::LateRows;
 pub use names::{read_names, text_of_names};
 pub use partition::copy_rows;
 pub use records::CsvRows;
-pub use refusal::{ImportCode, ImportFault, refused, status_of};
 pub use telling::refused_names;
-pub use words::{check_columns, check_sources, read_columns};

@@ -1,17 +1,17 @@
 //! The sentences of refusals: where something stands, and what it has to be.
 
-ghost use Rattle.imports.specs.Judging.{IsRefusal};
+ghost use Rattle.import_words.specs.Judging.{IsRefusal};
 ghost use Rattle.imports.specs.Telling.{member_code, place_code, TellsRow, TellsNames};
 
 use crate::fault::RowFault;
 use crate::header::fields_text;
 use crate::kinds::Records;
 use crate::records::CsvRows;
-use crate::refusal::{ImportCode, ImportFault, refused};
 use csv::ByteRecord;
 use field_values::FieldFault;
 use import_columns::{Column, ColumnKind, ValueKind};
 use import_entries::PlaceFault;
+use import_words::{ImportCode, ImportFault, refused};
 use object_lines::MemberFault;
 use std::alloc::{AllocError, Global};
 use std::io::Read;

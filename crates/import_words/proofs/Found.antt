@@ -1,11 +1,11 @@
 -- What was found in words.
 use Rattle.std.proofs.Common.{ℕ, List, ◌∷◌, Option, Some, None}
 use Rattle.std.specs.Borrow.{Bor}
-use Rattle.imports.specs.Judging.{IsRefusal}
-use Rattle.imports.specs.Words.{parts, HasNoColumn, RefusesColumns}
-use Rattle.imports.specs.declared.refusal.ImportCode.TheVariants.{Columns}
-use Rattle.imports.specs.declared.refusal.ImportFault.{ImportFault}
-use Rattle.imports.specs.declared.refusal.ImportFault.TheVariants.{Refused, Write, Memory}
+use Rattle.import_words.specs.Judging.{IsRefusal}
+use Rattle.import_words.specs.Words.{parts, HasNoColumn, RefusesColumns}
+use Rattle.import_words.specs.declared.refusal.ImportCode.TheVariants.{Columns}
+use Rattle.import_words.specs.declared.refusal.ImportFault.{ImportFault}
+use Rattle.import_words.specs.declared.refusal.ImportFault.TheVariants.{Refused, Write, Memory}
 
 -- the files that were found, if there are such, with those of further words
 abbrev pub with_found : Option (Bor (List ℕ)) → List (List ℕ) → List (List ℕ)

@@ -1,9 +1,9 @@
 -- The status of a refusal.
 use Rattle.std.specs.Prelude.{ℕ}
-use Rattle.imports.specs.declared.refusal.ImportCode.{ImportCode}
-use Rattle.imports.specs.declared.refusal.ImportCode.TheVariants.{Columns, Sources, Header, Width, Value, TimeRange, LateRow, Names, Object, Number, Read, Write}
-use Rattle.imports.specs.declared.refusal.ImportFault.{ImportFault}
-use Rattle.imports.specs.declared.refusal.ImportFault.TheVariants as faults
+use Rattle.import_words.specs.declared.refusal.ImportCode.{ImportCode}
+use Rattle.import_words.specs.declared.refusal.ImportCode.TheVariants.{Columns, Sources, Header, Width, Value, TimeRange, LateRow, Names, Object, Number, Read, Write}
+use Rattle.import_words.specs.declared.refusal.ImportFault.{ImportFault}
+use Rattle.import_words.specs.declared.refusal.ImportFault.TheVariants as faults
 
 -- 2 where words are refused, and 3 where a file is
 abbrev pub code_status : ImportCode → ℕ

@@ -2,9 +2,9 @@
 
 ghost use Rattle.std.specs.Prelude.{◌≡◌, map, length, bytes_eq};
 ghost use Rattle.std.specs.List.{list_all, list_any};
-ghost use Rattle.imports.specs.Judging.{IsRefusal, Judges};
-ghost use Rattle.imports.specs.Words.{parts, ReadsColumns, are_right};
-ghost use Rattle.imports.specs.Words.{only, files_named, GivesFiles, names_some, has_files, are_sources};
+ghost use Rattle.import_words.specs.Judging.{IsRefusal, Judges};
+ghost use Rattle.import_words.specs.Words.{parts, ReadsColumns, are_right};
+ghost use Rattle.import_words.specs.Words.{only, files_named, GivesFiles, names_some, has_files, are_sources};
 
 use crate::refusal::{ImportCode, ImportFault, refused};
 use import_columns::{Column, ColumnFault, ColumnKind, read_column};
@@ -93,7 +93,7 @@ fn refused_source(alloc: Global, word: &str, what: &str) -> ImportFault
 /// # Errors
 ///
 /// `Sources` where not one word names the source; `Memory`.
-pub(crate) fn files_of<'w>(
+pub fn files_of<'w>(
     alloc: Global,
     words: &[&'w str],
     source: &SourceSpec,

@@ -1,7 +1,7 @@
 //! What an import is refused with.
 
 ghost use Rattle.std.specs.Prelude.{◌≡◌, MatchResult};
-ghost use Rattle.imports.specs.Status.{code_status, status};
+ghost use Rattle.import_words.specs.Status.{code_status, status};
 
 use std::alloc::AllocError;
 use std::fmt;
@@ -77,7 +77,7 @@ impl fmt::Display for ImportFault {
 
 impl From<AllocError> for ImportFault {
     ghost use Rattle.std.specs.Prelude.{◌≡◌};
-    ghost use Rattle.imports.specs.declared.refusal.ImportFault.TheVariants.{Memory};
+    ghost use Rattle.import_words.specs.declared.refusal.ImportFault.TheVariants.{Memory};
 
     ghost from_gives = { λ _ e. e ≡ Memory };
 

@@ -1,7 +1,7 @@
 use Rattle.std.proofs.Common.{lit<}
 use Rattle.std.proofs.lemmas.Iterator.Consumers.{count_from_yields_List}
 use Rattle.std.proofs.lemmas.Iterator.Splits.{YieldsList-from_str_split}
-use Rattle.imports.proofs.words.count_of.Goals as goal
+use Rattle.import_words.proofs.words.count_of.Goals as goal
 
 pub returns : goal.returns
 returns c = count_from_yields_List _ c.count.result c.count.ensures.ran (YieldsList-from_str_split 44 c.args.files.now (lit< tt) c.split.ensures.text c.split.ensures.has_more c.split.ensures.pattern)

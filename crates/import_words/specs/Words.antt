@@ -8,10 +8,10 @@ use Rattle.import_columns.specs.declared.fault.ColumnFault.{ColumnFault}
 use Rattle.import_columns.specs.declared.kind.ColumnKind.{ColumnKind}
 use Rattle.import_columns.specs.declared.kind.ColumnKind.TheVariants as kind
 use Rattle.plan_model.specs.declared.spec.SourceSpec.{SourceSpec}
-use Rattle.imports.specs.Judging.{IsRefusal}
-use Rattle.imports.specs.declared.refusal.ImportCode.TheVariants.{Columns, Sources}
-use Rattle.imports.specs.declared.refusal.ImportFault.{ImportFault}
-use Rattle.imports.specs.declared.refusal.ImportFault.TheVariants.{Refused, Write, Memory}
+use Rattle.import_words.specs.Judging.{IsRefusal}
+use Rattle.import_words.specs.declared.refusal.ImportCode.TheVariants.{Columns, Sources}
+use Rattle.import_words.specs.declared.refusal.ImportFault.{ImportFault}
+use Rattle.import_words.specs.declared.refusal.ImportFault.TheVariants.{Refused, Write, Memory}
 
 -- the parts of a word, with commas between
 abbrev pub parts : List ℕ → List (List ℕ)

@@ -1,8 +1,8 @@
 -- Refusals, and what they are told for.
 use Rattle.std.specs.Prelude.{◌≡◌, Bool, true, false, Result, Ok, Err}
-use Rattle.imports.specs.declared.refusal.ImportCode.{ImportCode}
-use Rattle.imports.specs.declared.refusal.ImportFault.{ImportFault}
-use Rattle.imports.specs.declared.refusal.ImportFault.TheVariants.{Refused, Write, Memory}
+use Rattle.import_words.specs.declared.refusal.ImportCode.{ImportCode}
+use Rattle.import_words.specs.declared.refusal.ImportFault.{ImportFault}
+use Rattle.import_words.specs.declared.refusal.ImportFault.TheVariants.{Refused, Write, Memory}
 
 -- a refusal with a code, or that there was no memory for its sentence
 abbrev pub IsRefusal : ImportCode → ImportFault → Type 0
