@@ -18,6 +18,7 @@ use Rattle.task_steps.specs.declared.fault.StepFault.{StepFault}
 use Rattle.task_steps.specs.declared.fault.StepFault.TheVariants.{NotEnabled, Memory}
 use Rattle.task_steps.specs.TaskData.{TaskData}
 use Rattle.task_steps.specs.Answers.{HasFailed, GoesOn}
+use Rattle.task_steps.proofs.Facts.{stands_still}
 use Rattle.core_steps.specs.Given.{layout_in, start_in}
 use Rattle.core_steps.specs.Rings.{RingsData, queue_at}
 use Rattle.core_steps.specs.World.{WorldData, world_in, state_at, IsPlaced, IsBuilt, IsEnd, IsWorld}
@@ -44,23 +45,7 @@ same_room r = record { tasks = refl; room = λ s t. refl }
 -- a place depends on what a task was told alone
 pub placed_as : (p : PlanData) (i : InputData) (k : AbstractTask) (d : TaskData) (s : State) (f : Bool) → IsPlaced p i k d → IsPlaced p i k (record d { state = s; has_failed = f })
 placed_as p i k d s f h = record {
-  stands = let st = h.stands in record {
-    columns = st.columns;
-    time = st.time;
-    key = st.key;
-    window = st.window;
-    role = st.role;
-    inputs = st.inputs;
-    outputs = st.outputs;
-    routing = st.routing;
-    keeps = st.keeps;
-    first = st.first;
-    saves = st.saves;
-    ending = st.ending;
-    source = st.source;
-    numbers = st.numbers;
-    limits = st.limits;
-  };
+  stands = stands_still p k d s f h.stands;
   reads = h.reads;
   has = h.has;
   columns = h.columns;

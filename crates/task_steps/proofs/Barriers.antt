@@ -13,7 +13,7 @@ use Rattle.dataflow_model.specs.State.{State}
 use Rattle.dataflow_model.specs.Routes.{to_all}
 use Rattle.dataflow_model.specs.Steps.{Event, Take, Takes, LocalStep, past_barrier}
 use Rattle.dataflow_model.specs.Steps.LocalStep.{holds, aligns, ends, ends_all, ends_aligned}
-use Rattle.task_steps.specs.Keeping.{barriers_in}
+use Rattle.task_steps.specs.Limits.{barriers_in}
 use Rattle.task_steps.specs.TaskData.{TaskData, Stands}
 use Rattle.task_steps.specs.declared.fault.StepFault.{StepFault}
 use Rattle.task_steps.specs.declared.fault.StepFault.TheVariants.{Memory}
@@ -116,7 +116,7 @@ pub passing : (can : PlanData → AbstractTask → State → Type 0) (e : Event)
 passing can e old new i how (Ok done) sound going free could step says = (
   sound,
   record { is = says.0.is },
-  λ p k st. subst (LocalStep p k old.state e) (sym (says.1 p k (stands_still p k old (closed_at i how old).state st))) (step p k st),
+  λ p k st. subst (LocalStep p k old.state e) (sym (says.1 p k (stands_still p k old (closed_at i how old).state old.has_failed st))) (step p k st),
 )
 passing can e old new i how (Err fault) sound going free could step says =
     subst (λ f. Answers (λ p k. Stands p k old) can e old new (Err f)) (sym says.0) (

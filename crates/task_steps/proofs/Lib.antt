@@ -13,3 +13,5 @@ pub mod Over
 mod KeptRows
 mod Keeping
 mod Going
+mod Shutting
+pub mod Facts

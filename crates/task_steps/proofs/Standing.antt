@@ -1,5 +1,5 @@
 -- What a task of the code tells of the layout's task that it stands for.
-use Rattle.std.proofs.Common.{◌≡◌, ℕ, ◌+◌, ◌<◌, ◌==◌, List, length, sym, ap, subst, ◌∙◌}
+use Rattle.std.proofs.Common.{◌≡◌, ℕ, ◌+◌, ◌<◌, ◌==◌, Bool, List, length, sym, ap, subst, ◌∙◌}
 use Rattle.std.specs.Prelude.{Option, Some, None}
 use Rattle.std.specs.List.{All, filter}
 use Rattle.plain_data.specs.Record.{Record, at}
@@ -86,9 +86,9 @@ window_step p k d i t old new now st role r a has holds added e =
     (window_rows (sym st.role ∙ role) (takes_rows_here p k d i t st r a)
     (λ q. added q ∙ (λ j. merge (same j).aggregates (get (sym holds j) q) (aggregate_at (same j) t.rows q))))
 
--- whatever its state is
-pub stands_still : (p : PlanData) (k : AbstractTask) (t : TaskData) (now : State) → Stands p k t → Stands p k (record t { state = now })
-stands_still p k t now st = record {
+-- whatever its state is, and whether it has failed
+pub stands_still : (p : PlanData) (k : AbstractTask) (t : TaskData) (now : State) (failed : Bool) → Stands p k t → Stands p k (record t { state = now; has_failed = failed })
+stands_still p k t now failed st = record {
   columns = st.columns;
   time = st.time;
   key = st.key;

@@ -21,11 +21,10 @@ use Rattle.dataflow_model.specs.Role.{is_source}
 use Rattle.dataflow_model.specs.Ending.{may_stop}
 use Rattle.dataflow_model.specs.AbstractTask.{AbstractTask, Routing, Whole, Split as Splits}
 use Rattle.dataflow_model.specs.State.{Windows, State}
-use Rattle.task_steps.specs.Keeping.{barriers_in}
 use Rattle.task_steps.specs.declared.setup.Setup.{Setup}
 use Rattle.task_steps.specs.declared.setup.Split.{Split}
 use Rattle.task_steps.specs.declared.task.Task.TheInside.{Inside}
-use Rattle.task_steps.specs.Limits.{limit_in}
+use Rattle.task_steps.specs.Limits.{barriers_in, limit_in}
 use Rattle.task_steps.specs.Dealing.{owner}
 use Rattle.task_steps.specs.Sending.{IsSplit}
 

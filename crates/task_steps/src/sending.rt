@@ -19,9 +19,9 @@ use std::alloc::{AllocError, Global};
 use std::collections::VecDeque;
 
 /// The records that pass all filters. Without filters nothing is copied.
-fn kept(alloc: Global, filters: &[FilterSpec], batch: Batch) -> Result<Batch, AllocError>
+fn passed(alloc: Global, filters: &[FilterSpec], batch: Batch) -> Result<Batch, AllocError>
     requires { All (λ f. f.column < batch.width) filters.now }
-    ensures { IfOk result (λ kept. kept ≡ with_rows batch (filter (passes filters.now) batch.rows)) }
+    ensures { IfOk result (λ rest. rest ≡ with_rows batch (filter (passes filters.now) batch.rows)) }
 {
     if filters.is_empty() {
         return Ok(batch);
@@ -138,7 +138,7 @@ pub(crate) fn records_through(
     ensures kept_turn { OnErr result (cursor.new ≡ cursor.old) }
     ensures capacity { deque_capacity pending.new ≡ deque_capacity pending.old }
 {
-    let batch = kept(alloc, setup.filters.as_slice(), batch)?;
+    let batch = passed(alloc, setup.filters.as_slice(), batch)?;
     send(
         alloc,
         setup.split,

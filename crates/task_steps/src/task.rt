@@ -70,7 +70,7 @@ impl Task {
     ghost use Rattle.dataflow_model.specs.State.{kept_of};
     ghost use Rattle.dataflow_model.specs.Routes.{to_all as each_output};
     ghost use Rattle.input_state.specs.Inputs.{all_shut, any_held};
-    ghost use Rattle.task_steps.specs.Keeping.{barriers_in};
+    ghost use Rattle.task_steps.specs.Limits.{barriers_in};
     ghost use Rattle.task_steps.specs.Passing.{Passes, refused_at};
     ghost use Rattle.task_steps.specs.Puts.{IsFirst, Puts};
     ghost use Rattle.task_steps.specs.Reading.{HasPartitions, IsReadable, IsMine, HasMine};

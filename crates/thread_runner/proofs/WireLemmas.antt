@@ -15,7 +15,7 @@ use Rattle.thread_runner.specs.declared.ends.Sender.{Sender}
 use Rattle.thread_runner.specs.declared.ends.Receiver.{Receiver}
 use Rattle.thread_runner.specs.Rings.{RingName, ring_of, ring_at, put_of, taken_of}
 use Rattle.thread_runner.specs.Edges.{job_outs, job_ins, job_puts, job_takes, job_task, out_to, in_place, IsEdge, HasEdges, HasRings, Joins}
-use Rattle.thread_runner.specs.Legs.{IsBare, Wired, GivesSender, GivesReceiver, met, Wiring}
+use Rattle.thread_runner.specs.Legs.{IsBare, GivesSender, GivesReceiver, met, Wiring}
 
 -- the rows of a table, once one of them grew at its end
 end_set : {A B : Type 0} (f : A → List B) (xs : List A) (i k : ℕ) (y d : A) (zs : List B) → i < length xs → f y ≡ f (get_or xs i d) ++ zs

@@ -19,6 +19,7 @@ use Rattle.task_steps.specs.TaskData.{TaskData, Stands}
 use Rattle.task_steps.specs.Answers.{Answers, GoesOn}
 use Rattle.task_steps.specs.Puts.{Puts, IsFirst}
 use Rattle.task_steps.specs.Taking.{IsReady}
+use Rattle.task_steps.proofs.Facts.{stands_still}
 use Rattle.thread_runner.specs.declared.ends.Sender.{Sender}
 use Rattle.thread_runner.specs.declared.ends.Receiver.{Receiver}
 use Rattle.thread_runner.specs.Rings.{put_of, taken_of, ring_of, ring_at}
@@ -65,28 +66,8 @@ run_on : {p : PlanData} {k : AbstractTask} {s u t : State} {xs ys : List Event} 
 run_on r none = r
 run_on r (more q step) = more (run_on r q) step
 
--- what does not hang on a task's state
-stands_at : (p : PlanData) (k : AbstractTask) (d : TaskData) (s : State) → Stands p k d → Stands p k (record d { state = s })
-stands_at p k d s h = record {
-  columns = h.columns;
-  time = h.time;
-  key = h.key;
-  window = h.window;
-  role = h.role;
-  inputs = h.inputs;
-  outputs = h.outputs;
-  routing = h.routing;
-  keeps = h.keeps;
-  first = h.first;
-  saves = h.saves;
-  ending = h.ending;
-  source = h.source;
-  numbers = h.numbers;
-  limits = h.limits;
-}
-
 pub is_task_on : (p : PlanData) (k : AbstractTask) (i : InputData) (d u : TaskData) → GoesOn d u → IsTaskOf p k i d → IsTaskOf p k i u
-is_task_on p k i d u on h = subst (IsTaskOf p k i) (sym on.is) (record { stands = stands_at p k d u.state h.stands; reads = h.reads })
+is_task_on p k i d u on h = subst (IsTaskOf p k i) (sym on.is) (record { stands = stands_still p k d u.state d.has_failed h.stands; reads = h.reads })
 
 pub finds_on : (i : InputData) (d u : TaskData) → GoesOn d u → Finds i d → Finds i u
 finds_on i d u on h = subst (Finds i) (sym on.is) (record { columns = h.columns; time = h.time; has = h.has })

@@ -1,13 +1,14 @@
-use Rattle.std.proofs.Common.{◌≡◌, ◌+◌, ◌*◌, ◌≤◌, length, true, refl, ap, sym, subst, ◌∙◌}
+use Rattle.std.proofs.Common.{◌≡◌, ◌+◌, length, true, refl, ap, sym, ◌∙◌}
 use Rattle.std.specs.List.{filter}
 use Rattle.columns.specs.Parts.{with_rows}
 use Rattle.plan_model.specs.Windows.{passes}
 use Rattle.dataflow_model.specs.State.{State}
 use Rattle.dataflow_model.specs.Routes.{next_cursor}
 use Rattle.task_steps.specs.Sending.{sends}
-use Rattle.task_steps.specs.TaskData.{TaskData, task_view, IsTurn}
+use Rattle.task_steps.specs.TaskData.{TaskData, task_view}
 use Rattle.task_steps.proofs.Standing.{chain_step, takes_rows_here}
 use Rattle.task_steps.proofs.Over.{going, windowing_failed}
+use Rattle.task_steps.proofs.Shutting.{failed_so}
 use Rattle.task_steps.proofs.task.Task.chain_rows.Goals as goal
 
 pub returns-in-Ok : goal.returns-in-Ok
@@ -35,26 +36,8 @@ returns-in-Ok c =
 pub invariant_of-self-in-Err : goal.invariant_of-self-in-Err
 invariant_of-self-in-Err c =
     let s = c.self.inside in
-    let inv = c.self.invariant in
-    record {
-      room = subst (λ n. 2 * s.setup.outputs + 1 ≤ n) (sym c.records_through.ensures.capacity) inv.room;
-      time = inv.time;
-      key = inv.key;
-      filters = inv.filters;
-      split = inv.split;
-      offsets = inv.offsets;
-      some = inv.some;
-      numbers = inv.numbers;
-      next = inv.next;
-      taken = inv.taken;
-      turn = subst (λ n. IsTurn s.setup.role n s.setup.outputs) (sym c.in-Err.ensures.kept_turn) inv.turn;
-      windowing = windowing_failed s.setup s.taken s.has_failed s.window inv.windowing;
-      marks = inv.marks;
-      shut = inv.shut;
-      ended = inv.ended;
-      held = inv.held;
-      failed = λ _. going s c.args.self.now c.args.i inv c.self.view_is c.requires.ready;
-    }
+    failed_so s (record s { cursor = c.records_through.new.cursor; pending = c.records_through.new.pending; has_failed = true }) c.self.invariant (going s c.args.self.now c.args.i c.self.invariant c.self.view_is c.requires.ready) refl c.records_through.ensures.capacity c.in-Err.ensures.kept_turn
+    (windowing_failed s.setup s.taken s.has_failed s.window c.self.invariant.windowing)
 
 pub returns-in-Err : goal.returns-in-Err
 returns-in-Err c =

@@ -3,31 +3,13 @@ use Rattle.dataflow_model.specs.State.{State}
 use Rattle.task_steps.specs.TaskData.{TaskData, task_view}
 use Rattle.task_steps.proofs.Marks.{sink_rows_step, takes_fired_here}
 use Rattle.task_steps.proofs.Over.{going, windowing_failed}
+use Rattle.task_steps.proofs.Shutting.{failed_so}
 use Rattle.task_steps.proofs.task.Task.sink_rows.Goals as goal
 
 pub invariant_of-self-in-Err : goal.invariant_of-self-in-Err
 invariant_of-self-in-Err c =
     let s = c.self.inside in
-    let inv = c.self.invariant in
-    record {
-      room = inv.room;
-      time = inv.time;
-      key = inv.key;
-      filters = inv.filters;
-      split = inv.split;
-      offsets = inv.offsets;
-      some = inv.some;
-      numbers = inv.numbers;
-      next = inv.next;
-      taken = inv.taken;
-      turn = inv.turn;
-      windowing = windowing_failed s.setup s.taken s.has_failed s.window inv.windowing;
-      marks = inv.marks;
-      shut = inv.shut;
-      ended = inv.ended;
-      held = inv.held;
-      failed = λ _. going s c.args.self.now c.args.i inv c.self.view_is c.requires.ready;
-    }
+    failed_so s (record s { rows = c.collect.new.rows; has_failed = true }) c.self.invariant (going s c.args.self.now c.args.i c.self.invariant c.self.view_is c.requires.ready) refl refl refl (windowing_failed s.setup s.taken s.has_failed s.window c.self.invariant.windowing)
 
 pub returns-in-Ok : goal.returns-in-Ok
 returns-in-Ok c =

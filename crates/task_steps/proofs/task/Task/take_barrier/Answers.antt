@@ -1,21 +1,19 @@
-use Rattle.std.proofs.Common.{◌≡◌, ◌<◌, false, length, refl, ap, sym, subst, ◌∙◌, arith, inl, inr}
+use Rattle.std.proofs.Common.{◌≡◌, ◌<◌, false, refl, ap, sym, subst, ◌∙◌, arith, inl, inr}
 use Rattle.std.specs.Prelude.{slice_set, MatchResult}
-use Rattle.std.proofs.Math.ListN.{length-set}
-use Rattle.std.proofs.lemmas.Bool.{false≢true}
-use Rattle.input_state.specs.declared.inputs.Shut.{Shut}
 use Rattle.input_state.specs.declared.inputs.Shut.TheVariants.{Held}
 use Rattle.input_state.specs.Inputs.{InputsData, alignment}
 use Rattle.input_state.specs.declared.inputs.Aligned.TheVariants as aligned
 use Rattle.dataflow_model.specs.declared.message.Message.TheVariants.{Barrier}
 use Rattle.dataflow_model.specs.Steps.{Take, Takes}
 use Rattle.task_steps.specs.declared.fault.StepFault.TheVariants.{Memory}
-use Rattle.task_steps.specs.Keeping.{barriers_in}
+use Rattle.task_steps.specs.Limits.{barriers_in}
 use Rattle.task_steps.specs.TaskData.{TaskData, task_view}
 use Rattle.task_steps.specs.Taking.{IsReady}
 use Rattle.task_steps.specs.Passing.{Passes, closed_at, refused_at}
 use Rattle.task_steps.proofs.Barriers.{not_all_ended, takes_barrier_here, aligns_step, holds_step, passing}
 use Rattle.task_steps.proofs.Going.{goes_on}
 use Rattle.task_steps.proofs.Over.{going}
+use Rattle.task_steps.proofs.Shutting.{shut_inputs}
 use Rattle.task_steps.proofs.task.Task.take_barrier.Goals as goal
 
 pub pass_barrier-requires-clause-going : goal.pass_barrier-requires-clause-going
@@ -24,27 +22,8 @@ pass_barrier-requires-clause-going c = (ap (λ (v : TaskData). v.has_failed) c.s
 pub invariant_of-self-in-Waiting : goal.invariant_of-self-in-Waiting
 invariant_of-self-in-Waiting c =
     let s = c.self.inside in
-    let inv = c.self.invariant in
-    let on = going s c.args.self.now c.args.i inv c.self.view_is c.requires.ready in
-    record {
-      room = inv.room;
-      time = inv.time;
-      key = inv.key;
-      filters = inv.filters;
-      split = inv.split;
-      offsets = inv.offsets;
-      some = inv.some;
-      numbers = inv.numbers;
-      next = inv.next;
-      taken = inv.taken;
-      turn = inv.turn;
-      windowing = inv.windowing;
-      marks = ap (λ (v : InputsData). length v.marks) c.barrier.ensures.held ∙ inv.marks;
-      shut = let e = ap (λ (v : InputsData). length v.shut) c.barrier.ensures.held in omega (arith, length-set {A = Shut}, inv.shut);
-      ended = λ over. absurd (false≢true (sym on ∙ over));
-      held = λ _ _ _. subst (λ (v : TaskData). v.state.next < barriers_in v.setup) (sym c.self.view_is) (c.if-not-expects.ensures.0 refl).1;
-      failed = λ _. on;
-    }
+    shut_inputs s c.barrier.new.self c.args.i Held c.self.invariant (going s c.args.self.now c.args.i c.self.invariant c.self.view_is c.requires.ready) c.barrier.ensures.held
+    (λ _ _. subst (λ (v : TaskData). v.state.next < barriers_in v.setup) (sym c.self.view_is) (c.if-not-expects.ensures.0 refl).1)
 
 pub returns-in-Barrier : goal.returns-in-Barrier
 returns-in-Barrier c =

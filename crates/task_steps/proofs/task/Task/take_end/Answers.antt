@@ -1,10 +1,7 @@
-use Rattle.std.proofs.Common.{◌≡◌, ◌++◌, [], true, false, length, refl, ap, sym, subst, ◌∙◌, arith}
+use Rattle.std.proofs.Common.{◌≡◌, ◌++◌, [], true, false, refl, ap, sym, subst, ◌∙◌}
 use Rattle.std.specs.Prelude.{slice_set, MatchResult}
-use Rattle.std.proofs.Math.ListN.{length-set}
-use Rattle.std.proofs.lemmas.Bool.{false≢true}
-use Rattle.input_state.specs.declared.inputs.Shut.{Shut}
 use Rattle.input_state.specs.declared.inputs.Shut.TheVariants.{Ended}
-use Rattle.input_state.specs.Inputs.{InputsData, alignment, any_held}
+use Rattle.input_state.specs.Inputs.{InputsData, alignment}
 use Rattle.input_state.specs.declared.inputs.Aligned.TheVariants as aligned
 use Rattle.dataflow_model.specs.declared.message.Message.TheVariants.{End}
 use Rattle.dataflow_model.specs.State.{State}
@@ -17,59 +14,16 @@ use Rattle.task_steps.specs.Passing.{Passes, closed_at, refused_at}
 use Rattle.task_steps.proofs.Barriers.{held_before, held_of, takes_end_here, ends_step, ends_all_step, ends_aligned_step, passing}
 use Rattle.task_steps.proofs.Going.{goes_on}
 use Rattle.task_steps.proofs.Over.{going}
+use Rattle.task_steps.proofs.Shutting.{end_input}
 use Rattle.task_steps.proofs.task.Task.take_end.Goals as goal
 
 pub invariant_of-self : goal.invariant_of-self
 invariant_of-self c =
-    let s = c.self.inside in
-    let inv = c.self.invariant in
-    let on = going s c.args.self.now c.args.i inv c.self.view_is c.requires.ready in
-    let now : c.end.new.self.shut ≡ slice_set s.inputs.shut c.args.i Ended = ap (λ (v : InputsData). v.shut) c.end.ensures.ended in
-    record {
-      room = inv.room;
-      time = inv.time;
-      key = inv.key;
-      filters = inv.filters;
-      split = inv.split;
-      offsets = inv.offsets;
-      some = inv.some;
-      numbers = inv.numbers;
-      next = inv.next;
-      taken = inv.taken;
-      turn = inv.turn;
-      windowing = inv.windowing;
-      marks = ap (λ (v : InputsData). length v.marks) c.end.ensures.ended ∙ inv.marks;
-      shut = let e = ap (λ (v : InputsData). length v.shut) c.end.ensures.ended in omega (arith, length-set {A = Shut}, inv.shut);
-      ended = λ over. absurd (false≢true (sym on ∙ over));
-      held = λ going_on taker any. inv.held going_on taker (held_before s.inputs.shut c.args.i (sym (ap any_held now) ∙ any));
-      failed = λ _. on;
-    }
+    end_input c.self.inside c.end.new.self c.args.i c.self.invariant (going c.self.inside c.args.self.now c.args.i c.self.invariant c.self.view_is c.requires.ready) c.end.ensures.ended
 
 pub invariant_of-self-in-Waiting : goal.invariant_of-self-in-Waiting
 invariant_of-self-in-Waiting c =
-    let s = c.self.inside in
-    let inv = c.self.invariant in
-    let on = going s c.args.self.now c.args.i inv c.self.view_is c.requires.ready in
-    let now : c.end.new.self.shut ≡ slice_set s.inputs.shut c.args.i Ended = ap (λ (v : InputsData). v.shut) c.end.ensures.ended in
-    record {
-      room = inv.room;
-      time = inv.time;
-      key = inv.key;
-      filters = inv.filters;
-      split = inv.split;
-      offsets = inv.offsets;
-      some = inv.some;
-      numbers = inv.numbers;
-      next = inv.next;
-      taken = inv.taken;
-      turn = inv.turn;
-      windowing = inv.windowing;
-      marks = ap (λ (v : InputsData). length v.marks) c.end.ensures.ended ∙ inv.marks;
-      shut = let e = ap (λ (v : InputsData). length v.shut) c.end.ensures.ended in omega (arith, length-set {A = Shut}, inv.shut);
-      ended = λ over. absurd (false≢true (sym on ∙ over));
-      held = λ going_on taker any. inv.held going_on taker (held_before s.inputs.shut c.args.i (sym (ap any_held now) ∙ any));
-      failed = λ _. on;
-    }
+    end_input c.self.inside c.end.new.self c.args.i c.self.invariant (going c.self.inside c.args.self.now c.args.i c.self.invariant c.self.view_is c.requires.ready) c.end.ensures.ended
 
 pub pass_barrier-requires-clause-going : goal.pass_barrier-requires-clause-going
 pass_barrier-requires-clause-going c = (ap (λ (v : TaskData). v.has_failed) c.self.view_is ∙ c.requires.going, going c.self.inside c.args.self.now c.args.i c.self.invariant c.self.view_is c.requires.ready)

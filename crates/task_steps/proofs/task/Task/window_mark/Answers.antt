@@ -5,7 +5,7 @@ use Rattle.plan_model.specs.declared.spec.WindowSpec.{WindowSpec}
 use Rattle.std.specs.Int.{w64}
 use Rattle.std.proofs.lemmas.Int.{to_z-of_z}
 use Rattle.dataflow_model.specs.Role.{is_source}
-use Rattle.task_steps.specs.Keeping.{barriers_in}
+use Rattle.task_steps.specs.Limits.{barriers_in}
 use Rattle.input_state.specs.Inputs.{InputsData, all_shut, any_held, inputs_from, raised, rise}
 use Rattle.window_state.specs.State.{StateData}
 use Rattle.dataflow_model.specs.State.{State}
@@ -14,6 +14,7 @@ use Rattle.task_steps.specs.TaskData.{TaskData, task_view, windows_in, IsWindowi
 use Rattle.task_steps.specs.Firing.{FiresHere}
 use Rattle.task_steps.proofs.Marks.{windowing_fired, window_stays, mark_step, takes_mark_here}
 use Rattle.task_steps.proofs.Over.{going, windowing_spoiled}
+use Rattle.task_steps.proofs.Shutting.{failed_so}
 use Rattle.task_steps.proofs.task.Task.window_mark.Goals as goal
 
 pub invariant_of-self-in-Ok : goal.invariant_of-self-in-Ok
@@ -73,27 +74,9 @@ returns-in-Ok c =
 pub invariant_of-self-in-Err : goal.invariant_of-self-in-Err
 invariant_of-self-in-Err c =
     let s = c.self.inside in
-    let inv = c.self.invariant in
-    let was : IsWindowing s.setup s.taken s.has_failed (Some c.in-Some.window) = rw c.in-Some.is at inv.windowing in
-    record {
-      room = subst (λ n. 2 * s.setup.outputs + 1 ≤ n) (sym c.fire_at.ensures.capacity) inv.room;
-      time = inv.time;
-      key = inv.key;
-      filters = inv.filters;
-      split = inv.split;
-      offsets = inv.offsets;
-      some = inv.some;
-      numbers = inv.numbers;
-      next = inv.next;
-      taken = inv.taken;
-      turn = inv.turn;
-      windowing = windowing_spoiled s.setup s.taken s.has_failed c.in-Some.window c.fire_at.new.window was (ap (λ (v : StateData). v.window) c.in-Err.ensures.same);
-      marks = inv.marks;
-      shut = inv.shut;
-      ended = inv.ended;
-      held = inv.held;
-      failed = λ _. going s c.args.self.now c.args.i inv c.self.view_is c.requires.ready;
-    }
+    let was : IsWindowing s.setup s.taken s.has_failed (Some c.in-Some.window) = rw c.in-Some.is at c.self.invariant.windowing in
+    failed_so s (record s { window = Some c.fire_at.new.window; pending = c.fire_at.new.pending; has_failed = true }) c.self.invariant (going s c.args.self.now c.args.i c.self.invariant c.self.view_is c.requires.ready) refl c.fire_at.ensures.capacity refl
+    (windowing_spoiled s.setup s.taken s.has_failed c.in-Some.window c.fire_at.new.window was (ap (λ (v : StateData). v.window) c.in-Err.ensures.same))
 
 pub returns-in-Err : goal.returns-in-Err
 returns-in-Err c =

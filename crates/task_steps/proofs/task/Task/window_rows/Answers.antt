@@ -1,4 +1,4 @@
-use Rattle.std.proofs.Common.{◌≡◌, ◌+◌, length, true, false, ap, sym, ◌∙◌, arith}
+use Rattle.std.proofs.Common.{◌≡◌, ◌+◌, length, true, false, refl, ap, sym, ◌∙◌, arith}
 use Rattle.std.specs.Prelude.{Some, option_map}
 use Rattle.plan_model.specs.declared.spec.WindowSpec.{WindowSpec}
 use Rattle.window_state.specs.State.{StateData}
@@ -7,6 +7,7 @@ use Rattle.task_steps.specs.TaskData.{TaskData, task_view, windows_in, IsWindowi
 use Rattle.task_steps.proofs.Counts.{windowing_after, room_for}
 use Rattle.task_steps.proofs.Standing.{window_step, takes_rows_here}
 use Rattle.task_steps.proofs.Over.{going, windowing_spoiled}
+use Rattle.task_steps.proofs.Shutting.{failed_so}
 use Rattle.task_steps.proofs.task.Task.window_rows.Goals as goal
 
 pub add-requires-clause-room : goal.add-requires-clause-room
@@ -69,27 +70,9 @@ returns-in-Ok c =
 pub invariant_of-self-in-Err : goal.invariant_of-self-in-Err
 invariant_of-self-in-Err c =
     let s = c.self.inside in
-    let inv = c.self.invariant in
-    let was : IsWindowing s.setup s.taken s.has_failed (Some c.in-Some.window) = rw c.in-Some.is at inv.windowing in
-    record {
-      room = inv.room;
-      time = inv.time;
-      key = inv.key;
-      filters = inv.filters;
-      split = inv.split;
-      offsets = inv.offsets;
-      some = inv.some;
-      numbers = inv.numbers;
-      next = inv.next;
-      taken = inv.taken;
-      turn = inv.turn;
-      windowing = windowing_spoiled s.setup s.taken s.has_failed c.in-Some.window c.add.new.self was c.add.ensures.window_stays;
-      marks = inv.marks;
-      shut = inv.shut;
-      ended = inv.ended;
-      held = inv.held;
-      failed = λ _. going s c.args.self.now c.args.i inv c.self.view_is c.requires.ready;
-    }
+    let was : IsWindowing s.setup s.taken s.has_failed (Some c.in-Some.window) = rw c.in-Some.is at c.self.invariant.windowing in
+    failed_so s (record s { window = Some c.add.new.self; has_failed = true }) c.self.invariant (going s c.args.self.now c.args.i c.self.invariant c.self.view_is c.requires.ready) refl refl refl
+    (windowing_spoiled s.setup s.taken s.has_failed c.in-Some.window c.add.new.self was c.add.ensures.window_stays)
 
 pub returns : goal.returns
 returns c =
