@@ -11,7 +11,8 @@ use Rattle.plan_model.specs.Rows.{pane_cmp, row_is_at, AreRowsOf}
 use Rattle.stream_model.specs.InputData.{InputData}
 use Rattle.stream_model.specs.PlanRows.{plan_rows, snapshot}
 use Rattle.stream_model.proofs.Facts.{nothing_at_first}
-use Rattle.dataflow_model.specs.Leg.Until.{ToEnd}
+use Rattle.dataflow_model.specs.Leg.{Until}
+use Rattle.dataflow_model.specs.Leg.Until.{ToEnd, TillAsked}
 use Rattle.dataflow_model.specs.State.{State, Windows}
 use Rattle.dataflow_model.specs.Start.{IsLegStart}
 use Rattle.dataflow_model.specs.History.{History, IsComplete}
@@ -19,10 +20,7 @@ use Rattle.dataflow_laws.specs.Legs.{AreAt, HaveMarks, HaveNothing}
 use Rattle.dataflow_laws.specs.Inputs.{due_between, HaveCut}
 use Rattle.dataflow_laws.specs.Compiled.{cut_to, layout_to}
 use Rattle.dataflow_laws.specs.World.{with_task}
-use Rattle.dataflow_laws.proofs.Facts.{worlds_are_histories, compiled_leg_delivers, compiled_leg_delivers_all, compiled_leg_so_far}
-use Rattle.legs.specs.declared.stop.Stop.{Stop}
-use Rattle.legs.specs.declared.stop.Stop.TheVariants.{Never}
-use Rattle.legs.specs.Stops.{until_of}
+use Rattle.dataflow_laws.proofs.Facts.{worlds_are_histories, compiled_leg_delivers_at, compiled_leg_delivers_all, compiled_leg_so_far}
 use Rattle.input_flow.specs.InputEntries.{input_of, counts_at}
 use Rattle.input_flow.proofs.Facts.{empty_counts}
 use Rattle.redistribute.specs.StartData.{StartData, offsets_of}
@@ -35,9 +33,10 @@ use Rattle.leg_tasks.proofs.Facts.{tasks_save_the_cut}
 use Rattle.core_steps.specs.declared.finish.Finish.{Finish}
 use Rattle.core_steps.specs.Given.{GivenData, layout_in, start_in}
 use Rattle.core_steps.specs.World.{WorldData, world_in, IsGiven, IsSound, IsEnd, IsWorld}
-use Rattle.core_steps.specs.Finishing.{HasEnded, finish_of, finish_with, number_after, rows_in, rows_of, savepoint_of}
-use Rattle.core_steps.specs.Ending.{IsEndOf, IsWholeRun}
-use Rattle.core_steps.proofs.Ending.{end_is_cut, never_asked}
+use Rattle.core_steps.specs.Finishing.{HasEnded, finish_of, finish_with, has_stopped, number_after, rows_in, rows_of, savepoint_of}
+use Rattle.core_steps.specs.Ending.{IsEndOf, IsAskedEnd, IsWholeRun}
+use Rattle.core_steps.specs.Laws.{AskedLegsEnd}
+use Rattle.core_steps.proofs.Ending.{came, comes, comes_there, goes_to_cut}
 use Rattle.core_steps.proofs.Sound.{compiled, sound}
 
 none_there : {X : Type 0} (b : Bool) (x y : Option X) → x ≡ None → y ≡ (if b then x else None) → y ≡ None
@@ -55,19 +54,21 @@ module _ (g : GivenData) (states : ℕ → State) (ended : HasEnded g states) wh
   abbrev given : IsGiven g
   given = ended.given
 
-  abbrev cut : List (List ℕ)
-  cut = cut_to g.input (until_of g.stop)
+  -- the cut that the tasks have come to
+  abbrev pub cut : List (List ℕ)
+  cut = (came g states ended).0
 
   snapshot_at : HasSnapshot g.plan g.input g.start → HaveCut g.plan g.input (layout_in g) (start_in g) (offsets_of g.start)
-  snapshot_at has = (tasks_have_snapshot g.plan g.layout g.input g.start g.saves g.stop given.plan given.laid_out given.belongs given.starts has).0
+  snapshot_at has = (tasks_have_snapshot g.plan g.layout g.input g.start g.saves g.until given.plan given.laid_out given.belongs given.starts has).0
 
   -- what a leg delivers and leaves whose start has the snapshot of its cut
   leg : HasSnapshot g.plan g.input g.start
       → AreRowsOf (due_between g.plan g.input.sources (offsets_of g.start) cut) (rows_of g states) × HaveCut g.plan g.input (layout_in g) states cut × HaveMarks (input_of g.plan g.input) (layout_in g) states (counts_at g.plan cut)
   leg has =
+      let to = came g states ended in
       subst (λ (f : ℕ → State). AreRowsOf (due_between g.plan g.input.sources (offsets_of g.start) cut) (f (layout_in g).sink).rows × HaveCut g.plan g.input (layout_in g) f cut × HaveMarks (input_of g.plan g.input) (layout_in g) f (counts_at g.plan cut)) ended.ends
-      (compiled_leg_delivers g.plan given.laid_out.scale g.input g.start.number (offsets_of g.start) g.saves (until_of g.stop) g.layout.stages (start_in g) given.plan given.laid_out.fits (compiled g given) given.input given.orderly given.belongs
-      given.starts.cut (end_is_cut g.input (offsets_of g.start) g.stop given.stops) (never_asked g.stop) (sound g given).start (snapshot_at has) ended.history ended.complete)
+      (compiled_leg_delivers_at g.plan given.laid_out.scale g.input g.start.number (offsets_of g.start) g.saves g.until g.layout.stages (start_in g) given.plan given.laid_out.fits (compiled g given) given.input given.orderly given.belongs
+      given.starts.cut (sound g given).start (snapshot_at has) ended.history ended.complete cut to.1.is_cut to.2)
 
   pub delivers : HasSnapshot g.plan g.input g.start → AreRowsOf (due_between g.plan g.input.sources (offsets_of g.start) cut) (rows_of g states)
   delivers has = (leg has).0
@@ -75,16 +76,23 @@ module _ (g : GivenData) (states : ℕ → State) (ended : HasEnded g states) wh
   pub saves : HasSnapshot g.plan g.input g.start → IsSavedAt g.plan g.input cut (number_after g.start.number g.saves) (savepoint_of g states)
   saves has =
       let all = leg has in
-      tasks_save_the_cut g.plan g.layout g.input g.start.number g.saves (until_of g.stop) cut states (number_after g.start.number g.saves) given.plan given.laid_out given.belongs (end_is_cut g.input (offsets_of g.start) g.stop given.stops) all.1 all.2
+      tasks_save_the_cut g.plan g.layout g.input g.start.number g.saves g.until cut states (number_after g.start.number g.saves) given.plan given.laid_out given.belongs (came g states ended).1.is_cut all.1 all.2
+
+  -- a leg that is asked for no stop has come to where it was to go
+  pub at_its_end : (g.until ≡ TillAsked → ⊥) → cut ≡ cut_to g.input g.until
+  at_its_end never = comes_there g.input (offsets_of g.start) g.until (has_stopped g ended.history.end) cut never (came g states ended).1
 
   -- how such a leg has ended
-  pub end_of : (finish : Finish) → finish ≡ finish_of g states → IsEndOf g.plan g.input g.start g.saves g.stop finish
+  pub end_of : (finish : Finish) → finish ≡ finish_of g states → IsEndOf g.plan g.input g.start g.saves g.until finish
   end_of finish is = record {
     rows = rows_of g states;
     savepoint = savepoint_of g states;
+    stopped = has_stopped g states;
+    cut = cut;
     is = is;
+    comes = comes g states ended;
     delivered = delivers;
-    saved = λ end stops has. subst (λ (x : Stop). IsSavedAt g.plan g.input (cut_to g.input (until_of x)) (number_after g.start.number g.saves) (savepoint_of g states)) stops (saves has);
+    saved = λ _. saves;
   }
 
   all_rows : (n : ℕ) → n ≡ 0 → (start : ℕ → State) → let a = layout_to g.plan g.input n g.saves ToEnd g.layout.stages in IsLegStart g.plan a start → HaveNothing (input_of g.plan g.input) a start → (h : History g.plan a start) → IsComplete h
@@ -104,16 +112,26 @@ module _ (g : GivenData) (states : ℕ → State) (ended : HasEnded g states) wh
       }
 
 -- one that starts from nothing and runs to the end has delivered all rows of the plan
-to_end : (g : GivenData) (states : ℕ → State) → let n = record g { stop = Never } in HasEnded n states → IsFromNothing g.input g.start → AreRowsOf (plan_rows g.plan g.input.sources) (rows_of n states)
+to_end : (g : GivenData) (states : ℕ → State) → let n = record g { until = ToEnd } in HasEnded n states → IsFromNothing g.input g.start → AreRowsOf (plan_rows g.plan g.input.sources) (rows_of n states)
 to_end g states ended nothing =
-    let n = record g { stop = Never } in
+    let n = record g { until = ToEnd } in
     subst (λ (f : ℕ → State). AreRowsOf (plan_rows g.plan g.input.sources) (f (layout_in n).sink).rows) ended.ends
     (all_rows n states ended g.start.number nothing.number (start_in n) (sound n ended.given).start (nothing_here n states ended nothing) ended.history ended.complete)
 
-pub whole_run : (g : GivenData) (states : ℕ → State) → HasEnded g states → (finish : Finish) → finish ≡ finish_of g states → IsFromNothing g.input g.start → g.stop ≡ Never → IsWholeRun g.plan g.input finish
-whole_run g states ended finish is nothing never =
-    let rows = subst (λ (x : Stop). let n = record g { stop = x } in HasEnded n states → AreRowsOf (plan_rows g.plan g.input.sources) (rows_of n states)) (sym never) (λ e. to_end g states e nothing) ended in
-    subst (IsWholeRun g.plan g.input) (sym (is ∙ ap (λ (x : Stop). finish_with x (rows_of g states) (savepoint_of g states)) never)) rows
+pub whole_run : (g : GivenData) (states : ℕ → State) → HasEnded g states → (finish : Finish) → finish ≡ finish_of g states → IsFromNothing g.input g.start → g.until ≡ ToEnd → IsWholeRun g.plan g.input finish
+whole_run g states ended finish is nothing ends =
+    let rows = subst (λ (x : Until). let n = record g { until = x } in HasEnded n states → AreRowsOf (plan_rows g.plan g.input.sources) (rows_of n states)) (sym ends) (λ e. to_end g states e nothing) ended in
+    let goes_on = (comes g states ended).to_end ends in
+    subst (IsWholeRun g.plan g.input) (sym (is ∙ ap (λ (b : Bool). finish_with b (rows_of g states) (savepoint_of g states)) goes_on)) rows
+
+-- ---- of legs that may be asked to stop
+
+pub asked_legs_end : AskedLegsEnd
+asked_legs_end p i s finish e = subst (IsAskedEnd p i s) (sym e.is) (by_stopped p i s finish e e.stopped refl)
+  where
+    by_stopped : (p : PlanData) (i : InputData) (s : StartData) (finish : Finish) (e : IsEndOf p i s [] TillAsked finish) (b : Bool) → e.stopped ≡ b → IsAskedEnd p i s (finish_with b e.rows e.savepoint)
+    by_stopped p i s finish e false same = λ has. subst (λ c. AreRowsOf (due_between p i.sources (offsets_of s) c) e.rows) (e.comes.ended same) (e.delivered has)
+    by_stopped p i s finish e true same = (e.cut, e.comes.is_cut, e.comes.no_earlier, λ has. (e.delivered has, e.saved same has))
 
 -- ---- of worlds
 
@@ -137,15 +155,15 @@ led_by true w sound (v, reached, left) =
 
 -- at every moment the sink has of each pane nothing, or just the row that becomes due on the leg's way
 pub world_so_far : (w : WorldData) → IsWorld w → HasSnapshot w.given.plan w.given.input w.given.start → (q : Pane)
-    → (filter (row_is_at q) (rows_in w) ≡ []) ⊎ (filter (row_is_at q) (rows_in w) ≡ option_to_list (due_between w.given.plan w.given.input.sources (offsets_of w.given.start) (cut_to w.given.input (until_of w.given.stop)) q))
+    → (filter (row_is_at q) (rows_in w) ≡ []) ⊎ (filter (row_is_at q) (rows_in w) ≡ option_to_list (due_between w.given.plan w.given.input.sources (offsets_of w.given.start) (cut_to w.given.input w.given.until) q))
 world_so_far w world has q =
     let g = w.given in
     let given = world.sound.given in
     let led = led_by w.has_failed w world.sound world.reached in
-    let begins = (tasks_have_snapshot g.plan g.layout g.input g.start g.saves g.stop given.plan given.laid_out given.belongs given.starts has).0 in
+    let begins = (tasks_have_snapshot g.plan g.layout g.input g.start g.saves g.until given.plan given.laid_out given.belongs given.starts has).0 in
     let same = ap (filter (row_is_at q)) (sym led.1) in
-    elim (compiled_leg_so_far g.plan given.laid_out.scale g.input g.start.number (offsets_of g.start) g.saves (until_of g.stop) g.layout.stages (start_in g) given.plan given.laid_out.fits (compiled g given) given.input given.orderly given.belongs
-    given.starts.cut (end_is_cut g.input (offsets_of g.start) g.stop given.stops) world.sound.start begins led.0 q) [
+    elim (compiled_leg_so_far g.plan given.laid_out.scale g.input g.start.number (offsets_of g.start) g.saves g.until g.layout.stages (start_in g) given.plan given.laid_out.fits (compiled g given) given.input given.orderly given.belongs
+    given.starts.cut (goes_to_cut g.input (offsets_of g.start) g.until given.stops) world.sound.start begins led.0 q) [
       | inl e ↦ inl (same ∙ e)
       | inr e ↦ inr (same ∙ e)
     ]

@@ -1,5 +1,5 @@
 -- When all tasks of a leg are done, they leave what can be saved.
-use Rattle.std.proofs.Common.{◌≡◌, ℕ, suc, ◌+◌, ◌<◌, ◌≤◌, ℤ, List, [], ◌∷◌, length, Some, sym, ap, subst, ◌∙◌, inl, inr, arith}
+use Rattle.std.proofs.Common.{◌≡◌, ℕ, suc, ◌+◌, ◌<◌, ◌≤◌, ℤ, Bool, true, false, List, [], ◌∷◌, length, Some, refl, sym, ap, subst, ◌∙◌, inl, inr, arith}
 use Rattle.std.specs.Prelude.{slice_index_or}
 use Rattle.std.specs.FinMap.{get}
 use Rattle.std.proofs.lemmas.Bool.{cases_lt, eq-eqb}
@@ -8,11 +8,11 @@ use Rattle.key_groups.specs.Laws.{Has}
 use Rattle.plan_model.specs.declared.spec.Row.{Row}
 use Rattle.plan_model.specs.declared.limits.TheConstants.{MOST_RECORDS}
 use Rattle.stream_model.specs.InputData.{InputData}
-use Rattle.stream_model.specs.Watermarks.{IsCut}
+use Rattle.stream_model.specs.Watermarks.{IsCut, records_before}
 use Rattle.dataflow_model.specs.declared.role.Role.TheVariants as role
 use Rattle.dataflow_model.specs.AbstractLayout.{AbstractLayout}
-use Rattle.dataflow_model.specs.Leg.{leg_of}
-use Rattle.dataflow_model.specs.Leg.Until.{TillAsked}
+use Rattle.dataflow_model.specs.Leg.{Until, leg_of}
+use Rattle.dataflow_model.specs.Leg.Until.{ToEnd, ToCut, TillAsked}
 use Rattle.dataflow_model.specs.State.{State}
 use Rattle.dataflow_model.specs.Steps.{IsDone}
 use Rattle.layout_rules.specs.Layouts.{partition_counts}
@@ -21,50 +21,84 @@ use Rattle.layout_rules.specs.Stages.{task_role, task_count, partitions_of, grou
 use Rattle.layout_rules.specs.declared.stage.Stage.{Stage}
 use Rattle.layout_rules.proofs.Facts.{compiled_ever}
 use Rattle.plan_compiler.specs.LayoutData.{LayoutData, layout_of}
-use Rattle.input_flow.specs.InputEntries.{entries_of}
+use Rattle.input_flow.specs.InputEntries.{entries_of, input_of, counts_at}
 use Rattle.input_flow.proofs.Facts.{full_is_cut}
 use Rattle.dataflow_laws.specs.Compiled.{cut_to, layout_to}
+use Rattle.dataflow_laws.specs.Legs.{AreAt}
 use Rattle.dataflow_laws.specs.Owned.{HaveOwnPanes}
-use Rattle.dataflow_laws.proofs.Facts.{few_before, compiled_leg_keeps_panes}
+use Rattle.dataflow_laws.specs.Stopped.{ComesTo}
+use Rattle.dataflow_laws.proofs.Facts.{few_before, compiled_leg_comes, compiled_leg_keeps_panes_at}
 use Rattle.legs.specs.declared.stop.Stop.{Stop}
 use Rattle.legs.specs.declared.stop.Stop.TheVariants.{Never, At}
+use Rattle.legs.specs.Requirements.{stops}
 use Rattle.legs.specs.Stops.{until_of}
 use Rattle.redistribute.specs.StartData.{offsets_of}
-use Rattle.redistribute.specs.Stopping.{CanStop}
+use Rattle.redistribute.specs.Stopping.{CanGo, CanStop}
 use Rattle.redistribute.proofs.Facts.{places, has, owns, tasks_have_own_panes}
 use Rattle.task_steps.specs.TaskData.{TaskData}
 use Rattle.savepoint_codec.specs.declared.savepoint.Contents.{Contents}
-use Rattle.legs.specs.declared.cut.Cut.{Cut}
 use Rattle.leg_tasks.specs.Leaving.{CanSave, HaveStates, savepoint_left}
 use Rattle.core_steps.specs.Given.{GivenData, layout_in, start_in}
 use Rattle.core_steps.specs.World.{WorldData, world_in, state_at, IsGiven, IsSound, IsWorld}
 use Rattle.core_steps.specs.declared.finish.Finish.TheVariants.{Ended, Stopped}
-use Rattle.core_steps.specs.Finishing.{AreAtEnd, HasEnded, HasFinished, finish_of, finish_with, number_after, rows_of, savepoint_of}
+use Rattle.core_steps.specs.Finishing.{AreAtEnd, HasEnded, HasFinished, finish_of, finish_with, has_stopped, number_after, rows_of, savepoint_of}
 use Rattle.core_steps.proofs.States.{state_here}
 use Rattle.core_steps.proofs.Sound.{compiled, sound}
 use Rattle.core_steps.proofs.Worlds.{history_of}
 
--- where a leg that can stop so comes to is a cut of the input
-pub end_is_cut : (i : InputData) (cut : List (List ℕ)) (stop : Stop) → CanStop i.sources cut stop → IsCut i.sources (cut_to i (until_of stop))
-end_is_cut i cut Never can = full_is_cut i.sources
-end_is_cut i cut (At end) can = can.0
+-- where a leg that can go so far comes to, if it is asked for no stop, is a cut of the input
+pub goes_to_cut : (i : InputData) (cut : List (List ℕ)) (until : Until) → CanGo i.sources cut until → IsCut i.sources (cut_to i until)
+goes_to_cut i cut ToEnd can = full_is_cut i.sources
+goes_to_cut i cut (ToCut end) can = can.0
+goes_to_cut i cut TillAsked can = full_is_cut i.sources
 
+-- so is where one comes to that can stop so
+pub end_is_cut : (i : InputData) (cut : List (List ℕ)) (stop : Stop) → CanStop i.sources cut stop → IsCut i.sources (cut_to i (until_of stop))
+end_is_cut i cut stop can = goes_to_cut i cut (until_of stop) can
+
+-- which is asked for none
 pub never_asked : (stop : Stop) → until_of stop ≡ TillAsked → ⊥
 never_asked Never e = cc
 never_asked (At cut) e = cc
 
+-- a leg that is asked for no stop comes to where it was to go
+pub comes_there : (i : InputData) (begin : List (List ℕ)) (until : Until) (stopped : Bool) (cut : List (List ℕ)) → (until ≡ TillAsked → ⊥) → ComesTo i begin until stopped cut → cut ≡ cut_to i until
+comes_there i begin ToEnd stopped cut never to = to.ended (to.to_end refl)
+comes_there i begin (ToCut end) stopped cut never to = (to.to_cut end refl).1
+comes_there i begin TillAsked stopped cut never to = absurd (never refl)
+
+-- and one that was to stop so has stopped, or has not
+pub stops_so : (i : InputData) (begin : List (List ℕ)) (stop : Stop) (stopped : Bool) (cut : List (List ℕ)) → ComesTo i begin (until_of stop) stopped cut → stopped ≡ stops stop
+stops_so i begin Never stopped cut to = to.to_end refl
+stops_so i begin (At end) stopped cut to = (to.to_cut end.counts refl).0
+
 -- ---- a leg that has ended
 
--- each of the window's tasks has its own panes, of few records
-own_panes : (g : GivenData) (states : ℕ → State) → HasEnded g states → HaveOwnPanes (layout_in g) states MOST_RECORDS
-own_panes g states ended u lo hi q a here =
-    let given = ended.given in
-    let opens = tasks_have_own_panes g.plan g.layout g.input g.start g.saves g.stop given.plan given.laid_out given.belongs given.starts in
-    let kept = compiled_leg_keeps_panes g.plan given.laid_out.scale g.input g.start.number (offsets_of g.start) g.saves (until_of g.stop) g.layout.stages (start_in g) given.plan given.laid_out.fits (compiled g given) given.input given.orderly given.belongs
-    given.starts.cut (end_is_cut g.input (offsets_of g.start) g.stop given.stops) (never_asked g.stop) (sound g given).start opens.0 opens.1 ended.history ended.complete in
-    let one = kept.2 u lo hi q a (subst (λ (f : ℕ → State). get (f u).windows q ≡ Some a) (sym ended.ends) here) in
-    let few = few_before g.input (cut_to g.input (until_of g.stop)) given.input in
-    (one.0, omega (arith, one.1, few))
+module _ (g : GivenData) (states : ℕ → State) (ended : HasEnded g states) where
+  abbrev was : IsGiven g
+  was = ended.given
+
+  -- what the tasks begin with
+  begins : AreAt (input_of g.plan g.input) (layout_in g) (start_in g) (counts_at g.plan (offsets_of g.start)) × HaveOwnPanes (layout_in g) (start_in g) (length (records_before g.input.sources (offsets_of g.start)))
+  begins = tasks_have_own_panes g.plan g.layout g.input g.start g.saves g.until was.plan was.laid_out was.belongs was.starts
+
+  -- the cut that they have come to
+  pub came : (cut : List (List ℕ)) × ComesTo g.input (offsets_of g.start) g.until (has_stopped g ended.history.end) cut × AreAt (input_of g.plan g.input) (layout_in g) ended.history.end (counts_at g.plan cut)
+  came =
+      compiled_leg_comes g.plan was.laid_out.scale g.input g.start.number (offsets_of g.start) g.saves g.until g.layout.stages (start_in g) was.plan was.laid_out.fits (compiled g was) was.input was.orderly was.belongs
+      was.starts.cut (goes_to_cut g.input (offsets_of g.start) g.until was.stops) (sound g was).start begins.0 ended.history ended.complete
+
+  pub comes : ComesTo g.input (offsets_of g.start) g.until (has_stopped g states) came.0
+  comes = subst (λ (f : ℕ → State). ComesTo g.input (offsets_of g.start) g.until (has_stopped g f) came.0) ended.ends came.1
+
+  -- each of the window's tasks has its own panes, of few records
+  own_panes : HaveOwnPanes (layout_in g) states MOST_RECORDS
+  own_panes u lo hi q a here =
+      let kept = compiled_leg_keeps_panes_at g.plan was.laid_out.scale g.input g.start.number (offsets_of g.start) g.saves g.until g.layout.stages (start_in g) was.plan was.laid_out.fits (compiled g was) was.input was.orderly was.belongs
+      was.starts.cut (sound g was).start begins.0 begins.1 ended.history ended.complete came.0 came.1.is_cut came.2 in
+      let one = kept.1 u lo hi q a (subst (λ (f : ℕ → State). get (f u).windows q ≡ Some a) (sym ended.ends) here) in
+      let few = few_before g.input came.0 was.input in
+      (one.0, omega (arith, one.1, few))
 
 -- ---- its tasks
 
@@ -105,13 +139,13 @@ module _ (g : GivenData) (tasks : List TaskData) (at : AreAtEnd g tasks) where
   partitions_read : (t : ℕ) → task_role stages t ≡ role.Source → length (partitions_of (partition_counts g.plan) stages t) ≡ (l.task t).inputs
   partitions_read =
       let c = given.laid_out.scale in
-      by_scale (λ m. (t : ℕ) → task_role m.stages t ≡ role.Source → length (partitions_of (partition_counts g.plan) m.stages t) ≡ ((layout_to g.plan g.input g.start.number g.saves (until_of g.stop) m.stages).task t).inputs)
-      (λ t h. places g.plan c (entries_of g.input) (leg_of g.start.number g.saves (until_of g.stop) (entries_of g.input).size) given.plan given.laid_out.fits (compiled_ever g.plan c) t h)
+      by_scale (λ m. (t : ℕ) → task_role m.stages t ≡ role.Source → length (partitions_of (partition_counts g.plan) m.stages t) ≡ ((layout_to g.plan g.input g.start.number g.saves g.until m.stages).task t).inputs)
+      (λ t h. places g.plan c (entries_of g.input) (leg_of g.start.number g.saves g.until (entries_of g.input).size) given.plan given.laid_out.fits (compiled_ever g.plan c) t h)
 
   groups_are : (u : ℕ) (key : ℤ) → l.before ≤ u → u < l.sink → l.owner key ≡ u → Has (groups_of g.plan.max stages u) (key_group g.plan.max key)
   groups_are =
       let c = given.laid_out.scale in
-      by_scale (λ m. let a = layout_to g.plan g.input g.start.number g.saves (until_of g.stop) m.stages in (u : ℕ) (key : ℤ) → a.before ≤ u → u < a.sink → a.owner key ≡ u → Has (groups_of g.plan.max m.stages u) (key_group g.plan.max key))
+      by_scale (λ m. let a = layout_to g.plan g.input g.start.number g.saves g.until m.stages in (u : ℕ) (key : ℤ) → a.before ≤ u → u < a.sink → a.owner key ≡ u → Has (groups_of g.plan.max m.stages u) (key_group g.plan.max key))
       (λ u key lo hi own. has (groups_of g.plan.max (stages_of g.plan c) u) (key_group g.plan.max key) (owns g.plan c u key given.plan given.laid_out.fits lo hi ∙ eq-eqb _ u own))
 
   pub can_save : CanSave g.plan stages tasks
@@ -155,20 +189,26 @@ pub numbered : (n : ℕ) (cuts : List (List (List ℕ))) → n + length cuts + 1
 numbered n [] = omega arith
 numbered n (cut ∷ cuts) = let rest = numbered (n + 1) cuts in omega (arith, rest)
 
+-- what is said of the last task is so of the sink
+pub of_sink : {X : Type 0} (f : State → X) (x : X) (g : GivenData) (tasks : List TaskData) → AreAtEnd g tasks → ((t : ℕ) (d : TaskData) → suc t ≡ length tasks → x ≡ f (slice_index_or tasks t d).state) → x ≡ f (state_at g tasks (layout_in g).sink)
+of_sink f x g tasks at last =
+    let all : suc (layout_in g).sink ≡ length tasks = sym (at.count ∙ (sound g at.ended.given).count) in
+    of_last f x g tasks (layout_in g).sink all (λ d. last (layout_in g).sink d all)
+  where
+    of_last : {X : Type 0} (f : State → X) (x : X) (g : GivenData) (ts : List TaskData) (t : ℕ) → suc t ≡ length ts → ((d : TaskData) → x ≡ f (slice_index_or ts t d).state) → x ≡ f (state_at g ts t)
+    of_last f x g [] t l is = absurd (omega (arith, l))
+    of_last f x g (d ∷ ts) t l is = is d ∙ ap f (sym (state_here g (d ∷ ts) t d (omega (arith, l))))
+
 module _ (g : GivenData) (tasks : List TaskData) (at : AreAtEnd g tasks) (rows : List Row) (last : (t : ℕ) (d : TaskData) → suc t ≡ length tasks → rows ≡ (slice_index_or tasks t d).state.rows) where
   -- the rows of the last task are those of the sink
-  last_rows : (ts : List TaskData) (t : ℕ) → suc t ≡ length ts → ((d : TaskData) → rows ≡ (slice_index_or ts t d).state.rows) → rows ≡ (state_at g ts t).rows
-  last_rows [] t l is = absurd (omega (arith, l))
-  last_rows (d ∷ ts) t l is = is d ∙ ap (λ (s : State). s.rows) (sym (state_here g (d ∷ ts) t d (omega (arith, l))))
-
   rows_are : rows ≡ rows_of g (state_at g tasks)
-  rows_are = let all : suc (layout_in g).sink ≡ length tasks = sym (at.count ∙ (sound g at.ended.given).count) in last_rows tasks (layout_in g).sink all (λ d. last (layout_in g).sink d all)
+  rows_are = of_sink (λ (s : State). s.rows) rows g tasks at last
 
-  pub ended_is : g.stop ≡ Never → Ended rows ≡ finish_of g (state_at g tasks)
-  ended_is never = ap Ended rows_are ∙ ap (λ (x : Stop). finish_with x (rows_of g (state_at g tasks)) (savepoint_of g (state_at g tasks))) (sym never)
+  pub ended_is : has_stopped g (state_at g tasks) ≡ false → Ended rows ≡ finish_of g (state_at g tasks)
+  ended_is goes_on = ap Ended rows_are ∙ ap (λ (b : Bool). finish_with b (rows_of g (state_at g tasks)) (savepoint_of g (state_at g tasks))) (sym goes_on)
 
-  pub stopped_is : (savepoint : Contents) (held : List TaskData) (n : ℕ) {cut : Cut} → held ≡ tasks → ((states : ℕ → State) → HaveStates g.layout.stages held states → savepoint ≡ savepoint_left g.plan g.layout.stages states n) → n ≡ number_after g.start.number g.saves → g.stop ≡ At cut
+  pub stopped_is : (savepoint : Contents) (held : List TaskData) (n : ℕ) → held ≡ tasks → ((states : ℕ → State) → HaveStates g.layout.stages held states → savepoint ≡ savepoint_left g.plan g.layout.stages states n) → n ≡ number_after g.start.number g.saves → has_stopped g (state_at g tasks) ≡ true
       → Stopped rows savepoint ≡ finish_of g (state_at g tasks)
-  stopped_is savepoint held n {cut = cut} same is number stops =
+  stopped_is savepoint held n same is number stopped =
       let saved : savepoint ≡ savepoint_of g (state_at g tasks) = is (state_at g tasks) (subst (λ ts. HaveStates g.layout.stages ts (state_at g tasks)) (sym same) (have_states g tasks at)) ∙ ap (savepoint_left g.plan g.layout.stages (state_at g tasks)) number in
-      (λ j. Stopped (rows_are j) (saved j)) ∙ ap (λ (x : Stop). finish_with x (rows_of g (state_at g tasks)) (savepoint_of g (state_at g tasks))) (sym stops)
+      (λ j. Stopped (rows_are j) (saved j)) ∙ ap (λ (b : Bool). finish_with b (rows_of g (state_at g tasks)) (savepoint_of g (state_at g tasks))) (sym stopped)

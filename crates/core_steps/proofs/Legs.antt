@@ -7,7 +7,6 @@ use Rattle.task_steps.specs.TaskData.{TaskData}
 use Rattle.task_steps.specs.Reading.{HasPartitions, ReadsFrom}
 use Rattle.dataflow_laws.specs.Compiled.{layout_to}
 use Rattle.legs.specs.declared.cut.Cut.{Cut}
-use Rattle.legs.specs.Stops.{until_of}
 use Rattle.task_setups.specs.Legs.{counts_of}
 use Rattle.leg_tasks.specs.Beginning.{BeginLeg}
 use Rattle.core_steps.specs.Given.{GivenData, layout_in}
@@ -36,7 +35,7 @@ are_new_tasks g tasks sound belongs begin =
 
 -- the tasks of a leg that was told as much as the world was given begin as a world asks
 pub begins : (g : GivenData) (n : ℕ) (saves cuts : List Cut) (tasks : List TaskData) → n ≡ g.start.number → saves ≡ cuts → counts_of cuts ≡ g.saves
-    → BeginLeg g.plan g.input g.start g.layout.stages (layout_to g.plan g.input n (counts_of saves) (until_of g.stop) g.layout.stages) tasks → BeginLeg g.plan g.input g.start g.layout.stages (layout_in g) tasks
+    → BeginLeg g.plan g.input g.start g.layout.stages (layout_to g.plan g.input n (counts_of saves) g.until g.layout.stages) tasks → BeginLeg g.plan g.input g.start g.layout.stages (layout_in g) tasks
 begins g n saves cuts tasks number same are begin =
-    subst (λ k. BeginLeg g.plan g.input g.start g.layout.stages (layout_to g.plan g.input k g.saves (until_of g.stop) g.layout.stages) tasks) number
-    (subst (λ xs. BeginLeg g.plan g.input g.start g.layout.stages (layout_to g.plan g.input n xs (until_of g.stop) g.layout.stages) tasks) (ap counts_of same ∙ are) begin)
+    subst (λ k. BeginLeg g.plan g.input g.start g.layout.stages (layout_to g.plan g.input k g.saves g.until g.layout.stages) tasks) number
+    (subst (λ xs. BeginLeg g.plan g.input g.start g.layout.stages (layout_to g.plan g.input n xs g.until g.layout.stages) tasks) (ap counts_of same ∙ are) begin)

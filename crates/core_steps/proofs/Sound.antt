@@ -6,10 +6,8 @@ use Rattle.layout_rules.proofs.Facts.{compiled_ever, compiled_is_layout, sink_is
 use Rattle.plan_compiler.specs.LayoutData.{LayoutData}
 use Rattle.input_flow.specs.InputEntries.{entries_of}
 use Rattle.legs.specs.declared.cut.Cut.{Cut}
-use Rattle.legs.specs.declared.stop.Stop.{Stop}
-use Rattle.legs.specs.Stops.{until_of}
+use Rattle.dataflow_model.specs.Leg.{Until, leg_of}
 use Rattle.stream_model.specs.declared.entry.Entry.{Entry}
-use Rattle.dataflow_model.specs.Leg.{leg_of}
 use Rattle.redistribute.specs.Stopping.{CanSaveAt}
 use Rattle.redistribute.proofs.Facts.{no_saves, tasks_open}
 use Rattle.task_setups.specs.Legs.{counts_of}
@@ -17,8 +15,8 @@ use Rattle.core_steps.specs.Given.{GivenData, layout_in}
 use Rattle.core_steps.specs.World.{IsGiven, IsSound}
 
 -- a leg to which no cuts are given takes no savepoint on its way, and so can be begun
-pub takes_none : (sources : List (List (List Entry))) (begin : List (List ℕ)) (cuts : List Cut) (stop : Stop) → cuts ≡ [] → CanSaveAt sources begin (counts_of cuts) stop
-takes_none sources begin cuts stop none = subst (λ cs. CanSaveAt sources begin (counts_of cs) stop) (sym none) (no_saves sources begin stop)
+pub takes_none : (sources : List (List (List Entry))) (begin : List (List ℕ)) (cuts : List Cut) (until : Until) → cuts ≡ [] → CanSaveAt sources begin (counts_of cuts) until
+takes_none sources begin cuts until none = subst (λ cs. CanSaveAt sources begin (counts_of cs) until) (sym none) (no_saves sources begin until)
 
 -- the stages of its layout are those of a scale
 pub compiled : (g : GivenData) (given : IsGiven g) → IsCompiled g.plan given.laid_out.scale g.layout.stages
@@ -29,12 +27,12 @@ sound g given =
     let plan = given.plan in
     let laid = given.laid_out in
     let c = laid.scale in
-    let all = compiled_is_layout g.plan c (entries_of g.input) (leg_of g.start.number g.saves (until_of g.stop) (entries_of g.input).size) g.layout.stages plan laid.fits (compiled g given) in
+    let all = compiled_is_layout g.plan c (entries_of g.input) (leg_of g.start.number g.saves g.until (entries_of g.input).size) g.layout.stages plan laid.fits (compiled g given) in
     record {
       given = given;
       layout = all.0;
       count = sink_is_last g.plan c g.layout.stages plan laid.fits (compiled g given);
-      start = tasks_open g.plan g.layout g.input g.start g.saves g.stop plan laid given.belongs given.starts given.stops given.saves;
-      input = input_is_admitted g.plan g.input (leg_of g.start.number g.saves (until_of g.stop) (entries_of g.input).size) (layout_in g) given.input given.belongs all.1;
+      start = tasks_open g.plan g.layout g.input g.start g.saves g.until plan laid given.belongs given.starts given.stops given.saves;
+      input = input_is_admitted g.plan g.input (leg_of g.start.number g.saves g.until (entries_of g.input).size) (layout_in g) given.input given.belongs all.1;
       capacity = subst (λ n. 0 < n) (sym (ap (λ (l : LayoutData). l.capacity) laid.is)) laid.fits.capacity.some;
     }

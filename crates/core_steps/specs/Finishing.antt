@@ -1,5 +1,5 @@
 -- How a leg ends.
-use Rattle.std.specs.Prelude.{◌≡◌, ℕ, ◌+◌, ◌<◌, List, [], ◌∷◌, length, slice_index_or, false}
+use Rattle.std.specs.Prelude.{◌≡◌, ℕ, ◌+◌, ◌<◌, nat_lt, Bool, List, [], ◌∷◌, length, slice_index_or, true, false}
 use Rattle.plan_model.specs.declared.spec.Row.{Row}
 use Rattle.dataflow_model.specs.State.{State}
 use Rattle.dataflow_model.specs.History.{History, IsComplete}
@@ -8,8 +8,6 @@ use Rattle.layout_rules.specs.Stages.{task_count}
 use Rattle.savepoint_codec.specs.declared.savepoint.Contents.{Contents}
 use Rattle.task_steps.specs.TaskData.{TaskData}
 use Rattle.leg_tasks.specs.Leaving.{savepoint_left}
-use Rattle.legs.specs.declared.stop.Stop.{Stop}
-use Rattle.legs.specs.declared.stop.Stop.TheVariants.{Never, At}
 use Rattle.core_steps.specs.declared.finish.Finish.{Finish}
 use Rattle.core_steps.specs.declared.finish.Finish.TheVariants.{Ended, Stopped}
 use Rattle.core_steps.specs.Given.{GivenData, layout_in, start_in}
@@ -28,13 +26,17 @@ number_after n (cut ∷ cuts) = number_after (n + 1) cuts
 abbrev pub savepoint_of : GivenData → (ℕ → State) → Contents
 savepoint_of g states = savepoint_left g.plan g.layout.stages states (number_after g.start.number g.saves)
 
--- how a leg ended that was to stop so, with these rows and, if it stopped, this savepoint
-abbrev pub finish_with : Stop → List Row → Contents → Finish
-finish_with Never rows savepoint = Ended rows
-finish_with (At cut) rows savepoint = Stopped rows savepoint
+-- whether the leg has stopped: its sink has passed one barrier more than the savepoints on the way have
+abbrev pub has_stopped : GivenData → (ℕ → State) → Bool
+has_stopped g states = nat_lt (length g.saves) (states (layout_in g).sink).next
+
+-- how a leg ended that has stopped, or has not, with these rows and, if it stopped, this savepoint
+abbrev pub finish_with : Bool → List Row → Contents → Finish
+finish_with false rows savepoint = Ended rows
+finish_with true rows savepoint = Stopped rows savepoint
 
 abbrev pub finish_of : GivenData → (ℕ → State) → Finish
-finish_of g states = finish_with g.stop (rows_of g states) (savepoint_of g states)
+finish_of g states = finish_with (has_stopped g states) (rows_of g states) (savepoint_of g states)
 
 -- a leg has ended with its tasks in these states, in one world or on threads: what it was given is such as legs are given, and a complete history, which has no order between tasks, leads there from where they began
 pub record HasEnded (g : GivenData) (states : ℕ → State) : Type 0 where

@@ -14,9 +14,10 @@ use Rattle.dataflow_laws.specs.World.{with_task, with_ring, Reached}
 use Rattle.dataflow_laws.specs.Admission.{IsAdmittedInput}
 use Rattle.layout_rules.specs.Stages.{task_count, outputs_of}
 use Rattle.plan_compiler.specs.LayoutData.{IsLayoutOf}
+use Rattle.legs.specs.Stops.{until_in}
 use Rattle.redistribute.specs.StartData.{offsets_of}
 use Rattle.redistribute.specs.Begins.{IsStartIn}
-use Rattle.redistribute.specs.Stopping.{CanStop, CanSaveAt}
+use Rattle.redistribute.specs.Stopping.{CanGo, CanSaveAt}
 use Rattle.task_steps.specs.TaskData.{TaskData, Stands}
 use Rattle.task_steps.specs.Reading.{HasPartitions, ReadsFrom}
 use Rattle.core_steps.specs.Given.{GivenData, given_data, layout_in, start_in}
@@ -31,7 +32,7 @@ pub record WorldData : Type 0 where
   pub has_failed : Bool
 
 abbrev pub world_view : Inside → WorldData
-world_view w = record { given = given_data w.given w.leg.stop; tasks = w.tasks.items; rings = w.rings; has_failed = w.has_failed }
+world_view w = record { given = given_data w.given (until_in w.leg.until); tasks = w.tasks.items; rings = w.rings; has_failed = w.has_failed }
 
 -- the states of tasks, and what the rings hold, the newest message first
 abbrev pub state_at : GivenData → List TaskData → ℕ → State
@@ -44,7 +45,7 @@ held r s t = reverse (queue_at r s t).messages
 abbrev pub world_in : WorldData → flow.World
 world_in w = record { tasks = state_at w.given w.tasks; rings = held w.rings }
 
--- a plan and an input that were read, of which the layout and the start are, and the leg can stop as it is to and take its savepoints on the way
+-- a plan and an input that were read, of which the layout and the start are, and the leg can go as far as it is to and take its savepoints on the way
 pub record IsGiven (g : GivenData) : Type 0 where
   pub plan : IsPlan g.plan
   pub input : IsInput g.input
@@ -52,8 +53,8 @@ pub record IsGiven (g : GivenData) : Type 0 where
   pub belongs : BelongsTo g.plan g.input
   pub laid_out : IsLayoutOf g.plan g.layout
   pub starts : IsStartIn g.plan g.input g.start
-  pub stops : CanStop g.input.sources (offsets_of g.start) g.stop
-  pub saves : CanSaveAt g.input.sources (offsets_of g.start) g.saves g.stop
+  pub stops : CanGo g.input.sources (offsets_of g.start) g.until
+  pub saves : CanSaveAt g.input.sources (offsets_of g.start) g.saves g.until
 
 -- the layout is one, its tasks begin one leg in opening states, and they admit the input
 pub record IsSound (g : GivenData) : Type 0 where

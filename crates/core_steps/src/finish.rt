@@ -1,7 +1,8 @@
 //! How a leg ends.
 
-ghost use Rattle.std.specs.Prelude.{◌≡◌, ◌<◌, ℕ, IfOk, length, slice_index_or, suc};
-ghost use Rattle.legs.specs.declared.stop.Stop.TheVariants.{Never};
+ghost use Rattle.std.specs.Prelude.{◌≡◌, ◌<◌, ℕ, nat_lt, IfOk, length, slice_index_or, suc};
+ghost use Rattle.dataflow_model.specs.Leg.Until.{ToEnd};
+ghost use Rattle.legs.specs.Stops.{until_in};
 ghost use Rattle.redistribute.specs.Begins.{IsFromNothing};
 ghost use Rattle.task_setups.specs.Legs.{counts_of};
 ghost use Rattle.task_steps.specs.TaskData.{TaskData};
@@ -13,7 +14,7 @@ ghost use Rattle.core_steps.specs.Ending.{IsEndOf, IsWholeRun};
 
 use crate::given::Given;
 use leg_tasks::save;
-use legs::Stop;
+use legs::Until;
 use plain_data::Items;
 use plan_model::Row;
 use savepoint_codec::Savepoint;
@@ -25,7 +26,7 @@ use task_steps::Task;
 pub enum Finish {
     /// It came to the end of its input.
     Ended(Items<Row>),
-    /// It came to the cut that it was to stop at, and leaves this savepoint.
+    /// It stopped at a cut, and leaves the savepoint of there.
     Stopped(Items<Row>, Savepoint),
 }
 
@@ -38,12 +39,24 @@ fn sink_rows(tasks: Vec<Task>) -> Items<Row>
     Items::from_vec(tasks.pop().unwrap().into_rows())
 }
 
+/// Whether the last task, which is the sink, has passed the barrier of a stop: one more than so many savepoints on the way have.
+fn has_stopped(tasks: &[Task], saves: usize) -> bool
+    requires { 0 < length tasks.now }
+    ensures { (t : ℕ) (d : TaskData) → suc t ≡ length tasks.now → result ≡ nat_lt saves (slice_index_or tasks.now t d).state.next }
+{
+    match tasks.last() {
+        Some(sink) => (saves as u64) < sink.barriers_passed(),
+        None => false,
+    }
+}
+
 /// How a leg ended whose tasks stand at the end of a complete history, in whatever order and in whatever threads they made
-/// their steps: with the rows that its sink has collected and, where it was to stop at a cut, with the savepoint that its tasks
-/// leave, numbered after the one that the leg went on from and those that it took on its way.
+/// their steps: with the rows that its sink has collected and, where the sink has passed the barrier of a stop, with the savepoint
+/// that its tasks leave at the cut that they have come to, numbered after the one that the leg went on from and those that it
+/// took on its way.
 ///
 /// The tasks are those of the layout, in their order, and all are done. The layout is one of the plan, the input was read by it,
-/// the start is one of the input, and the leg could take its savepoints and stop so.
+/// the start is one of the input, and the leg could take its savepoints and go so far.
 ///
 /// # Errors
 ///
@@ -51,13 +64,13 @@ fn sink_rows(tasks: Vec<Task>) -> Items<Row>
 pub fn finish_of(
     alloc: Global,
     given: Given<'_>,
-    stop: &Stop,
+    until: &Until,
     tasks: Vec<Task>,
 ) -> Result<Finish, AllocError>
-    requires { AreAtEnd (given_data given stop.now) tasks.items }
-    ensures is { let g = given_data given.entry stop.now in IfOk result (λ finish. finish ≡ leg.finish_of g (state_at g tasks.items)) }
-    ensures ends { IfOk result (λ finish. IsEndOf given.entry.plan.now given.entry.input.now given.entry.start.now (counts_of given.entry.saves.now) stop.now finish) }
-    ensures whole { IfOk result (λ finish. IsFromNothing given.entry.input.now given.entry.start.now → stop.now ≡ Never → IsWholeRun given.entry.plan.now given.entry.input.now finish) }
+    requires { AreAtEnd (given_data given (until_in until.now)) tasks.items }
+    ensures is { let g = given_data given.entry (until_in until.now) in IfOk result (λ finish. finish ≡ leg.finish_of g (state_at g tasks.items)) }
+    ensures ends { IfOk result (λ finish. IsEndOf given.entry.plan.now given.entry.input.now given.entry.start.now (counts_of given.entry.saves.now) (until_in until.now) finish) }
+    ensures whole { IfOk result (λ finish. IsFromNothing given.entry.input.now given.entry.start.now → until_in until.now ≡ ToEnd → IsWholeRun given.entry.plan.now given.entry.input.now finish) }
 {
     let Given {
         plan,
@@ -66,12 +79,10 @@ pub fn finish_of(
         saves,
         ..
     } = given;
-    match stop {
-        Stop::Never => Ok(Finish::Ended(sink_rows(tasks))),
-        Stop::At(_) => {
-            let number = start.number() + saves.len() as u64 + 1;
-            let savepoint = save(alloc, plan, layout, tasks.as_slice(), number)?;
-            Ok(Finish::Stopped(sink_rows(tasks), savepoint))
-        }
+    let number = start.number() + saves.len() as u64 + 1;
+    if !has_stopped(tasks.as_slice(), saves.len()) {
+        return Ok(Finish::Ended(sink_rows(tasks)));
     }
+    let savepoint = save(alloc, plan, layout, tasks.as_slice(), number)?;
+    Ok(Finish::Stopped(sink_rows(tasks), savepoint))
 }

@@ -4,12 +4,14 @@
 //! `dataflow_laws/specs/World` lead to it from the opening states, in the layout of its own plan, input, start and stop.
 #![tactic(auto)]
 
+mod asked;
 mod finish;
 mod given;
 pub mod laws;
 mod rings;
 mod world;
 
+pub use asked::tasks_asked;
 pub use finish::{Finish, finish_of};
 pub use given::Given;
 pub use world::World;

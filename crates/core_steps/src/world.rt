@@ -8,7 +8,7 @@ use crate::given::Given;
 use crate::rings::Rings;
 use dataflow_laws::Step;
 use leg_tasks::tasks;
-use legs::{LegFault, Stop};
+use legs::{LegFault, Stop, Until};
 use std::alloc::{AllocError, Global};
 use std::marker::Model;
 use task_setups::Leg;
@@ -55,7 +55,8 @@ impl<'a> World<'a> {
     ghost use Rattle.stream_model.specs.InputData.{BelongsTo};
     ghost use Rattle.redistribute.specs.StartData.{offsets_of};
     ghost use Rattle.redistribute.specs.Begins.{IsStartIn, IsFromNothing};
-    ghost use Rattle.legs.specs.declared.stop.Stop.TheVariants.{Never};
+    ghost use Rattle.dataflow_model.specs.Leg.Until.{ToEnd};
+    ghost use Rattle.legs.specs.Stops.{until_of};
     ghost use Rattle.redistribute.specs.Stopping.{CanSaveAt, CanStop, IsRefusal};
     ghost use Rattle.task_setups.specs.Legs.{IsLayoutOf, counts_of};
     ghost use Rattle.core_steps.specs.Given.{given_data, layout_in};
@@ -82,10 +83,10 @@ impl<'a> World<'a> {
         requires laid_out { IsLayoutOf given.plan.now given.layout.now }
         requires belongs { BelongsTo given.plan.now given.input.now }
         requires starts { IsStartIn given.plan.now given.input.now given.start.now }
-        requires saves { CanSaveAt given.input.now.sources (offsets_of given.start.now) (counts_of given.saves.now) stop }
+        requires saves { CanSaveAt given.input.now.sources (offsets_of given.start.now) (counts_of given.saves.now) (until_of stop) }
         ensures stops { OnOk result (CanStop given.entry.input.now.sources (offsets_of given.entry.start.now) stop) }
-        ensures opens { IfOk result (λ world. IsNewWorld (given_data given.entry stop) world) }
-        ensures refused { IfErr result (λ fault. IsRefusal given.entry.input.now.sources (offsets_of given.entry.start.now) stop fault) }
+        ensures opens { IfOk result (λ world. IsNewWorld (given_data given.entry (until_of stop)) world) }
+        ensures refused { IfErr result (λ fault. IsRefusal given.entry.input.now.sources (offsets_of given.entry.start.now) (until_of stop) fault) }
     {
         let plan = given.plan;
         let input = given.input;
@@ -94,7 +95,7 @@ impl<'a> World<'a> {
         let leg = Leg {
             number: given.start.number(),
             saves: given.saves,
-            stop,
+            until: Until::from(stop),
         };
         let tasks = tasks(alloc, keys, plan, input, given.start, given.layout, &leg)?;
         let rings = Rings::new(alloc, given.layout)?;
@@ -401,8 +402,8 @@ impl<'a> World<'a> {
     /// Only where memory runs out.
     pub fn finish(self, alloc: Global) -> Result<Option<Finish>, AllocError>
         ensures is { IfOk result (λ answer. MatchOption answer (HasFinished self.entry → ⊥) (λ finish. HasFinished self.entry × (finish ≡ finish_in self.entry))) }
-        ensures ends { let g = self.entry.given in IfOk result (λ answer. IfSome answer (λ finish. IsEndOf g.plan g.input g.start g.saves g.stop finish)) }
-        ensures whole { let g = self.entry.given in IfOk result (λ answer. IfSome answer (λ finish. IsFromNothing g.input g.start → g.stop ≡ Never → IsWholeRun g.plan g.input finish)) }
+        ensures ends { let g = self.entry.given in IfOk result (λ answer. IfSome answer (λ finish. IsEndOf g.plan g.input g.start g.saves g.until finish)) }
+        ensures whole { let g = self.entry.given in IfOk result (λ answer. IfSome answer (λ finish. IsFromNothing g.input g.start → g.until ≡ ToEnd → IsWholeRun g.plan g.input finish)) }
     {
         if self.has_failed() || !self.is_finished() {
             return Ok(None);
@@ -413,7 +414,7 @@ impl<'a> World<'a> {
             tasks,
             ..
         } = self;
-        Ok(Some(finish_of(alloc, given, &leg.stop, tasks)?))
+        Ok(Some(finish_of(alloc, given, &leg.until, tasks)?))
     }
 
     /// Whether every task is done. Where not, and the world has not failed, there is a step.

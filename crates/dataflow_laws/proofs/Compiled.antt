@@ -29,7 +29,7 @@ limit_last size until [] x q = refl
 limit_last size until (cut ∷ cuts) x q = limit_last size until cuts x q
 
 -- so far are the partitions read in the end
-goes : (p : PlanData) (i : InputData) (n : ℕ) (saves : List (List (List ℕ))) (until : Until) (stages : List Stage) → Deals (input_of p i) (leg_of n saves until (entries_of i).size) (layout_to p i n saves until stages) → GoesTo p i (layout_to p i n saves until stages) (cut_to i until)
+pub goes : (p : PlanData) (i : InputData) (n : ℕ) (saves : List (List (List ℕ))) (until : Until) (stages : List Stage) → Deals (input_of p i) (leg_of n saves until (entries_of i).size) (layout_to p i n saves until stages) → GoesTo p i (layout_to p i n saves until stages) (cut_to i until)
 goes p i n saves until stages deals t k b a kl = limit_last (entries_of i).size until saves (L.task t).source ((L.task t).partition k) ∙ there until d
   where
     L : AbstractLayout

@@ -24,7 +24,7 @@ use Rattle.dataflow_laws.proofs.Complete.{ended_append, idle_of}
 
 -- ---- logs
 
-barrier_append : (n : ℕ) (xs ys : List Message) → has_barrier n ys ≡ true → has_barrier n (xs ++ ys) ≡ true
+pub barrier_append : (n : ℕ) (xs ys : List Message) → has_barrier n ys ≡ true → has_barrier n (xs ++ ys) ≡ true
 barrier_append n [] ys h = h
 barrier_append n (Rows t ∷ xs) ys h = barrier_append n xs ys h
 barrier_append n (Fired rows ∷ xs) ys h = barrier_append n xs ys h
@@ -57,7 +57,7 @@ behind n [] m log last before e is = let same : log ≡ before = cc in subst (λ
 behind n (x ∷ ms) m log last before e is = behind n ms x (m ∷ log) last before (ended_append n (m ∷ []) log e) is
 
 -- behind the last message none is pending
-nothing_behind : (n : ℕ) (ms log : List Message) → ended n log ≡ true → Closed n (onto ms log) → ms ≡ []
+pub nothing_behind : (n : ℕ) (ms log : List Message) → ended n log ≡ true → Closed n (onto ms log) → ms ≡ []
 nothing_behind n [] log e c = refl
 nothing_behind n (m ∷ ms) log e c = absurd (false≢true (sym c.first ∙ behind n ms m log c.last c.before e c.is))
 
@@ -67,9 +67,9 @@ closed_ended n log c = ap (ended n) c.is ∙ ap (λ b. cond b true (ended n c.be
 -- ---- a task
 
 -- each barrier on which a task has aligned came on each input, unless that has ended, and was given to each output
-record Meets (k : AbstractTask) (es : List Event) (s : State) : Type 0 where
-  came : is_source k.role ≡ false → (m : ℕ) → m < s.next → (i : ℕ) → i < k.inputs → ended (k.first + m) (taken i es) ≡ true
-  gave : (m : ℕ) → m < s.next → (j : ℕ) → j < k.outputs → has_barrier (k.first + m) (given j es s) ≡ true
+pub record Meets (k : AbstractTask) (es : List Event) (s : State) : Type 0 where
+  pub came : is_source k.role ≡ false → (m : ℕ) → m < s.next → (i : ℕ) → i < k.inputs → ended (k.first + m) (taken i es) ≡ true
+  pub gave : (m : ℕ) → m < s.next → (j : ℕ) → j < k.outputs → has_barrier (k.first + m) (given j es s) ≡ true
 
 taken_more : (n x : ℕ) (e : Event) (es : List Event) → ended n (taken x es) ≡ true → ended n (taken x (e ∷ es)) ≡ true
 taken_more n x Open es h = h
@@ -150,7 +150,7 @@ has_met p k from f fn fk (more {es = es} {s = s} {e = e} {s' = s'} run st) =
     let he = has_ends p k from f run in
     record { waits = waits_step p k es s e s' st he r.waits; meets = meets_step p k es s e s' st he r.waits r.meets }
 
-met : (p : PlanData) (k : AbstractTask) (from : State) (es : List Event) (s : State) → IsOpening p k.role k from → Run p k from es s → Meets k es s
+pub met : (p : PlanData) (k : AbstractTask) (from : State) (es : List Event) (s : State) → IsOpening p k.role k from → Run p k from es s → Meets k es s
 met p k from es s o run =
     let a = opened_as p k.role k from o in
     (has_met p k from (idle_of p k.role k from o) (ap (λ (t : State). t.next) a.is) (ap (λ (t : State). t.kept) a.is) run).meets

@@ -76,7 +76,7 @@ ended_now n x i m log q e = let d = eq-eqb x i q in rw d (rw e refl)
 
 -- ---- inputs that are shut
 
-shut_cases : (x : Shut) → ((x ≡ Free) ⊎ (x ≡ Held)) ⊎ (x ≡ Ended)
+pub shut_cases : (x : Shut) → ((x ≡ Free) ⊎ (x ≡ Held)) ⊎ (x ≡ Ended)
 shut_cases Free = inl (inl refl)
 shut_cases Held = inl (inr refl)
 shut_cases Ended = inr refl
@@ -89,7 +89,7 @@ all_shut_at (Held ∷ ss) (suc i) a f = all_shut_at ss i a f
 all_shut_at (Ended ∷ ss) zero a f = absurd cc
 all_shut_at (Ended ∷ ss) (suc i) a f = all_shut_at ss i a f
 
-none_held_at : (ss : List Shut) (i : ℕ) → any_held ss ≡ false → shut_at ss i ≡ Held → ⊥
+pub none_held_at : (ss : List Shut) (i : ℕ) → any_held ss ≡ false → shut_at ss i ≡ Held → ⊥
 none_held_at [] i a f = absurd cc
 none_held_at (Free ∷ ss) zero a f = absurd cc
 none_held_at (Free ∷ ss) (suc i) a f = none_held_at ss i a f
@@ -97,7 +97,7 @@ none_held_at (Held ∷ ss) i a f = absurd cc
 none_held_at (Ended ∷ ss) zero a f = absurd cc
 none_held_at (Ended ∷ ss) (suc i) a f = none_held_at ss i a f
 
-held_somewhere : (ss : List Shut) → any_held ss ≡ true → (i : ℕ) × (i < length ss) × (shut_at ss i ≡ Held)
+pub held_somewhere : (ss : List Shut) → any_held ss ≡ true → (i : ℕ) × (i < length ss) × (shut_at ss i ≡ Held)
 held_somewhere [] a = absurd cc
 held_somewhere (Free ∷ ss) a = let r = held_somewhere ss a in (suc r.0, omega (arith, r.1), r.2)
 held_somewhere (Held ∷ ss) a = (0, omega arith, refl)
@@ -108,7 +108,7 @@ let_go_held Free e = absurd cc
 let_go_held Held e = absurd cc
 let_go_held Ended e = absurd cc
 
-let_go_ended : (x : Shut) → let_go x ≡ Ended → x ≡ Ended
+pub let_go_ended : (x : Shut) → let_go x ≡ Ended → x ≡ Ended
 let_go_ended Free e = absurd cc
 let_go_ended Held e = absurd cc
 let_go_ended Ended e = refl
@@ -119,7 +119,7 @@ aligned_by true true e = (refl, refl)
 aligned_by true false e = absurd cc
 aligned_by false h e = absurd cc
 
-all_ended_by : (a h : Bool) → (if a then (if h then aligned.Barrier else aligned.AllEnded) else aligned.Waiting) ≡ aligned.AllEnded → (a ≡ true) × (h ≡ false)
+pub all_ended_by : (a h : Bool) → (if a then (if h then aligned.Barrier else aligned.AllEnded) else aligned.Waiting) ≡ aligned.AllEnded → (a ≡ true) × (h ≡ false)
 all_ended_by true true e = absurd cc
 all_ended_by true false e = (refl, refl)
 all_ended_by false h e = absurd cc
@@ -130,10 +130,10 @@ all_ended_by false h e = absurd cc
 abbrev pub stop_number : AbstractTask → ℕ
 stop_number k = k.first + k.saves
 
-last_is : (k : AbstractTask) (n : ℕ) → is_last k n ≡ true → n ≡ k.saves
+pub last_is : (k : AbstractTask) (n : ℕ) → is_last k n ≡ true → n ≡ k.saves
 last_is k n e = eqb-true n k.saves (and_parts (may_stop k.ending) (eqb n k.saves) e).1
 
-not_last : (k : AbstractTask) (n : ℕ) → n < barriers k → is_last k n ≡ false → n ≡ k.saves → ⊥
+pub not_last : (k : AbstractTask) (n : ℕ) → n < barriers k → is_last k n ≡ false → n ≡ k.saves → ⊥
 not_last k n l e q =
     elim (cases_Bool (may_stop k.ending)) [
       | inl m ↦ (let d = eq-eqb n k.saves q in false≢true (sym e ∙ ap (λ t. t && eqb n k.saves) m ∙ d))
@@ -184,10 +184,10 @@ ends_same k es s e s' ov oe se ne te ge r =
     }
 
 -- an input that is shut by the message that comes on it
-record IsShutBy (k : AbstractTask) (es : List Event) (s : State) (i : ℕ) (m : Message) (shut : List Shut) : Type 0 where
-  long : length shut ≡ k.inputs
-  held : (x : ℕ) → x < k.inputs → shut_at shut x ≡ Held → (s.next < barriers k) × (s.next ≡ k.saves → ended (stop_number k) (taken x (Take i m ∷ es)) ≡ true)
-  ends : (x : ℕ) → x < k.inputs → shut_at shut x ≡ Ended → ended (stop_number k) (taken x (Take i m ∷ es)) ≡ true
+pub record IsShutBy (k : AbstractTask) (es : List Event) (s : State) (i : ℕ) (m : Message) (shut : List Shut) : Type 0 where
+  pub long : length shut ≡ k.inputs
+  pub held : (x : ℕ) → x < k.inputs → shut_at shut x ≡ Held → (s.next < barriers k) × (s.next ≡ k.saves → ended (stop_number k) (taken x (Take i m ∷ es)) ≡ true)
+  pub ends : (x : ℕ) → x < k.inputs → shut_at shut x ≡ Ended → ended (stop_number k) (taken x (Take i m ∷ es)) ≡ true
 
 shut_by_barrier : (k : AbstractTask) (es : List Event) (s : State) (i n : ℕ) → is_source k.role ≡ false → s.over ≡ false → i < k.inputs → n ≡ k.first + s.next → s.next < barriers k → HasEnds k es s → IsShutBy k es s i (Barrier n) (set s.inputs.shut i Held)
 shut_by_barrier k es s i n ns ov l en few r =
@@ -205,7 +205,7 @@ shut_by_barrier k es s i n ns ov l en few r =
       ];
     }
 
-shut_by_end : (k : AbstractTask) (es : List Event) (s : State) (i : ℕ) → is_source k.role ≡ false → s.over ≡ false → i < k.inputs → HasEnds k es s → IsShutBy k es s i End (set s.inputs.shut i Ended)
+pub shut_by_end : (k : AbstractTask) (es : List Event) (s : State) (i : ℕ) → is_source k.role ≡ false → s.over ≡ false → i < k.inputs → HasEnds k es s → IsShutBy k es s i End (set s.inputs.shut i Ended)
 shut_by_end k es s i ns ov l r =
     let old : List Shut = s.inputs.shut in
     let il : i < length old = (let q = r.shut_length ns in omega arith) in
@@ -345,7 +345,7 @@ stops_last AtEnd k s may = absurd may
 stops_last AtCut k s may = may.0
 stops_last Asked k s may = may
 
-closes_at : (ending : Ending) (k : AbstractTask) (s : State) → MayClose ending k s → (q : ℕ) → q < k.inputs → get_or s.offsets q 0 ≡ k.limit k.saves q
+pub closes_at : (ending : Ending) (k : AbstractTask) (s : State) → MayClose ending k s → (q : ℕ) → q < k.inputs → get_or s.offsets q 0 ≡ k.limit k.saves q
 closes_at AtEnd k s may q l = may.1 q l ∙ ap (λ n. k.limit n q) may.0
 closes_at AtCut k s may q l = absurd may
 closes_at Asked k s may q l = may.1 q l ∙ ap (λ n. k.limit n q) may.0

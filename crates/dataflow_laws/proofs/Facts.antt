@@ -5,5 +5,6 @@ pub use Rattle.dataflow_laws.proofs.Admission.{rings_are_admitted}
 pub use Rattle.dataflow_laws.proofs.Going.{progress}
 pub use Rattle.dataflow_laws.proofs.Falling.{falls}
 pub use Rattle.dataflow_laws.proofs.Admitted.{input_is_admitted, few_before}
-pub use Rattle.dataflow_laws.proofs.Compiled.{compiled_leg_delivers, compiled_leg_delivers_all, compiled_leg_so_far}
-pub use Rattle.dataflow_laws.proofs.Owned.{compiled_leg_keeps_panes}
+pub use Rattle.dataflow_laws.proofs.Compiled.{compiled_leg_delivers, compiled_leg_delivers_at, compiled_leg_delivers_all, compiled_leg_so_far}
+pub use Rattle.dataflow_laws.proofs.Owned.{compiled_leg_keeps_panes, compiled_leg_keeps_panes_at}
+pub use Rattle.dataflow_laws.proofs.Comings.{compiled_leg_comes}

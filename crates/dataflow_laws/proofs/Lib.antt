@@ -47,3 +47,5 @@ mod Owned
 pub mod Facts
 mod Keeping
 mod Completing
+mod Halting
+mod Comings

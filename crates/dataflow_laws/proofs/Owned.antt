@@ -111,7 +111,7 @@ module _ (p : PlanData) (x : AbstractInput) (leg : Leg) (l : AbstractLayout) (ok
   abbrev count : (ℕ → ℕ) → ℕ
   count cut = total x.partitions (λ q. total (cut q) (λ n. length (records_of (x.entry q n))))
 
-  later : (q : ℕ) → q < x.partitions → b q ≤ c q
+  pub later : (q : ℕ) → q < x.partitions → b q ≤ c q
   later q k =
       let y = d.dealt q k in
       let r = read_at p l ok start op H (reader_of x l q) y.reads.early y.reads.role in

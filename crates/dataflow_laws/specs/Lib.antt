@@ -18,3 +18,4 @@ pub mod Compiled
 pub mod Moments
 pub mod Owned
 pub mod Kept
+pub mod Stopped

@@ -18,6 +18,7 @@ ghost use Rattle.dataflow_laws.specs.Compiled.{CompiledLegDelivers, CompiledLegD
 ghost use Rattle.dataflow_laws.specs.Moments.{CompiledLegIsAtACut, CompiledEdgesKeepWatermarks, CompiledWindowsHaveTheWatermark, CompiledWindowsFireOnce};
 ghost use Rattle.dataflow_laws.specs.Kept.{SavepointDelivers, CompiledSavepointDelivers, AlignedIsComplete};
 ghost use Rattle.dataflow_laws.specs.Owned.{CompiledLegKeepsPanes, CompiledLegKeepsPanesAt};
+ghost use Rattle.dataflow_laws.specs.Stopped.{SinkTellsStops, StoppedIsComplete, CompiledLegComes};
 
 /// A task makes a step only where the step's conditions hold.
 pub fn step_needs()
@@ -251,4 +252,22 @@ pub fn compiled_leg_keeps_panes()
 /// However it is to end, so it is at the cut that its tasks have come to when all are done.
 pub fn compiled_leg_keeps_panes_at()
     ensures { CompiledLegKeepsPanesAt }
+{}
+
+/// Once all tasks of a leg are done, its sink tells whether it has stopped: where it has passed no barrier of a stop, every
+/// source has come to its end, and the leg was not to end at a cut.
+pub fn sink_tells_stops()
+    ensures { SinkTellsStops }
+{}
+
+/// Once all tasks have aligned on the barrier of the stop, which is the leg's last, all are done: each has put it on each of
+/// its outputs, and has nothing pending behind it.
+pub fn stopped_is_complete()
+    ensures { StoppedIsComplete }
+{}
+
+/// Each leg of a compiled layout whose tasks are all done has come to a cut of the input that is no earlier than the one
+/// that it began at, and has stopped there or not, as it was to.
+pub fn compiled_leg_comes()
+    ensures { CompiledLegComes }
 {}

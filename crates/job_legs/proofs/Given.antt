@@ -10,6 +10,7 @@ use Rattle.legs.specs.declared.cut.Cut.{Cut}
 use Rattle.legs.specs.declared.fault.LegFault.{LegFault}
 use Rattle.legs.specs.declared.stop.Stop.{Stop}
 use Rattle.legs.specs.declared.stop.Stop.TheVariants.{At}
+use Rattle.legs.specs.Requirements.{stops}
 use Rattle.legs.specs.Stops.{until_of}
 use Rattle.redistribute.specs.StartData.{StartData, offsets_of}
 use Rattle.redistribute.specs.Stopping.{CanStop}
@@ -18,6 +19,8 @@ use Rattle.gather.specs.Saved.{savepoint_of}
 use Rattle.savepoint_codec.specs.declared.savepoint.Contents.{Contents}
 use Rattle.leg_tasks.specs.Saved as left
 use Rattle.core_steps.specs.declared.finish.Finish.{Finish}
+use Rattle.core_steps.specs.Finishing.{finish_with}
+use Rattle.core_steps.proofs.Ending.{comes_there, never_asked, stops_so}
 use Rattle.restarts.specs.Laws.{IsStartAt}
 use Rattle.restarts.specs.Restart.{CanRestart}
 use Rattle.job_legs.specs.Reached.{IsLegGiven, IsStepRefusal}
@@ -44,13 +47,17 @@ module _ (p : PlanData) (i : InputData) (plan : IsPlan p) (input : IsInput i) (b
   pub given : (other : LegFault → Type 0) (result : Result Finish LegFault) → AnswersLeg other p i s stop result → MatchResult result (IsLegGiven p i cut number stop) (IsStepRefusal other i cut stop)
   given other (Ok finish) a =
       let e = a.1 in
+      let by : e.stopped ≡ stops stop = stops_so i (offsets_of s) stop e.stopped e.cut e.comes in
+      let to : e.cut ≡ cut_to i (until_of stop) = comes_there i (offsets_of s) (until_of stop) e.stopped e.cut (never_asked stop) e.comes in
       record {
         rows = e.rows;
         savepoint = e.savepoint;
-        is = e.is;
+        is = e.is ∙ ap (λ b. finish_with b e.rows e.savepoint) by;
         can = can_from a.0;
-        delivered = subst (λ b. AreRowsOf (due_between p i.sources b (cut_to i (until_of stop))) e.rows) at.offsets (e.delivered at.snapshot);
-        saved = λ end same. saved end e.savepoint (stopped stop end same (can_from a.0)) (e.saved end same at.snapshot);
+        delivered = subst (λ b. AreRowsOf (due_between p i.sources b (cut_to i (until_of stop))) e.rows) at.offsets (subst (λ c. AreRowsOf (due_between p i.sources (offsets_of s) c) e.rows) to (e.delivered at.snapshot));
+        saved = λ end same.
+            let here = e.comes.to_cut end.counts (ap until_of same) in
+            saved end e.savepoint (stopped stop end same (can_from a.0)) (subst (λ c. left.IsSavedAt p i c (s.number + 1) e.savepoint) here.1 (e.saved here.0 at.snapshot));
       }
   given other (Err fault) a = why a.2
     where

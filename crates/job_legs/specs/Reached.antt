@@ -13,6 +13,7 @@ use Rattle.legs.specs.declared.fault.LegFault.{LegFault}
 use Rattle.legs.specs.declared.fault.LegFault.TheVariants.{StopRange, Memory}
 use Rattle.legs.specs.declared.stop.Stop.{Stop}
 use Rattle.legs.specs.declared.stop.Stop.TheVariants.{Never, At}
+use Rattle.legs.specs.Requirements.{stops}
 use Rattle.legs.specs.Stops.{until_of}
 use Rattle.redistribute.specs.Stopping.{CanStop}
 use Rattle.savepoint_codec.specs.declared.savepoint.Contents.{Contents}
@@ -37,7 +38,7 @@ IsLeftBy p i number (At cut) (Some s) = CanRestart p i cut.counts number s
 pub record IsLegGiven (p : PlanData) (i : InputData) (cut : List (List ℕ)) (number : ℕ) (stop : Stop) (finish : Finish) : Type 0 where
   pub rows : List Row
   pub savepoint : Contents
-  pub is : finish ≡ finish_with stop rows savepoint
+  pub is : finish ≡ finish_with (stops stop) rows savepoint
   pub can : CanStop i.sources cut stop
   pub delivered : AreRowsOf (due_between p i.sources cut (cut_to i (until_of stop))) rows
   pub saved : (end : Cut) → stop ≡ At end → CanRestart p i end.counts (number + 1) savepoint

@@ -4,6 +4,7 @@ use Rattle.std.specs.Borrow.{Bor}
 use Rattle.layout_rules.specs.Scale.{IsScale, ScaleData}
 use Rattle.legs.specs.declared.fault.LegFault.{LegFault}
 use Rattle.legs.specs.declared.stop.Stop.{Stop}
+use Rattle.legs.specs.Stops.{until_of}
 use Rattle.plan_model.specs.PlanData.{PlanData}
 use Rattle.stream_model.specs.declared.entry.Entry.{Entry}
 use Rattle.stream_model.specs.InputData.{InputData, BelongsTo}
@@ -19,12 +20,12 @@ CanRunLeg p i start scale = BelongsTo p i × IsScale p scale × IsStartIn p i st
 
 -- why a way to run legs has no answer of one: what no leg could be run for, or what this way may answer besides
 abbrev pub IsWayRefusal : (LegFault → Type 0) → List (List (List Entry)) → List (List ℕ) → Stop → LegFault → Type 0
-IsWayRefusal other sources begin stop fault = IsRefusal sources begin stop fault ⊎ other fault
+IsWayRefusal other sources begin stop fault = IsRefusal sources begin (until_of stop) fault ⊎ other fault
 
 -- what a leg answers that is run so: its end where it can stop so, or why it has none
 abbrev pub AnswersLeg : (LegFault → Type 0) → PlanData → InputData → StartData → Stop → Result Finish LegFault → Type 0
 AnswersLeg other p i start stop result =
-    OnOk result (CanStop i.sources (offsets_of start) stop) × IfOk result (λ finish. IsEndOf p i start [] stop finish) × IfErr result (IsWayRefusal other i.sources (offsets_of start) stop)
+    OnOk result (CanStop i.sources (offsets_of start) stop) × IfOk result (λ finish. IsEndOf p i start [] (until_of stop) finish) × IfErr result (IsWayRefusal other i.sources (offsets_of start) stop)
 
 -- a function takes any leg
 abbrev pub TakesLegs : {F : Type 0} → (F → Bor PlanData → Bor InputData → Bor StartData → Bor ScaleData → Stop → Type 0) → Type 0

@@ -7,6 +7,8 @@ ghost use Rattle.stream_model.specs.PlanRows.{plan_rows};
 ghost use Rattle.layout_rules.specs.Scale.{IsScale};
 ghost use Rattle.legs.specs.declared.fault.LegFault.TheVariants as fault;
 ghost use Rattle.legs.specs.declared.stop.Stop.TheVariants.{Never};
+ghost use Rattle.legs.specs.Stops.{until_of};
+ghost use Rattle.dataflow_model.specs.Leg.Until.{ToEnd};
 ghost use Rattle.redistribute.specs.StartData.{offsets_of};
 ghost use Rattle.redistribute.specs.Begins.{IsStartIn, IsFromNothing};
 ghost use Rattle.redistribute.specs.Stopping.{CanStop, IsRefusal};
@@ -35,8 +37,8 @@ fn finish_by(
     requires same { layout.now ≡ world.given.layout }
     requires laid_out { IsLayoutOf world.given.plan layout.now }
     requires going { world.has_failed ≡ false }
-    ensures ends { let g = world.entry.given in IfOk result (λ finish. IsEndOf g.plan g.input g.start g.saves g.stop finish) }
-    ensures whole { let g = world.entry.given in IfOk result (λ finish. IsFromNothing g.input g.start → g.stop ≡ Never → IsWholeRun g.plan g.input finish) }
+    ensures ends { let g = world.entry.given in IfOk result (λ finish. IsEndOf g.plan g.input g.start g.saves g.until finish) }
+    ensures whole { let g = world.entry.given in IfOk result (λ finish. IsFromNothing g.input g.start → g.until ≡ ToEnd → IsWholeRun g.plan g.input finish) }
 {
     follow(alloc, &mut world, layout, choices)?;
     run(alloc, &mut world, layout)?;
@@ -73,9 +75,9 @@ pub fn run_leg_by(
     requires scale { IsScale plan.now scale.now }
     requires starts { IsStartIn plan.now input.now start.now }
     ensures stops { OnOk result (CanStop input.now.sources (offsets_of start.now) stop) }
-    ensures ends { IfOk result (λ finish. IsEndOf plan.now input.now start.now [] stop finish) }
+    ensures ends { IfOk result (λ finish. IsEndOf plan.now input.now start.now [] (until_of stop) finish) }
     ensures whole { IfOk result (λ finish. IsFromNothing input.now start.now → stop ≡ Never → IsWholeRun plan.now input.now finish) }
-    ensures refused { IfErr result (λ fault. IsRefusal input.now.sources (offsets_of start.now) stop fault) }
+    ensures refused { IfErr result (λ fault. IsRefusal input.now.sources (offsets_of start.now) (until_of stop) fault) }
 {
     start.check_stop(input, &stop)?;
     let layout = compile(alloc, plan, scale)?;

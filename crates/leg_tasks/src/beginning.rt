@@ -4,11 +4,11 @@ ghost use Rattle.std.specs.Prelude.{◌≡◌, ◌+◌, ◌<◌, length, IfErr, 
 ghost use Rattle.layout_rules.specs.Stages as rule;
 ghost use Rattle.stream_model.specs.InputData.{BelongsTo};
 ghost use Rattle.dataflow_laws.specs.Compiled.{layout_to};
-ghost use Rattle.legs.specs.Stops.{until_of};
+ghost use Rattle.legs.specs.Stops.{until_in};
 ghost use Rattle.redistribute.specs.StartData.{offsets_of};
 ghost use Rattle.redistribute.specs.Begins.{IsStartIn};
 ghost use Rattle.redistribute.specs.Parts.{IsPartFor};
-ghost use Rattle.redistribute.specs.Stopping.{CanSaveAt, CanStop, IsRefusal};
+ghost use Rattle.redistribute.specs.Stopping.{CanGo, CanSaveAt, IsRefusal};
 ghost use Rattle.task_setups.specs.Beginnings.{Suits};
 ghost use Rattle.task_setups.specs.Legs.{IsLayoutOf, counts_of, leg_over};
 ghost use Rattle.task_setups.specs.Setups.{setup_of as setup_said};
@@ -114,7 +114,7 @@ fn tasks_from(
 ///
 /// # Errors
 ///
-/// `StopRange` where a leg from the start cannot stop so, else `Memory` where memory runs out.
+/// `StopRange` where a leg from the start cannot go so far, else `Memory` where memory runs out.
 pub fn tasks(
     alloc: Global,
     keys: HashKeys,
@@ -128,14 +128,14 @@ pub fn tasks(
     requires belongs { BelongsTo plan.now input.now }
     requires starts { IsStartIn plan.now input.now start.now }
     requires number { leg.now.number ≡ start.now.number }
-    requires saves { CanSaveAt input.now.sources (offsets_of start.now) (counts_of leg.now.saves.now) leg.now.stop }
-    ensures stops { OnOk result (CanStop input.now.sources (offsets_of start.now) leg.now.stop) }
+    requires saves { CanSaveAt input.now.sources (offsets_of start.now) (counts_of leg.now.saves.now) (until_in leg.now.until) }
+    ensures stops { OnOk result (CanGo input.now.sources (offsets_of start.now) (until_in leg.now.until)) }
     ensures are { IfOk result (λ made. made.items ≡ begins.new_tasks plan.now start.now (leg_over leg.now input.now) layout.now.stages) }
-    ensures begin { IfOk result (λ made. begins.BeginLeg plan.now input.now start.now layout.now.stages (layout_to plan.now input.now leg.now.number (counts_of leg.now.saves.now) (until_of leg.now.stop) layout.now.stages) made.items) }
-    ensures refused { IfErr result (λ fault. IsRefusal input.now.sources (offsets_of start.now) leg.now.stop fault) }
+    ensures begin { IfOk result (λ made. begins.BeginLeg plan.now input.now start.now layout.now.stages (layout_to plan.now input.now leg.now.number (counts_of leg.now.saves.now) (until_in leg.now.until) layout.now.stages) made.items) }
+    ensures refused { IfErr result (λ fault. IsRefusal input.now.sources (offsets_of start.now) (until_in leg.now.until) fault) }
 {
     let _columns = plan.columns();
     let _saves = leg.saves.len();
-    start.check_stop(input, &leg.stop)?;
+    start.check_until(input, &leg.until)?;
     Ok(tasks_from(alloc, keys, plan, input, start, layout, leg)?)
 }

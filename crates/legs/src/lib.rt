@@ -8,6 +8,7 @@ mod leg;
 mod limits;
 mod requirements;
 mod stop;
+mod until;
 
 pub use choice::{Choice, are_choices};
 pub use cut::Cut;
@@ -16,3 +17,4 @@ pub use leg::LegSpec;
 pub use limits::MOST_LEGS;
 pub use requirements::are_legs;
 pub use stop::Stop;
+pub use until::Until;

@@ -11,6 +11,8 @@ use Rattle.stream_model.specs.Laws.{EndIsDue}
 use Rattle.stream_model.specs.Watermarks.{IsCut, IsOrderly, empty_cut}
 use Rattle.stream_model.specs.PlanRows.{due_rows}
 use Rattle.input_flow.proofs.Facts.{empty_is_cut}
+use Rattle.dataflow_model.specs.Leg.{Until}
+use Rattle.dataflow_model.specs.Leg.Until.{TillAsked}
 use Rattle.dataflow_laws.specs.Compiled.{cut_to}
 use Rattle.dataflow_laws.specs.Inputs.{due_between}
 use Rattle.plan_compiler.specs.LayoutData.{LayoutData}
@@ -31,8 +33,8 @@ use Rattle.leg_tasks.specs.Saved.{IsSavedAt, SavedAtIsOne}
 use Rattle.core_steps.specs.Given.{GivenData}
 use Rattle.core_steps.specs.World.{IsGiven}
 use Rattle.core_steps.specs.Finishing.{number_after}
-use Rattle.core_steps.proofs.Ending.{end_is_cut, world_has_ended}
-use Rattle.core_steps.proofs.Delivered.{delivers, none_at_first, saves as leg_saves}
+use Rattle.core_steps.proofs.Ending.{end_is_cut, never_asked, world_has_ended}
+use Rattle.core_steps.proofs.Delivered.{at_its_end, delivers, none_at_first, saves as leg_saves}
 use Rattle.job_legs.specs.Laws.{NothingDueAtFirst, RowsAddUp}
 use Rattle.job_legs.specs.Ending.{rows_to}
 use Rattle.job_legs.proofs.Facts.{before_end, come_to}
@@ -88,17 +90,19 @@ pub finished_is_leg : FinishedIsLeg
 finished_is_leg p i s saves stop w way done = record { layout = way.layout; given = way.given; ended = world_has_ended w way.world done }
 
 pub tasks_are_leg : TasksAreLeg
-tasks_are_leg g tasks at = record { layout = g.layout; given = refl; ended = at.ended }
+tasks_are_leg g stop tasks goes at = record { layout = g.layout; given = ap (λ (u : Until). record g { until = u }) goes; ended = at.ended }
 
 module _ (p : PlanData) (i : InputData) (s : StartData) (saves : List (List (List ℕ))) (stop : Stop) (e : LegEnd) (leg : IsLeg p i s saves stop e) where
   pub given : IsGiven (given_of p i s leg.layout saves stop)
   given = subst IsGiven leg.given leg.ended.given
 
   rows : HasSnapshot p i s → AreRowsOf (due_between p i.sources (offsets_of s) (cut_to i (until_of stop))) (leg_rows e)
-  rows = subst (λ (g : GivenData). HasSnapshot g.plan g.input g.start → AreRowsOf (due_between g.plan g.input.sources (offsets_of g.start) (cut_to g.input (until_of g.stop))) (leg_rows e)) leg.given (delivers e.given e.states leg.ended)
+  rows = subst (λ (g : GivenData). (g.until ≡ TillAsked → ⊥) → HasSnapshot g.plan g.input g.start → AreRowsOf (due_between g.plan g.input.sources (offsets_of g.start) (cut_to g.input g.until)) (leg_rows e)) leg.given
+      (λ never has. subst (λ to. AreRowsOf (due_between e.given.plan e.given.input.sources (offsets_of e.given.start) to) (leg_rows e)) (at_its_end e.given e.states leg.ended never) (delivers e.given e.states leg.ended has)) (never_asked stop)
 
   left : HasSnapshot p i s → IsSavedAt p i (cut_to i (until_of stop)) (number_after s.number saves) (leg_savepoint e)
-  left = subst (λ (g : GivenData). HasSnapshot g.plan g.input g.start → IsSavedAt g.plan g.input (cut_to g.input (until_of g.stop)) (number_after g.start.number g.saves) (leg_savepoint e)) leg.given (leg_saves e.given e.states leg.ended)
+  left = subst (λ (g : GivenData). (g.until ≡ TillAsked → ⊥) → HasSnapshot g.plan g.input g.start → IsSavedAt g.plan g.input (cut_to g.input g.until) (number_after g.start.number g.saves) (leg_savepoint e)) leg.given
+      (λ never has. subst (λ to. IsSavedAt e.given.plan e.given.input to (number_after e.given.start.number e.given.saves) (leg_savepoint e)) (at_its_end e.given e.states leg.ended never) (leg_saves e.given e.states leg.ended has)) (never_asked stop)
 
   -- a leg that begins at a cut with its snapshot leaves the savepoint of the cut where it stops
   pub saved : (b : List (List ℕ)) (number : ℕ) → IsStartAt p i b number s → (cut : Cut) → stop ≡ At cut → IsSavedAt p i cut.counts (number_after number saves) (leg_savepoint e)

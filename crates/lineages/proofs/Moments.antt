@@ -56,7 +56,7 @@ module _ (p : PlanData) (i : InputData) (s : StartData) (saves : List (List (Lis
   on_way = subst IsGiven way.given way.world.sound.given
 
   pub so_far : HasSnapshot p i s → (q : Pane) → IsPart (filter (row_is_at q) (rows_in w)) (option_to_list (due_between p i.sources (offsets_of s) end q))
-  so_far = subst (λ (g : GivenData). HasSnapshot g.plan g.input g.start → (q : Pane) → IsPart (filter (row_is_at q) (rows_in w)) (option_to_list (due_between g.plan g.input.sources (offsets_of g.start) (cut_to g.input (until_of g.stop)) q))) way.given (world_so_far w way.world)
+  so_far = subst (λ (g : GivenData). HasSnapshot g.plan g.input g.start → (q : Pane) → IsPart (filter (row_is_at q) (rows_in w)) (option_to_list (due_between g.plan g.input.sources (offsets_of g.start) (cut_to g.input g.until) q))) way.given (world_so_far w way.world)
 
   -- with what was delivered where it began
   with_earlier : EachRowAddsUp → (b : List (List ℕ)) (number : ℕ) → IsStartAt p i b number s → IsCut i.sources b → (before : List Row) → AreRowsOf (due_rows p i.sources b) before → (q : Pane)

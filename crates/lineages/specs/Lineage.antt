@@ -30,7 +30,7 @@ use Rattle.job_legs.specs.Ending.{rows_to}
 
 -- what a world is told of its leg
 abbrev pub given_of : PlanData → InputData → StartData → LayoutData → List (List (List ℕ)) → Stop → GivenData
-given_of p i s l saves stop = record { plan = p; input = i; start = s; layout = l; saves = saves; stop = stop }
+given_of p i s l saves stop = record { plan = p; input = i; start = s; layout = l; saves = saves; until = until_of stop }
 
 -- a leg on its way from a start, with savepoints at these cuts, to where it is to stop, at any scale: a world to which steps led that it accepted, in any order, be it finished or not, and also where a step found no memory
 pub record IsUnderWay (p : PlanData) (i : InputData) (s : StartData) (saves : List (List (List ℕ))) (stop : Stop) (w : WorldData) : Type 0 where
@@ -69,7 +69,7 @@ FinishedIsLeg = (p : PlanData) (i : InputData) (s : StartData) (saves : List (Li
 
 -- and so are tasks that stand at the end of a complete history, by whatever threads they came there
 abbrev pub TasksAreLeg : Type 0
-TasksAreLeg = (g : GivenData) (tasks : List TaskData) → AreAtEnd g tasks → IsLeg g.plan g.input g.start g.saves g.stop (end_at g tasks)
+TasksAreLeg = (g : GivenData) (stop : Stop) (tasks : List TaskData) → g.until ≡ until_of stop → AreAtEnd g tasks → IsLeg g.plan g.input g.start g.saves stop (end_at g tasks)
 
 -- a start that is answered of bytes: they spell a savepoint, and its check gives the start
 pub record ComesFrom (p : PlanData) (i : InputData) (bytes : List ℕ) (s : StartData) : Type 0 where

@@ -4,6 +4,8 @@ ghost use Rattle.std.specs.Prelude.{◌≡◌, IfOk, IfSome, MatchOption, Some};
 ghost use Rattle.answers.specs.Answer.{Gives};
 ghost use Rattle.core_steps.specs.Finishing.{HasFinished, finish_in};
 ghost use Rattle.job_texts.specs.Fault.{is_memory};
+ghost use Rattle.legs.specs.declared.stop.Stop.{Stop};
+ghost use Rattle.legs.specs.Stops.{until_of};
 ghost use Rattle.job.specs.Leg.{start_said};
 ghost use Rattle.lineages.specs.Lineage.{ComesFrom, IsLeg, end_in};
 
@@ -17,14 +19,14 @@ use std::alloc::{AllocError, Global};
 use stream_model::Input;
 
 /// How a world has ended, where all its tasks are done: it is a leg then, of its plan and input, from its start to where it was
-/// to stop. `None` where not every task is done, or the world has failed.
+/// to stop, with the savepoints that it was to take on its way. `None` where not every task is done, or the world has failed.
 ///
 /// # Errors
 ///
 /// Only where memory runs out.
 pub fn leg_of(alloc: Global, world: World<'_>) -> Result<Option<Finish>, AllocError>
     ensures is { IfOk result (λ answer. MatchOption answer (HasFinished world.entry → ⊥) (λ finish. HasFinished world.entry × (finish ≡ finish_in world.entry))) }
-    ensures leg { let g = world.entry.given in IfOk result (λ answer. IfSome answer (λ _. IsLeg g.plan g.input g.start g.saves g.stop (end_in world.entry))) }
+    ensures leg { let g = world.entry.given in IfOk result (λ answer. IfSome answer (λ _. (stop : Stop) → g.until ≡ until_of stop → IsLeg g.plan g.input g.start g.saves stop (end_in world.entry))) }
 {
     let _failed = world.has_failed();
     world.finish(alloc)

@@ -14,7 +14,8 @@ use Rattle.stream_model.specs.Watermarks.{partition_watermark, records_before, I
 use Rattle.dataflow_model.specs.declared.role.Role.{Role}
 use Rattle.dataflow_model.specs.AbstractTask.{AbstractTask}
 use Rattle.dataflow_model.specs.AbstractLayout.{AbstractLayout, partition_read}
-use Rattle.dataflow_model.specs.Leg.{Leg, TillAsked, until_at, count_at, leg_of}
+use Rattle.dataflow_model.specs.Leg.{Leg, Until, until_at, count_at, leg_of}
+use Rattle.dataflow_model.specs.Leg.Until.{ToEnd, ToCut, TillAsked}
 use Rattle.dataflow_model.specs.Opening.{IsOpening}
 use Rattle.dataflow_model.specs.Start.{IsLegStart}
 use Rattle.dataflow_model.specs.Snapshots.{AtOwners}
@@ -33,17 +34,13 @@ use Rattle.dataflow_laws.specs.Legs.{AreAt, HaveMarks}
 use Rattle.dataflow_laws.specs.Inputs.{HaveCut}
 use Rattle.dataflow_laws.specs.Owned.{HaveOwnPanes}
 use Rattle.dataflow_laws.specs.Compiled.{layout_to}
-use Rattle.legs.specs.declared.cut.Cut.{Cut}
-use Rattle.legs.specs.declared.stop.Stop.{Stop}
-use Rattle.legs.specs.declared.stop.Stop.TheVariants.{Never, At}
-use Rattle.legs.specs.Stops.{until_of}
 use Rattle.window_state.specs.declared.parts.Part.{Part}
 use Rattle.window_state.specs.Parts.{entries_of as entries_of_parts}
 use Rattle.redistribute.specs.declared.task_start.PartitionStart.{PartitionStart}
 use Rattle.redistribute.specs.StartData.{StartData, offsets_of}
 use Rattle.redistribute.specs.Begins.{IsStartIn, HasSnapshot}
 use Rattle.redistribute.specs.Snapshots.{saved_partition, saved_source, saved_sources}
-use Rattle.redistribute.specs.Stopping.{CanStop, CanSaveAt, Rises}
+use Rattle.redistribute.specs.Stopping.{CanGo, CanSaveAt, Rises}
 use Rattle.redistribute.specs.Parts.{at_first, saved_at, partition_start, start_of_role, with_windows, parts_within, parts_of, windows_of, IsOpenPart}
 use Rattle.redistribute.specs.Laws.{opening_of, opening_states, TasksOpen, TasksHaveSnapshot, TasksHaveOwnPanes}
 use Rattle.redistribute.proofs.Dealt.{known, early, places}
@@ -81,40 +78,39 @@ cut_up (b ∷ bs) [] x k h = absurd h
 cut_up (b ∷ bs) (c ∷ cs) zero k h = count_up b c k h.0
 cut_up (b ∷ bs) (c ∷ cs) (suc x) k h = cut_up bs cs x k h.1
 
-goes_up : (i : InputData) (cut : List (List ℕ)) (stop : Stop) → IsCut i.sources cut → CanStop i.sources cut stop → (x q : ℕ) → count_at cut x q ≤ until_at (entries_of i).size (until_of stop) x q
-goes_up i cut Never is_cut can x q = cut_in i.sources cut x q is_cut
-goes_up i cut (At end) is_cut can x q = cut_up cut end.counts x q can.1
+goes_up : (i : InputData) (cut : List (List ℕ)) (until : Until) → IsCut i.sources cut → CanGo i.sources cut until → (x q : ℕ) → count_at cut x q ≤ until_at (entries_of i).size until x q
+goes_up i cut ToEnd is_cut can x q = cut_in i.sources cut x q is_cut
+goes_up i cut (ToCut end) is_cut can x q = cut_up cut end x q can.1
+goes_up i cut TillAsked is_cut can x q = cut_in i.sources cut x q is_cut
 
-stays_within : (i : InputData) (cut : List (List ℕ)) (stop : Stop) → CanStop i.sources cut stop → (x q : ℕ) → until_at (entries_of i).size (until_of stop) x q ≤ (entries_of i).size x q
-stays_within i cut Never can x q = omega arith
-stays_within i cut (At end) can x q = cut_in i.sources end.counts x q can.0
+stays_within : (i : InputData) (cut : List (List ℕ)) (until : Until) → CanGo i.sources cut until → (x q : ℕ) → until_at (entries_of i).size until x q ≤ (entries_of i).size x q
+stays_within i cut ToEnd can x q = omega arith
+stays_within i cut (ToCut end) can x q = cut_in i.sources end x q can.0
+stays_within i cut TillAsked can x q = omega arith
 
-rises_to : (i : InputData) (begin : List (List ℕ)) (saves : List (List (List ℕ))) (stop : Stop) → ((x q : ℕ) → count_at begin x q ≤ until_at (entries_of i).size (until_of stop) x q)
-    → AllByRecursion (IsCut i.sources) saves → Rises begin saves → ((end : Cut) → stop ≡ At end → AllByRecursion (λ save. IsBefore save end.counts) saves)
-    → AreRising (count_at begin) saves (until_at (entries_of i).size (until_of stop))
-rises_to i begin [] stop up cuts rises before = up
-rises_to i begin (cut ∷ saves) stop up cuts rises before =
-    let ahead = last_up i cut stop cuts.0 (λ end e. (before end e).0) in
-    (λ x q. cut_up begin cut x q rises.0, rises_to i cut saves stop ahead cuts.1 rises.1 (λ end e. (before end e).1))
+rises_to : (i : InputData) (begin : List (List ℕ)) (saves : List (List (List ℕ))) (until : Until) → ((x q : ℕ) → count_at begin x q ≤ until_at (entries_of i).size until x q)
+    → AllByRecursion (IsCut i.sources) saves → Rises begin saves → ((end : List (List ℕ)) → until ≡ ToCut end → AllByRecursion (λ save. IsBefore save end) saves)
+    → AreRising (count_at begin) saves (until_at (entries_of i).size until)
+rises_to i begin [] until up cuts rises before = up
+rises_to i begin (cut ∷ saves) until up cuts rises before =
+    let ahead = last_up i cut until cuts.0 (λ end e. (before end e).0) in
+    (λ x q. cut_up begin cut x q rises.0, rises_to i cut saves until ahead cuts.1 rises.1 (λ end e. (before end e).1))
   where
-    last_up : (i : InputData) (cut : List (List ℕ)) (stop : Stop) → IsCut i.sources cut → ((end : Cut) → stop ≡ At end → IsBefore cut end.counts) → (x q : ℕ) → count_at cut x q ≤ until_at (entries_of i).size (until_of stop) x q
-    last_up i cut Never is_cut before x q = cut_in i.sources cut x q is_cut
-    last_up i cut (At end) is_cut before x q = cut_up cut end.counts x q (before end refl)
+    last_up : (i : InputData) (cut : List (List ℕ)) (until : Until) → IsCut i.sources cut → ((end : List (List ℕ)) → until ≡ ToCut end → IsBefore cut end) → (x q : ℕ) → count_at cut x q ≤ until_at (entries_of i).size until x q
+    last_up i cut ToEnd is_cut before x q = cut_in i.sources cut x q is_cut
+    last_up i cut (ToCut end) is_cut before x q = cut_up cut end x q (before end refl)
+    last_up i cut TillAsked is_cut before x q = cut_in i.sources cut x q is_cut
 
-never_asked : (stop : Stop) (saves : List (List (List ℕ))) → until_of stop ≡ TillAsked → saves ≡ []
-never_asked Never saves e = absurd cc
-never_asked (At end) saves e = absurd cc
-
-route : (i : InputData) (cut : List (List ℕ)) (saves : List (List (List ℕ))) (stop : Stop) → IsCut i.sources cut → CanStop i.sources cut stop → CanSaveAt i.sources cut saves stop → IsRoute cut saves (until_of stop) (entries_of i).size
-route i cut saves stop is_cut can save = record {
-  rising = rises_to i cut saves stop (goes_up i cut stop is_cut can) save.cuts save.rises save.before;
-  within = stays_within i cut stop can;
-  asked = never_asked stop saves;
+route : (i : InputData) (cut : List (List ℕ)) (saves : List (List (List ℕ))) (until : Until) → IsCut i.sources cut → CanGo i.sources cut until → CanSaveAt i.sources cut saves until → IsRoute cut saves until (entries_of i).size
+route i cut saves until is_cut can save = record {
+  rising = rises_to i cut saves until (goes_up i cut until is_cut can) save.cuts save.rises save.before;
+  within = stays_within i cut until can;
+  asked = save.asked;
 }
 
 -- a leg without savepoints on its way
-pub no_saves : (sources : List (List (List Entry))) (begin : List (List ℕ)) (stop : Stop) → CanSaveAt sources begin [] stop
-no_saves sources begin stop = record { cuts = tt; rises = tt; before = λ end e. tt }
+pub no_saves : (sources : List (List (List Entry))) (begin : List (List ℕ)) (until : Until) → CanSaveAt sources begin [] until
+no_saves sources begin until = record { cuts = tt; rises = tt; before = λ end e. tt; asked = λ e. refl }
 
 -- ---- opening states
 
@@ -240,29 +236,29 @@ module _ (p : PlanData) (c : ScaleData) (i : InputData) (s : StartData) (leg : L
   have_own : HaveOwnPanes L states (length (records_before i.sources cut))
   have_own u l m q a e = owned_by (L.owner q.key) u (get (windows_of s) q) a (length (records_before i.sources cut)) (starts.counts q) (sym (have_windows u l m q) ∙ e)
 
-leg_start : (p : PlanData) (c : ScaleData) (i : InputData) (s : StartData) (saves : List (List (List ℕ))) (stop : Stop) → IsPlan p → IsScale p c → BelongsTo p i → IsStartIn p i s → CanStop i.sources (offsets_of s) stop → CanSaveAt i.sources (offsets_of s) saves stop
-    → let a = layout_to p i s.number saves (until_of stop) (stages_of p c) in IsLegStart p a (opening_states p s a (stages_of p c))
-leg_start p c i s saves stop ip sc belongs starts can save =
-    let leg : Leg = leg_of s.number saves (until_of stop) (entries_of i).size in
+leg_start : (p : PlanData) (c : ScaleData) (i : InputData) (s : StartData) (saves : List (List (List ℕ))) (until : Until) → IsPlan p → IsScale p c → BelongsTo p i → IsStartIn p i s → CanGo i.sources (offsets_of s) until → CanSaveAt i.sources (offsets_of s) saves until
+    → let a = layout_to p i s.number saves until (stages_of p c) in IsLegStart p a (opening_states p s a (stages_of p c))
+leg_start p c i s saves until ip sc belongs starts can save =
+    let leg : Leg = leg_of s.number saves until (entries_of i).size in
     record {
       opens = λ t l. opens p c i s leg ip sc belongs starts t;
-      leg = tasks_are_one_leg p (entries_of i) (stages_of p c) (window_of (stages_of p c)) s.number (offsets_of s) saves (until_of stop) (states p c i s leg ip sc belongs starts) (route i (offsets_of s) saves stop starts.cut can save) (begins p c i s leg ip sc belongs starts);
+      leg = tasks_are_one_leg p (entries_of i) (stages_of p c) (window_of (stages_of p c)) s.number (offsets_of s) saves until (states p c i s leg ip sc belongs starts) (route i (offsets_of s) saves until starts.cut can save) (begins p c i s leg ip sc belongs starts);
     }
 
 pub tasks_open : TasksOpen
-tasks_open p l i s saves stop ip lo belongs starts can save =
-    let R : LayoutData → Type 0 = λ m. let a = layout_to p i s.number saves (until_of stop) m.stages in IsLegStart p a (opening_states p s a m.stages) in
-    subst R (sym lo.is) (leg_start p lo.scale i s saves stop ip lo.fits belongs starts can save)
+tasks_open p l i s saves until ip lo belongs starts can save =
+    let R : LayoutData → Type 0 = λ m. let a = layout_to p i s.number saves until m.stages in IsLegStart p a (opening_states p s a m.stages) in
+    subst R (sym lo.is) (leg_start p lo.scale i s saves until ip lo.fits belongs starts can save)
 
 pub tasks_have_snapshot : TasksHaveSnapshot
-tasks_have_snapshot p l i s saves stop ip lo belongs starts has =
+tasks_have_snapshot p l i s saves until ip lo belongs starts has =
     let cut = offsets_of s in
-    let R : LayoutData → Type 0 = λ m. let a = layout_to p i s.number saves (until_of stop) m.stages in let states = opening_states p s a m.stages in HaveCut p i a states cut × HaveMarks (input_of p i) a states (counts_at p cut) in
-    subst R (sym lo.is) (have_snapshot p lo.scale i s (leg_of s.number saves (until_of stop) (entries_of i).size) ip lo.fits belongs starts has)
+    let R : LayoutData → Type 0 = λ m. let a = layout_to p i s.number saves until m.stages in let states = opening_states p s a m.stages in HaveCut p i a states cut × HaveMarks (input_of p i) a states (counts_at p cut) in
+    subst R (sym lo.is) (have_snapshot p lo.scale i s (leg_of s.number saves until (entries_of i).size) ip lo.fits belongs starts has)
 
 pub tasks_have_own_panes : TasksHaveOwnPanes
-tasks_have_own_panes p l i s saves stop ip lo belongs starts =
+tasks_have_own_panes p l i s saves until ip lo belongs starts =
     let cut = offsets_of s in
-    let leg : Leg = leg_of s.number saves (until_of stop) (entries_of i).size in
-    let R : LayoutData → Type 0 = λ m. let a = layout_to p i s.number saves (until_of stop) m.stages in let states = opening_states p s a m.stages in AreAt (input_of p i) a states (counts_at p cut) × HaveOwnPanes a states (length (records_before i.sources cut)) in
+    let leg : Leg = leg_of s.number saves until (entries_of i).size in
+    let R : LayoutData → Type 0 = λ m. let a = layout_to p i s.number saves until m.stages in let states = opening_states p s a m.stages in AreAt (input_of p i) a states (counts_at p cut) × HaveOwnPanes a states (length (records_before i.sources cut)) in
     subst R (sym lo.is) (are_at p lo.scale i s leg ip lo.fits belongs starts, have_own p lo.scale i s leg ip lo.fits belongs starts)

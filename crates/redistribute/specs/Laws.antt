@@ -8,6 +8,7 @@ use Rattle.stream_model.specs.Watermarks.{records_before}
 use Rattle.dataflow_model.specs.AbstractLayout.{AbstractLayout}
 use Rattle.dataflow_model.specs.Opening.{opening}
 use Rattle.dataflow_model.specs.Start.{IsLegStart}
+use Rattle.dataflow_model.specs.Leg.{Until}
 use Rattle.dataflow_model.specs.State.{State}
 use Rattle.layout_rules.specs.Layouts.{partition_counts}
 use Rattle.layout_rules.specs.declared.stage.Stage.{Stage}
@@ -18,15 +19,13 @@ use Rattle.dataflow_laws.specs.Legs.{AreAt, HaveMarks}
 use Rattle.dataflow_laws.specs.Owned.{HaveOwnPanes}
 use Rattle.dataflow_laws.specs.Inputs.{HaveCut}
 use Rattle.dataflow_laws.specs.Compiled.{layout_to}
-use Rattle.legs.specs.declared.stop.Stop.{Stop}
-use Rattle.legs.specs.Stops.{until_of}
 use Rattle.window_state.specs.Parts.{entries_of}
 use Rattle.redistribute.specs.declared.task_start.PartitionStart.{PartitionStart}
 use Rattle.redistribute.specs.declared.task_start.TaskStart.{TaskStart}
 use Rattle.redistribute.specs.declared.task_start.TaskStart.TheVariants.{Source, Chain, Window, Sink}
 use Rattle.redistribute.specs.StartData.{StartData, IsStartOf, offsets_of}
 use Rattle.redistribute.specs.Begins.{IsStartIn, HasSnapshot}
-use Rattle.redistribute.specs.Stopping.{CanStop, CanSaveAt}
+use Rattle.redistribute.specs.Stopping.{CanGo, CanSaveAt}
 use Rattle.redistribute.specs.Parts.{partition_start, task_start, whole_task_start, partitions_in}
 
 -- the start has partition q of source x
@@ -62,19 +61,19 @@ opening_of n Sink = opening n [] (replicate n lowest) empty
 abbrev pub opening_states : PlanData → StartData → AbstractLayout → List Stage → ℕ → State
 opening_states p s a stages t = opening_of (a.task t).inputs (whole_task_start p.max (partition_counts p) s stages t)
 
--- tasks that begin with a start of the input, in a leg that can stop and take savepoints as it is to, are tasks of one leg in opening states
+-- tasks that begin with a start of the input, in a leg that can go as far, and take savepoints, as it is to, are tasks of one leg in opening states
 abbrev pub TasksOpen : Type 0
-TasksOpen = (p : PlanData) (l : LayoutData) (i : InputData) (s : StartData) (saves : List (List (List ℕ))) (stop : Stop) → IsPlan p → IsLayoutOf p l → BelongsTo p i → IsStartIn p i s → CanStop i.sources (offsets_of s) stop → CanSaveAt i.sources (offsets_of s) saves stop
-    → let a = layout_to p i s.number saves (until_of stop) l.stages in IsLegStart p a (opening_states p s a l.stages)
+TasksOpen = (p : PlanData) (l : LayoutData) (i : InputData) (s : StartData) (saves : List (List (List ℕ))) (until : Until) → IsPlan p → IsLayoutOf p l → BelongsTo p i → IsStartIn p i s → CanGo i.sources (offsets_of s) until → CanSaveAt i.sources (offsets_of s) saves until
+    → let a = layout_to p i s.number saves until l.stages in IsLegStart p a (opening_states p s a l.stages)
 
 -- and where the start has the snapshot of its cut, so have they, with the watermarks there
 abbrev pub TasksHaveSnapshot : Type 0
-TasksHaveSnapshot = (p : PlanData) (l : LayoutData) (i : InputData) (s : StartData) (saves : List (List (List ℕ))) (stop : Stop) → IsPlan p → IsLayoutOf p l → BelongsTo p i → IsStartIn p i s → HasSnapshot p i s
-    → let a = layout_to p i s.number saves (until_of stop) l.stages in let states = opening_states p s a l.stages in
+TasksHaveSnapshot = (p : PlanData) (l : LayoutData) (i : InputData) (s : StartData) (saves : List (List (List ℕ))) (until : Until) → IsPlan p → IsLayoutOf p l → BelongsTo p i → IsStartIn p i s → HasSnapshot p i s
+    → let a = layout_to p i s.number saves until l.stages in let states = opening_states p s a l.stages in
     HaveCut p i a states (offsets_of s) × HaveMarks (input_of p i) a states (counts_at p (offsets_of s))
 
 -- and each of the window's tasks has its own panes alone, of no more records than stand before the start's cut, where the sources are
 abbrev pub TasksHaveOwnPanes : Type 0
-TasksHaveOwnPanes = (p : PlanData) (l : LayoutData) (i : InputData) (s : StartData) (saves : List (List (List ℕ))) (stop : Stop) → IsPlan p → IsLayoutOf p l → BelongsTo p i → IsStartIn p i s
-    → let a = layout_to p i s.number saves (until_of stop) l.stages in let states = opening_states p s a l.stages in
+TasksHaveOwnPanes = (p : PlanData) (l : LayoutData) (i : InputData) (s : StartData) (saves : List (List (List ℕ))) (until : Until) → IsPlan p → IsLayoutOf p l → BelongsTo p i → IsStartIn p i s
+    → let a = layout_to p i s.number saves until l.stages in let states = opening_states p s a l.stages in
     AreAt (input_of p i) a states (counts_at p (offsets_of s)) × HaveOwnPanes a states (length (records_before i.sources (offsets_of s)))

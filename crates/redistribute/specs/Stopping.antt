@@ -1,30 +1,37 @@
--- Where a leg can stop, and take savepoints while it goes on.
+-- How far a leg can go, and where it can take savepoints while it goes on.
 use Rattle.std.specs.Prelude.{◌≡◌, ◌⊎◌, ℕ, List, [], ◌∷◌}
 use Rattle.std.specs.List.{AllByRecursion}
 use Rattle.stream_model.specs.declared.entry.Entry.{Entry}
 use Rattle.stream_model.specs.Watermarks.{IsCut, IsBefore}
-use Rattle.legs.specs.declared.cut.Cut.{Cut}
+use Rattle.dataflow_model.specs.Leg.{Until}
+use Rattle.dataflow_model.specs.Leg.Until.{ToEnd, ToCut, TillAsked}
 use Rattle.legs.specs.declared.fault.LegFault.{LegFault}
 use Rattle.legs.specs.declared.fault.LegFault.TheVariants.{StopRange, Memory}
 use Rattle.legs.specs.declared.stop.Stop.{Stop}
-use Rattle.legs.specs.declared.stop.Stop.TheVariants.{Never, At}
+use Rattle.legs.specs.Stops.{until_of}
 
--- a leg over these sources that begins at a cut can stop so: never, or at a cut of the sources that is no earlier
+-- a leg over these sources that begins at a cut can go so far: a cut is one of the sources that is no earlier, and to the end, or until it is asked to stop, every leg can go
+abbrev pub CanGo : List (List (List Entry)) → List (List ℕ) → Until → Type 0
+CanGo sources begin ToEnd = Unit {0}
+CanGo sources begin (ToCut cut) = IsCut sources cut × IsBefore begin cut
+CanGo sources begin TillAsked = Unit {0}
+
+-- it can stop so
 abbrev pub CanStop : List (List (List Entry)) → List (List ℕ) → Stop → Type 0
-CanStop sources begin Never = Unit {0}
-CanStop sources begin (At cut) = IsCut sources cut.counts × IsBefore begin cut.counts
+CanStop sources begin stop = CanGo sources begin (until_of stop)
 
 -- cuts of which each counts no fewer entries of a partition than the one before, and the first no fewer than this one
 abbrev pub Rises : List (List ℕ) → List (List (List ℕ)) → Type 0
 Rises begin [] = Unit {0}
 Rises begin (cut ∷ cuts) = IsBefore begin cut × Rises cut cuts
 
--- a leg over these sources that begins at a cut can take savepoints at these cuts while it goes on: each is one of the sources, they rise, and none is past where it stops
-pub record CanSaveAt (sources : List (List (List Entry))) (begin : List (List ℕ)) (saves : List (List (List ℕ))) (stop : Stop) : Type 0 where
+-- a leg over these sources that begins at a cut and is to go so far can take savepoints at these cuts while it goes on: each is one of the sources, they rise, none is past where it stops, and there is none where it may be asked to stop
+pub record CanSaveAt (sources : List (List (List Entry))) (begin : List (List ℕ)) (saves : List (List (List ℕ))) (until : Until) : Type 0 where
   pub cuts : AllByRecursion (IsCut sources) saves
   pub rises : Rises begin saves
-  pub before : (end : Cut) → stop ≡ At end → AllByRecursion (λ save. IsBefore save end.counts) saves
+  pub before : (end : List (List ℕ)) → until ≡ ToCut end → AllByRecursion (λ save. IsBefore save end) saves
+  pub asked : until ≡ TillAsked → saves ≡ []
 
--- why a leg has no answer that begins at a cut: it cannot stop so, and otherwise only for want of memory
-abbrev pub IsRefusal : List (List (List Entry)) → List (List ℕ) → Stop → LegFault → Type 0
-IsRefusal sources begin stop fault = ((fault ≡ StopRange) × ¬ CanStop sources begin stop) ⊎ ((fault ≡ Memory) × CanStop sources begin stop)
+-- why a leg has no answer that begins at a cut: it cannot go so far, and otherwise only for want of memory
+abbrev pub IsRefusal : List (List (List Entry)) → List (List ℕ) → Until → LegFault → Type 0
+IsRefusal sources begin until fault = ((fault ≡ StopRange) × ¬ CanGo sources begin until) ⊎ ((fault ≡ Memory) × CanGo sources begin until)

@@ -19,7 +19,7 @@ pub fn nothing_else()
     ensures { NothingElse }
 {}
 
-/// Tasks that begin with a start of the input, in a leg that can stop as it is to, are the tasks of one leg, each in an
+/// Tasks that begin with a start of the input, in a leg that can go as far as it is to, are the tasks of one leg, each in an
 /// opening state: with the offsets and the watermarks of its partitions, and in its windows what the start has for the key
 /// groups that it owns.
 pub fn tasks_open()

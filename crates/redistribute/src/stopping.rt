@@ -1,10 +1,10 @@
-//! Where a leg from a start can stop.
+//! How far a leg from a start can go.
 
 ghost use Rattle.std.specs.Prelude.{◌≤◌, ◌↔◌, IsTrue, map};
 ghost use Rattle.std.specs.List.{AllZip};
 
 use crate::start::Start;
-use legs::{Cut, LegFault, Stop};
+use legs::{Cut, LegFault, Stop, Until};
 use savepoint_codec::SavedPartition;
 use stream_model::Input;
 
@@ -22,9 +22,10 @@ fn are_reached(partitions: &[SavedPartition], counts: &[u64]) -> bool
 impl Start {
     ghost use Rattle.std.specs.Prelude.{◌≡◌, ◌↔◌, IsTrue, MatchResult};
     ghost use Rattle.legs.specs.declared.fault.LegFault.TheVariants.{StopRange};
-    ghost use Rattle.stream_model.specs.Watermarks.{IsBefore};
+    ghost use Rattle.legs.specs.Stops.{until_in};
+    ghost use Rattle.stream_model.specs.Watermarks.{IsBefore, IsCut};
     ghost use Rattle.redistribute.specs.StartData.{offsets_of};
-    ghost use Rattle.redistribute.specs.Stopping.{CanStop};
+    ghost use Rattle.redistribute.specs.Stopping.{CanGo, CanStop};
 
     /// Whether a cut has a count for each partition and for no other, none below the entries that were read.
     pub fn is_before(&self, cut: &Cut) -> bool
@@ -39,6 +40,17 @@ impl Start {
             ))
     }
 
+    /// Whether a leg from here over an input can go to a cut.
+    fn check_cut(&self, input: &Input, cut: &Cut) -> Result<(), LegFault>
+        ensures { MatchResult result (λ _. IsCut input.now.sources cut.now.counts × IsBefore (offsets_of self.now) cut.now.counts) (λ fault. (fault ≡ StopRange) × ¬ (IsCut input.now.sources cut.now.counts × IsBefore (offsets_of self.now) cut.now.counts)) }
+    {
+        if cut.is_within(input.sources()) && self.is_before(cut) {
+            Ok(())
+        } else {
+            Err(LegFault::StopRange)
+        }
+    }
+
     /// Whether a leg from here over an input can stop so.
     ///
     /// # Errors
@@ -50,13 +62,21 @@ impl Start {
     {
         match stop {
             Stop::Never => Ok(()),
-            Stop::At(cut) => {
-                if cut.is_within(input.sources()) && self.is_before(cut) {
-                    Ok(())
-                } else {
-                    Err(LegFault::StopRange)
-                }
-            }
+            Stop::At(cut) => self.check_cut(input, cut),
+        }
+    }
+
+    /// Whether a leg from here over an input can go so far.
+    ///
+    /// # Errors
+    ///
+    /// `StopRange`, where it is to go to a cut that no leg from here can stop at.
+    pub fn check_until(&self, input: &Input, until: &Until) -> Result<(), LegFault>
+        ensures { MatchResult result (λ _. CanGo input.now.sources (offsets_of self.now) (until_in until.now)) (λ fault. (fault ≡ StopRange) × ¬ CanGo input.now.sources (offsets_of self.now) (until_in until.now)) }
+    {
+        match until {
+            Until::ToEnd | Until::TillAsked => Ok(()),
+            Until::ToCut(cut) => self.check_cut(input, cut),
         }
     }
 }

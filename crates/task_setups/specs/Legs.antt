@@ -3,7 +3,7 @@ use Rattle.std.specs.Prelude.{ℕ, List, length, map}
 use Rattle.dataflow_model.specs.Leg as model
 use Rattle.stream_model.specs.InputData.{InputData, partition_at}
 use Rattle.legs.specs.declared.cut.Cut.{Cut}
-use Rattle.legs.specs.Stops.{until_of}
+use Rattle.legs.specs.Stops.{until_in}
 pub use Rattle.plan_compiler.specs.LayoutData.{IsLayoutOf}
 use Rattle.task_setups.specs.declared.leg.Leg.{Leg}
 
@@ -17,4 +17,4 @@ counts_of cuts = map (λ cut. cut.counts) cuts
 
 -- the leg over an input
 abbrev pub leg_over : Leg → InputData → model.Leg
-leg_over leg i = model.leg_of leg.number (counts_of leg.saves.now) (until_of leg.stop) (sizes_of i)
+leg_over leg i = model.leg_of leg.number (counts_of leg.saves.now) (until_in leg.until) (sizes_of i)

@@ -3,12 +3,12 @@
 ghost use Rattle.std.specs.Prelude.{◌≡◌, length, map, IfOk};
 ghost use Rattle.std.specs.List.{range_with_len};
 ghost use Rattle.dataflow_model.specs.Leg as model;
-ghost use Rattle.legs.specs.Stops.{until_of};
+ghost use Rattle.legs.specs.Stops.{until_in};
 ghost use Rattle.task_setups.specs.Legs.{sizes_of, leg_over};
 ghost use Rattle.task_setups.specs.Setups as told;
 
 use dataflow_model::Ending;
-use legs::{Cut, Stop};
+use legs::{Cut, Until};
 use plain_data::Items;
 use std::alloc::{AllocError, Global};
 use stream_model::Input;
@@ -20,16 +20,17 @@ pub struct Leg<'a> {
     pub number: u64,
     /// The cuts at which it takes a savepoint and goes on, in their order.
     pub saves: &'a [Cut],
-    pub stop: Stop,
+    pub until: Until,
 }
 
-/// How a leg ends that is to stop there.
-pub(crate) fn ending_of(stop: &Stop) -> Ending
-    ensures { result ≡ model.ending_of (until_of stop.now) }
+/// How a leg ends that is to go so far.
+pub(crate) fn ending_of(until: &Until) -> Ending
+    ensures { result ≡ model.ending_of (until_in until.now) }
 {
-    match stop {
-        Stop::Never => Ending::AtEnd,
-        Stop::At(_) => Ending::AtCut,
+    match until {
+        Until::ToEnd => Ending::AtEnd,
+        Until::ToCut(_) => Ending::AtCut,
+        Until::TillAsked => Ending::Asked,
     }
 }
 
@@ -48,11 +49,11 @@ fn size_of(input: &Input, source: u32, partition: u32) -> u64
 
 /// How far a partition is read in the end.
 fn end_of(leg: &Leg<'_>, input: &Input, source: u32, partition: u32) -> u64
-    ensures { result ≡ model.until_at (sizes_of input.now) (until_of leg.now.stop) source partition }
+    ensures { result ≡ model.until_at (sizes_of input.now) (until_in leg.now.until) source partition }
 {
-    match &leg.stop {
-        Stop::Never => size_of(input, source, partition),
-        Stop::At(cut) => cut.count(source, partition),
+    match &leg.until {
+        Until::ToEnd | Until::TillAsked => size_of(input, source, partition),
+        Until::ToCut(cut) => cut.count(source, partition),
     }
 }
 

@@ -123,6 +123,6 @@ pub fn setup_of(
         ends: ends_of(alloc, leg, input, source, partitions)?,
         first: leg.number + 1,
         saves: leg.saves.len() as u64,
-        ending: ending_of(&leg.stop),
+        ending: ending_of(&leg.until),
     })
 }

@@ -186,6 +186,14 @@ impl Task {
         }
     }
 
+    /// How many of the leg's barriers the task has passed.
+    pub fn barriers_passed(&self) -> u64
+        ensures { result ≡ self.now.state.next }
+    {
+        let Task { next, .. } = self;
+        *next
+    }
+
     /// Whether the task is over and nothing is pending.
     pub fn is_done(&self) -> bool
         ensures { IsTrue result ↔ IsDone self.now.state }

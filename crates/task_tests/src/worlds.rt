@@ -1,5 +1,6 @@
 ghost use Rattle.std.specs.Prelude.{[], ◌≡◌};
 ghost use Rattle.stream_model.specs.InputData.{BelongsTo};
+ghost use Rattle.legs.specs.Stops.{until_of};
 ghost use Rattle.redistribute.specs.Begins.{IsStartIn};
 ghost use Rattle.redistribute.specs.StartData.{offsets_of};
 ghost use Rattle.redistribute.specs.Stopping.{CanSaveAt};
@@ -190,7 +191,7 @@ fn check_world<R: AllocGlobal + Abort>(
     requires belongs { BelongsTo given.plan.now given.input.now }
     requires starts { IsStartIn given.plan.now given.input.now given.start.now }
     requires laid_out { IsLayoutOf given.plan.now given.layout.now }
-    requires saves { CanSaveAt given.input.now.sources (offsets_of given.start.now) (counts_of given.saves.now) stop }
+    requires saves { CanSaveAt given.input.now.sources (offsets_of given.start.now) (counts_of given.saves.now) (until_of stop) }
 {
     let mut world = World::new(rt.alloc(), keys, given, stop)?;
     for part in case.parts {

@@ -2,7 +2,8 @@
 
 ghost use Rattle.std.specs.Prelude.{◌≡◌, ◌↔◌, List, map, length, IsFalse, IfOk};
 ghost use Rattle.layout_rules.specs.Stages.{task_count};
-ghost use Rattle.legs.specs.declared.stop.Stop.TheVariants.{Never};
+ghost use Rattle.dataflow_model.specs.Leg.Until.{ToEnd};
+ghost use Rattle.legs.specs.Stops.{until_in};
 ghost use Rattle.redistribute.specs.Begins.{IsFromNothing};
 ghost use Rattle.task_setups.specs.Legs.{counts_of};
 ghost use Rattle.core_steps.specs.Given.{given_data};
@@ -15,7 +16,7 @@ use crate::edges::settle_all;
 use crate::jobs::Done;
 use crate::laws::layouts_have_edges;
 use core_steps::{Finish, Given, finish_of};
-use legs::Stop;
+use legs::Until;
 use plan_compiler::Layout;
 use std::alloc::{AllocError, Global};
 use task_steps::Task;
@@ -70,35 +71,35 @@ fn settled(layout: &Layout, dones: Vec<Done>) -> Vec<Done>
 fn finished(
     alloc: Global,
     given: Given<'_>,
-    stop: &Stop,
+    until: &Until,
     dones: Vec<Done>,
 ) -> Result<Finish, AllocError>
-    requires sound { IsSound (given_data given stop.now) }
-    requires worked { AreWorked (given_data given stop.now) dones.items }
+    requires sound { IsSound (given_data given (until_in until.now)) }
+    requires worked { AreWorked (given_data given (until_in until.now)) dones.items }
     requires fine { NoFaults dones.items }
-    ensures ends { IfOk result (λ finish. IsEndOf given.entry.plan.now given.entry.input.now given.entry.start.now (counts_of given.entry.saves.now) stop.now finish) }
-    ensures whole { IfOk result (λ finish. IsFromNothing given.entry.input.now given.entry.start.now → stop.now ≡ Never → IsWholeRun given.entry.plan.now given.entry.input.now finish) }
+    ensures ends { IfOk result (λ finish. IsEndOf given.entry.plan.now given.entry.input.now given.entry.start.now (counts_of given.entry.saves.now) (until_in until.now) finish) }
+    ensures whole { IfOk result (λ finish. IsFromNothing given.entry.input.now given.entry.start.now → until_in until.now ≡ ToEnd → IsWholeRun given.entry.plan.now given.entry.input.now finish) }
 {
     let _edges = layouts_have_edges();
     let dones = settled(given.layout, dones);
     let tasks = tasks_of(alloc, dones)?;
-    finish_of(alloc, given, stop, tasks)
+    finish_of(alloc, given, until, tasks)
 }
 
 /// What a leg comes to, out of what its workers have done.
 pub(crate) fn conclude(
     alloc: Global,
     given: Given<'_>,
-    stop: &Stop,
+    until: &Until,
     dones: Vec<Done>,
 ) -> Result<Finish, AllocError>
-    requires sound { IsSound (given_data given stop.now) }
-    requires worked { AreWorked (given_data given stop.now) dones.items }
-    ensures ends { IfOk result (λ finish. IsEndOf given.entry.plan.now given.entry.input.now given.entry.start.now (counts_of given.entry.saves.now) stop.now finish) }
-    ensures whole { IfOk result (λ finish. IsFromNothing given.entry.input.now given.entry.start.now → stop.now ≡ Never → IsWholeRun given.entry.plan.now given.entry.input.now finish) }
+    requires sound { IsSound (given_data given (until_in until.now)) }
+    requires worked { AreWorked (given_data given (until_in until.now)) dones.items }
+    ensures ends { IfOk result (λ finish. IsEndOf given.entry.plan.now given.entry.input.now given.entry.start.now (counts_of given.entry.saves.now) (until_in until.now) finish) }
+    ensures whole { IfOk result (λ finish. IsFromNothing given.entry.input.now given.entry.start.now → until_in until.now ≡ ToEnd → IsWholeRun given.entry.plan.now given.entry.input.now finish) }
 {
     if has_fault(dones.as_slice()) {
         return Err(AllocError);
     }
-    finished(alloc, given, stop, dones)
+    finished(alloc, given, until, dones)
 }

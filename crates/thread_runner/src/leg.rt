@@ -4,9 +4,10 @@ ghost use Rattle.std.specs.Prelude.{[], ◌≡◌, IfOk, IfErr, OnOk};
 ghost use Rattle.stream_model.specs.InputData.{BelongsTo};
 ghost use Rattle.layout_rules.specs.Scale.{IsScale};
 ghost use Rattle.legs.specs.declared.stop.Stop.TheVariants.{Never};
+ghost use Rattle.legs.specs.Stops.{until_in, until_of};
 ghost use Rattle.redistribute.specs.StartData.{offsets_of};
 ghost use Rattle.redistribute.specs.Begins.{IsStartIn, IsFromNothing};
-ghost use Rattle.redistribute.specs.Stopping.{CanSaveAt, CanStop, IsRefusal};
+ghost use Rattle.redistribute.specs.Stopping.{CanGo, CanSaveAt, CanStop, IsRefusal};
 ghost use Rattle.task_setups.specs.Legs.{IsLayoutOf, counts_of};
 ghost use Rattle.core_steps.specs.Given.{given_data};
 ghost use Rattle.core_steps.specs.World.{IsSound};
@@ -24,7 +25,7 @@ use core_steps::laws::{each_leg_is_sound, tasks_begin_new};
 use core_steps::{Finish, Given};
 use layout_rules::Scale;
 use leg_tasks::tasks;
-use legs::{LegFault, Stop};
+use legs::{LegFault, Stop, Until};
 use plan_compiler::compile;
 use plan_model::Plan;
 use redistribute::Start;
@@ -49,11 +50,11 @@ fn prepared(
     requires starts { IsStartIn given.plan.now given.input.now given.start.now }
     requires number { leg.now.number ≡ given.start.now.number }
     requires same { leg.now.saves.now ≡ given.saves.now }
-    requires saves { CanSaveAt given.input.now.sources (offsets_of given.start.now) (counts_of given.saves.now) leg.now.stop }
-    ensures stops { OnOk result (CanStop given.entry.input.now.sources (offsets_of given.entry.start.now) leg.now.stop) }
-    ensures sound { OnOk result (IsSound (given_data given.entry leg.now.stop)) }
-    ensures refused { IfErr result (λ fault. IsRefusal given.entry.input.now.sources (offsets_of given.entry.start.now) leg.now.stop fault) }
-    ensures wired { IfOk result (λ jobs. AreWired (given_data given.entry leg.now.stop) jobs.items) }
+    requires saves { CanSaveAt given.input.now.sources (offsets_of given.start.now) (counts_of given.saves.now) (until_in leg.now.until) }
+    ensures stops { OnOk result (CanGo given.entry.input.now.sources (offsets_of given.entry.start.now) (until_in leg.now.until)) }
+    ensures sound { OnOk result (IsSound (given_data given.entry (until_in leg.now.until))) }
+    ensures refused { IfErr result (λ fault. IsRefusal given.entry.input.now.sources (offsets_of given.entry.start.now) (until_in leg.now.until) fault) }
+    ensures wired { IfOk result (λ jobs. AreWired (given_data given.entry (until_in leg.now.until)) jobs.items) }
 {
     let _sound = each_leg_is_sound();
     let _new = tasks_begin_new();
@@ -94,9 +95,9 @@ pub fn run_leg<R: Threads + Wait + Clock + Sync, G: Gate>(
     requires scale { IsScale plan.now scale.now }
     requires starts { IsStartIn plan.now input.now start.now }
     ensures stops { OnOk result (CanStop input.now.sources (offsets_of start.now) stop) }
-    ensures ends { IfOk result (λ finish. IsEndOf plan.now input.now start.now [] stop finish) }
+    ensures ends { IfOk result (λ finish. IsEndOf plan.now input.now start.now [] (until_of stop) finish) }
     ensures whole { IfOk result (λ finish. IsFromNothing input.now start.now → stop ≡ Never → IsWholeRun plan.now input.now finish) }
-    ensures refused { IfErr result (λ fault. IsThreadRefusal input.now.sources (offsets_of start.now) stop fault) }
+    ensures refused { IfErr result (λ fault. IsThreadRefusal input.now.sources (offsets_of start.now) (until_of stop) fault) }
 {
     start.check_stop(input, &stop)?;
     let layout = compile(alloc, plan, scale)?;
@@ -110,10 +111,10 @@ pub fn run_leg<R: Threads + Wait + Clock + Sync, G: Gate>(
     let leg = Leg {
         number: start.number(),
         saves: given.saves,
-        stop,
+        until: Until::from(stop),
     };
     let jobs = prepared(alloc, keys, given, &leg)?;
     let failed = AtomicBool::new(false);
     let dones = run_all(rt, alloc, input, jobs, gate, &failed)?;
-    Ok(conclude(alloc, given, &leg.stop, dones)?)
+    Ok(conclude(alloc, given, &leg.until, dones)?)
 }

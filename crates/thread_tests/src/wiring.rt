@@ -2,9 +2,10 @@
 
 ghost use Rattle.std.specs.Prelude.{[], ◌≡◌, IfOk, IfSome, OnOk, length};
 ghost use Rattle.stream_model.specs.InputData.{BelongsTo};
+ghost use Rattle.legs.specs.Stops.{until_in};
 ghost use Rattle.redistribute.specs.Begins.{IsStartIn};
 ghost use Rattle.redistribute.specs.StartData.{offsets_of};
-ghost use Rattle.redistribute.specs.Stopping.{CanSaveAt, CanStop};
+ghost use Rattle.redistribute.specs.Stopping.{CanGo, CanSaveAt};
 ghost use Rattle.layout_rules.specs.Stages.{task_count};
 ghost use Rattle.task_setups.specs.Legs.{IsLayoutOf, counts_of};
 ghost use Rattle.core_steps.specs.Given.{given_data};
@@ -18,7 +19,7 @@ use crate::making::{
 use core_steps::laws::{each_leg_is_sound, tasks_begin_new};
 use core_steps::{Finish, Given, finish_of};
 use leg_tasks::tasks;
-use legs::{LegFault, Stop};
+use legs::{LegFault, Until};
 use logical_plan::ReadPlan;
 use plan_compiler::Layout;
 use plan_model::Plan;
@@ -52,10 +53,10 @@ fn wired(
     requires starts { IsStartIn given.plan.now given.input.now given.start.now }
     requires number { leg.now.number ≡ given.start.now.number }
     requires same { leg.now.saves.now ≡ given.saves.now }
-    requires saves { CanSaveAt given.input.now.sources (offsets_of given.start.now) (counts_of given.saves.now) leg.now.stop }
-    ensures stops { OnOk result (CanStop given.entry.input.now.sources (offsets_of given.entry.start.now) leg.now.stop) }
-    ensures sound { OnOk result (IsSound (given_data given.entry leg.now.stop)) }
-    ensures wired { IfOk result (λ jobs. AreWired (given_data given.entry leg.now.stop) jobs.items) }
+    requires saves { CanSaveAt given.input.now.sources (offsets_of given.start.now) (counts_of given.saves.now) (until_in leg.now.until) }
+    ensures stops { OnOk result (CanGo given.entry.input.now.sources (offsets_of given.entry.start.now) (until_in leg.now.until)) }
+    ensures sound { OnOk result (IsSound (given_data given.entry (until_in leg.now.until))) }
+    ensures wired { IfOk result (λ jobs. AreWired (given_data given.entry (until_in leg.now.until)) jobs.items) }
 {
     let _sound = each_leg_is_sound();
     let _new = tasks_begin_new();
@@ -88,11 +89,11 @@ fn settled(layout: &Layout, dones: Vec<Done>) -> (Vec<Done>, u64)
 fn settle(
     alloc: Global,
     given: Given<'_>,
-    stop: &Stop,
+    until: &Until,
     dones: Vec<Done>,
 ) -> Result<(Finish, u64), AllocError>
-    requires sound { IsSound (given_data given stop.now) }
-    requires worked { AreWorked (given_data given stop.now) dones.items }
+    requires sound { IsSound (given_data given (until_in until.now)) }
+    requires worked { AreWorked (given_data given (until_in until.now)) dones.items }
     requires fine { NoFaults dones.items }
 {
     let _edges = layouts_have_edges();
@@ -100,7 +101,7 @@ fn settle(
     let _end = workers_are_at_end();
     let (dones, left) = settled(given.layout, dones);
     let tasks = tasks_of(alloc, dones)?;
-    Ok((finish_of(alloc, given, stop, tasks)?, left))
+    Ok((finish_of(alloc, given, until, tasks)?, left))
 }
 
 /// What the workers of a wired leg hand back, if none of them had a fault.
@@ -115,10 +116,10 @@ fn run_wired<R: AllocGlobal + Threads + Wait + Clock + Sync>(
     requires starts { IsStartIn given.plan.now given.input.now given.start.now }
     requires number { leg.now.number ≡ given.start.now.number }
     requires same { leg.now.saves.now ≡ given.saves.now }
-    requires saves { CanSaveAt given.input.now.sources (offsets_of given.start.now) (counts_of given.saves.now) leg.now.stop }
-    ensures stops { OnOk result (CanStop given.entry.input.now.sources (offsets_of given.entry.start.now) leg.now.stop) }
-    ensures sound { OnOk result (IsSound (given_data given.entry leg.now.stop)) }
-    ensures worked { IfOk result (λ dones. IfSome dones (λ v. AreWorked (given_data given.entry leg.now.stop) v.items)) }
+    requires saves { CanSaveAt given.input.now.sources (offsets_of given.start.now) (counts_of given.saves.now) (until_in leg.now.until) }
+    ensures stops { OnOk result (CanGo given.entry.input.now.sources (offsets_of given.entry.start.now) (until_in leg.now.until)) }
+    ensures sound { OnOk result (IsSound (given_data given.entry (until_in leg.now.until))) }
+    ensures worked { IfOk result (λ dones. IfSome dones (λ v. AreWorked (given_data given.entry (until_in leg.now.until)) v.items)) }
     ensures fine { IfOk result (λ dones. IfSome dones (λ v. NoFaults v.items)) }
 {
     let jobs = wired(rt.alloc(), keys, given, leg)?;
@@ -142,12 +143,12 @@ fn check_whole<R: AllocGlobal + Abort + Threads + Wait + Clock + Sync>(
     requires starts { IsStartIn given.plan.now given.input.now given.start.now }
     requires number { leg.now.number ≡ given.start.now.number }
     requires same { leg.now.saves.now ≡ given.saves.now }
-    requires saves { CanSaveAt given.input.now.sources (offsets_of given.start.now) (counts_of given.saves.now) leg.now.stop }
+    requires saves { CanSaveAt given.input.now.sources (offsets_of given.start.now) (counts_of given.saves.now) (until_in leg.now.until) }
 {
     let Some(dones) = run_wired(rt, keys, given, leg)? else {
         return Err(LegFault::Memory);
     };
-    let (finish, left) = settle(rt.alloc(), given, &leg.stop, dones)?;
+    let (finish, left) = settle(rt.alloc(), given, &leg.until, dones)?;
     assert_eq!(rt; left, 0);
     let outcome = outcome_of(rt.alloc(), finish, true)?;
     assert_eq!(rt; outcome.rows.as_str(), ROWS);
@@ -179,7 +180,7 @@ fn check_failed<R: AllocGlobal + Abort + Threads + Wait + Clock + Sync>(
     requires starts { IsStartIn given.plan.now given.input.now given.start.now }
     requires number { leg.now.number ≡ given.start.now.number }
     requires same { leg.now.saves.now ≡ given.saves.now }
-    requires saves { CanSaveAt given.input.now.sources (offsets_of given.start.now) (counts_of given.saves.now) leg.now.stop }
+    requires saves { CanSaveAt given.input.now.sources (offsets_of given.start.now) (counts_of given.saves.now) (until_in leg.now.until) }
 {
     let jobs = wired(rt.alloc(), keys, given, leg)?;
     let failed = AtomicBool::new(true);
@@ -224,7 +225,7 @@ fn check_leg<R: AllocGlobal + Abort + Threads + Wait + Clock + Sync>(
     requires starts { IsStartIn given.plan.now given.input.now given.start.now }
     requires number { leg.now.number ≡ given.start.now.number }
     requires same { leg.now.saves.now ≡ given.saves.now }
-    requires saves { CanSaveAt given.input.now.sources (offsets_of given.start.now) (counts_of given.saves.now) leg.now.stop }
+    requires saves { CanSaveAt given.input.now.sources (offsets_of given.start.now) (counts_of given.saves.now) (until_in leg.now.until) }
 {
     match trial {
         Trial::Whole => check_whole(rt, keys, given, leg),
@@ -248,7 +249,7 @@ fn check_given<R: AllocGlobal + Abort + RandomSource + Threads + Wait + Clock + 
     let leg = Leg {
         number: given.start.number(),
         saves: given.saves,
-        stop: Stop::Never,
+        until: Until::ToEnd,
     };
     Ok(check_leg(rt, keys, given, &leg, trial)?)
 }

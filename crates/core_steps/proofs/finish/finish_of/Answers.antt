@@ -1,14 +1,18 @@
-use Rattle.std.proofs.Common.{◌≡◌, ℕ, ◌+◌, List, length, refl, sym, subst, ◌∙◌, arith}
+use Rattle.std.proofs.Common.{◌≡◌, ℕ, suc, ◌+◌, Bool, false, true, List, length, refl, sym, ap, subst, ◌∙◌, arith}
+use Rattle.std.specs.Prelude.{nat_lt, slice_index_or}
 use Rattle.std.proofs.lemmas.List.{length-map}
+use Rattle.dataflow_model.specs.State.{State}
 use Rattle.legs.specs.declared.cut.Cut.{Cut}
+use Rattle.legs.specs.Stops.{until_in}
 use Rattle.task_setups.specs.Legs.{counts_of}
+use Rattle.task_steps.specs.TaskData.{TaskData}
 use Rattle.leg_tasks.specs.Leaving.{CanSave}
 use Rattle.core_steps.specs.declared.finish.Finish.TheVariants.{Ended, Stopped}
-use Rattle.core_steps.specs.Given.{given_data}
+use Rattle.core_steps.specs.Given.{GivenData, given_data, layout_in}
 use Rattle.core_steps.specs.World.{state_at}
-use Rattle.core_steps.specs.Finishing.{number_after}
+use Rattle.core_steps.specs.Finishing.{AreAtEnd, has_stopped, number_after}
 use Rattle.core_steps.proofs.Sound.{sound}
-use Rattle.core_steps.proofs.Ending.{can_save, ended_is, numbered, stopped_is}
+use Rattle.core_steps.proofs.Ending.{can_save, ended_is, numbered, of_sink, stopped_is}
 use Rattle.core_steps.proofs.Delivered.{end_of, whole_run}
 use Rattle.core_steps.proofs.finish.finish_of.Goals as goal
 
@@ -19,47 +23,79 @@ number_of number saves n k is many =
     let all : n + k + 1 ≡ number + length (counts_of saves) + 1 = omega (arith, is, many, same) in
     all ∙ numbered number (counts_of saves)
 
+-- the sink tells whether the leg has stopped
+sink_tells : (g : GivenData) (saves : List Cut) (tasks given : List TaskData) (b c : Bool) → AreAtEnd g tasks → counts_of saves ≡ g.saves → given ≡ tasks → c ≡ b → ((t : ℕ) (d : TaskData) → suc t ≡ length given → c ≡ nat_lt (length saves) (slice_index_or given t d).state.next)
+    → has_stopped g (state_at g tasks) ≡ b
+sink_tells g saves tasks given b c at are same is told =
+    let many : length saves ≡ length g.saves = sym (length-map saves (λ (cut : Cut). cut.counts)) ∙ ap length are in
+    let here : (t : ℕ) (d : TaskData) → suc t ≡ length tasks → c ≡ nat_lt (length saves) (slice_index_or tasks t d).state.next = subst (λ ts. (t : ℕ) (d : TaskData) → suc t ≡ length ts → c ≡ nat_lt (length saves) (slice_index_or ts t d).state.next) same told in
+    sym (of_sink (λ (x : State). nat_lt (length saves) x.next) c g tasks at here ∙ (λ j. nat_lt (many j) (state_at g tasks (layout_in g).sink).next)) ∙ is
+
+pub has_stopped-requires : goal.has_stopped-requires
+has_stopped-requires c =
+    let g = given_data c.args.given (until_in c.args.until.now) in
+    let one = (sound g c.requires.ended.given).count in
+    let two = c.requires.count in
+    let same = ap (λ (ts : List TaskData). length ts) c.as_slice.ensures.value in
+    omega (arith, one, two, same)
+
 pub sink_rows-requires : goal.sink_rows-requires
 sink_rows-requires c =
-    let g = given_data c.args.given c.args.stop.now in
+    let g = given_data c.args.given (until_in c.args.until.now) in
     let one = (sound g c.requires.ended.given).count in
     let two = c.requires.count in
     omega (arith, one, two)
 
-pub sink_rows-requires-in-At : goal.sink_rows-requires-in-At
-sink_rows-requires-in-At c =
-    let g = given_data c.args.given c.args.stop.now in
+pub sink_rows-requires-2 : goal.sink_rows-requires-2
+sink_rows-requires-2 c =
+    let g = given_data c.args.given (until_in c.args.until.now) in
     let one = (sound g c.requires.ended.given).count in
     let two = c.requires.count in
     omega (arith, one, two)
 
 pub save-requires-clause-tasks : goal.save-requires-clause-tasks
 save-requires-clause-tasks c =
-    let g = given_data c.args.given c.args.stop.now in
-    subst (CanSave g.plan g.layout.stages) (sym c.as_slice.ensures.value) (can_save g c.args.tasks.items c.requires)
+    let g = given_data c.args.given (until_in c.args.until.now) in
+    subst (CanSave g.plan g.layout.stages) (sym c.as_slice-2.ensures.value) (can_save g c.args.tasks.items c.requires)
 
-pub returns-in-Never-clause-is : goal.returns-in-Never-clause-is
-returns-in-Never-clause-is c =
-    let g = given_data c.args.given c.args.stop.now in
-    ended_is g c.args.tasks.items c.requires c.sink_rows.result c.sink_rows.ensures c.in-Never.is
+pub returns-then-not-has_stopped-clause-is : goal.returns-then-not-has_stopped-clause-is
+returns-then-not-has_stopped-clause-is c =
+    let g = given_data c.args.given (until_in c.args.until.now) in
+    let goes_on = sink_tells g c.args.given.saves.now c.args.tasks.items _ false c.has_stopped.result c.requires refl c.as_slice.ensures.value c.if-not-has_stopped.true c.has_stopped.ensures in
+    let is = ended_is g c.args.tasks.items c.requires c.sink_rows.result c.sink_rows.ensures goes_on in
+    is
 
-pub returns-in-Never-clause-ends : goal.returns-in-Never-clause-ends
-returns-in-Never-clause-ends c =
-    let g = given_data c.args.given c.args.stop.now in
-    end_of g (state_at g c.args.tasks.items) c.requires.ended (Ended c.sink_rows.result) (ended_is g c.args.tasks.items c.requires c.sink_rows.result c.sink_rows.ensures c.in-Never.is)
+pub returns-then-not-has_stopped-clause-ends : goal.returns-then-not-has_stopped-clause-ends
+returns-then-not-has_stopped-clause-ends c =
+    let g = given_data c.args.given (until_in c.args.until.now) in
+    let goes_on = sink_tells g c.args.given.saves.now c.args.tasks.items _ false c.has_stopped.result c.requires refl c.as_slice.ensures.value c.if-not-has_stopped.true c.has_stopped.ensures in
+    let is = ended_is g c.args.tasks.items c.requires c.sink_rows.result c.sink_rows.ensures goes_on in
+    end_of g (state_at g c.args.tasks.items) c.requires.ended (Ended c.sink_rows.result) is
 
-pub returns-in-Never-clause-whole : goal.returns-in-Never-clause-whole
-returns-in-Never-clause-whole c = λ nothing never.
-    let g = given_data c.args.given c.args.stop.now in
-    whole_run g (state_at g c.args.tasks.items) c.requires.ended (Ended c.sink_rows.result) (ended_is g c.args.tasks.items c.requires c.sink_rows.result c.sink_rows.ensures c.in-Never.is) nothing never
+pub returns-then-not-has_stopped-clause-whole : goal.returns-then-not-has_stopped-clause-whole
+returns-then-not-has_stopped-clause-whole c = λ nothing ends.
+    let g = given_data c.args.given (until_in c.args.until.now) in
+    let goes_on = sink_tells g c.args.given.saves.now c.args.tasks.items _ false c.has_stopped.result c.requires refl c.as_slice.ensures.value c.if-not-has_stopped.true c.has_stopped.ensures in
+    let is = ended_is g c.args.tasks.items c.requires c.sink_rows.result c.sink_rows.ensures goes_on in
+    whole_run g (state_at g c.args.tasks.items) c.requires.ended (Ended c.sink_rows.result) is nothing ends
 
-pub returns-in_ok-savepoint-in-At-clause-is : goal.returns-in_ok-savepoint-in-At-clause-is
-returns-in_ok-savepoint-in-At-clause-is c =
-    let g = given_data c.args.given c.args.stop.now in
-    stopped_is g c.args.tasks.items c.requires c.sink_rows-in-At.result c.sink_rows-in-At.ensures c.in_ok-savepoint-in-At.savepoint _ _ c.as_slice.ensures.value c.in_ok-savepoint-in-At.ensures (number_of g.start.number c.args.given.saves.now _ _ c.number.ensures refl) c.in-At.is
+pub returns-clause-is : goal.returns-clause-is
+returns-clause-is c =
+    let g = given_data c.args.given (until_in c.args.until.now) in
+    let stopped = sink_tells g c.args.given.saves.now c.args.tasks.items _ true c.has_stopped.result c.requires refl c.as_slice.ensures.value c.if-not-has_stopped.false c.has_stopped.ensures in
+    let is = stopped_is g c.args.tasks.items c.requires c.sink_rows-2.result c.sink_rows-2.ensures c.in_ok-savepoint.savepoint _ _ c.as_slice-2.ensures.value c.in_ok-savepoint.ensures (number_of g.start.number c.args.given.saves.now _ _ c.number.ensures refl) stopped in
+    is
 
-pub returns-in_ok-savepoint-in-At-clause-ends : goal.returns-in_ok-savepoint-in-At-clause-ends
-returns-in_ok-savepoint-in-At-clause-ends c =
-    let g = given_data c.args.given c.args.stop.now in
-    end_of g (state_at g c.args.tasks.items) c.requires.ended (Stopped c.sink_rows-in-At.result c.in_ok-savepoint-in-At.savepoint)
-    (stopped_is g c.args.tasks.items c.requires c.sink_rows-in-At.result c.sink_rows-in-At.ensures c.in_ok-savepoint-in-At.savepoint _ _ c.as_slice.ensures.value c.in_ok-savepoint-in-At.ensures (number_of g.start.number c.args.given.saves.now _ _ c.number.ensures refl) c.in-At.is)
+pub returns-clause-ends : goal.returns-clause-ends
+returns-clause-ends c =
+    let g = given_data c.args.given (until_in c.args.until.now) in
+    let stopped = sink_tells g c.args.given.saves.now c.args.tasks.items _ true c.has_stopped.result c.requires refl c.as_slice.ensures.value c.if-not-has_stopped.false c.has_stopped.ensures in
+    let is = stopped_is g c.args.tasks.items c.requires c.sink_rows-2.result c.sink_rows-2.ensures c.in_ok-savepoint.savepoint _ _ c.as_slice-2.ensures.value c.in_ok-savepoint.ensures (number_of g.start.number c.args.given.saves.now _ _ c.number.ensures refl) stopped in
+    end_of g (state_at g c.args.tasks.items) c.requires.ended (Stopped c.sink_rows-2.result c.in_ok-savepoint.savepoint) is
+
+pub returns-clause-whole : goal.returns-clause-whole
+returns-clause-whole c = λ nothing ends.
+    let g = given_data c.args.given (until_in c.args.until.now) in
+    let stopped = sink_tells g c.args.given.saves.now c.args.tasks.items _ true c.has_stopped.result c.requires refl c.as_slice.ensures.value c.if-not-has_stopped.false c.has_stopped.ensures in
+    let is = stopped_is g c.args.tasks.items c.requires c.sink_rows-2.result c.sink_rows-2.ensures c.in_ok-savepoint.savepoint _ _ c.as_slice-2.ensures.value c.in_ok-savepoint.ensures (number_of g.start.number c.args.given.saves.now _ _ c.number.ensures refl) stopped in
+    whole_run g (state_at g c.args.tasks.items) c.requires.ended (Stopped c.sink_rows-2.result c.in_ok-savepoint.savepoint) is nothing ends

@@ -1,6 +1,7 @@
+use Rattle.legs.specs.Stops.{until_in}
 use Rattle.core_steps.specs.Given.{given_data}
 use Rattle.thread_tests.proofs.Jobs.{finds_all}
 use Rattle.thread_tests.proofs.wiring.check_failed.Goals as goal
 
 pub run_all-requires-after_bounds : goal.run_all-requires-after_bounds
-run_all-requires-after_bounds g c = λ _ _. finds_all (given_data c.args.given c.args.leg.now.stop) c.in_ok-jobs.jobs.items c.in_ok-jobs.ensures.wired
+run_all-requires-after_bounds g c = λ _ _. finds_all (given_data c.args.given (until_in c.args.leg.now.until)) c.in_ok-jobs.jobs.items c.in_ok-jobs.ensures.wired

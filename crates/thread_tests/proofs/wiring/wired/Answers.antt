@@ -1,6 +1,7 @@
 use Rattle.std.proofs.Common.{◌≡◌, List, map, length, take, drop, refl, sym, ap, subst, arith, ◌∙◌}
 use Rattle.std.proofs.lemmas.List.{take_at, length-map}
 use Rattle.leg_tasks.specs.Beginning.{BeginLeg}
+use Rattle.legs.specs.Stops.{until_in}
 use Rattle.core_steps.specs.Given.{given_data, layout_in}
 use Rattle.core_steps.specs.World.{IsSound}
 use Rattle.core_steps.proofs.Legs.{begins}
@@ -19,7 +20,7 @@ wire-requires-clause-rings c = (c.layouts_have_edges-edges.ensures c.args.given.
 
 pub wire-requires-clause-count : goal.wire-requires-clause-count
 wire-requires-clause-count c =
-    let g = given_data c.args.given c.args.leg.now.stop in
+    let g = given_data c.args.given (until_in c.args.leg.now.until) in
     let s : IsSound g = c.each_leg_is_sound-sound.ensures g (record { plan = c.columns-columns.ensures.sound; input = c.sources-sources.ensures.sound; orderly = c.sources-sources.ensures.orderly; belongs = c.requires.belongs; laid_out = c.requires.laid_out; starts = c.requires.starts; stops = c.in_ok-tasks.ensures.stops; saves = c.requires.saves }) in
     let tasks = c.in_ok-tasks.tasks.items in
     let begin : BeginLeg g.plan g.input g.start g.layout.stages (layout_in g) tasks = begins g c.args.leg.now.number c.args.leg.now.saves.now c.args.given.saves.now tasks c.requires.number c.requires.same refl c.in_ok-tasks.ensures.begin in
@@ -32,12 +33,12 @@ wire-requires-clause-count c =
 
 pub returns-clause-sound : goal.returns-clause-sound
 returns-clause-sound c =
-    let g = given_data c.args.given c.args.leg.now.stop in
+    let g = given_data c.args.given (until_in c.args.leg.now.until) in
     c.each_leg_is_sound-sound.ensures g (record { plan = c.columns-columns.ensures.sound; input = c.sources-sources.ensures.sound; orderly = c.sources-sources.ensures.orderly; belongs = c.requires.belongs; laid_out = c.requires.laid_out; starts = c.requires.starts; stops = c.in_ok-tasks.ensures.stops; saves = c.requires.saves })
 
 pub returns-clause-wired : goal.returns-clause-wired
 returns-clause-wired c =
-    let g = given_data c.args.given c.args.leg.now.stop in
+    let g = given_data c.args.given (until_in c.args.leg.now.until) in
     let s : IsSound g = c.each_leg_is_sound-sound.ensures g (record { plan = c.columns-columns.ensures.sound; input = c.sources-sources.ensures.sound; orderly = c.sources-sources.ensures.orderly; belongs = c.requires.belongs; laid_out = c.requires.laid_out; starts = c.requires.starts; stops = c.in_ok-tasks.ensures.stops; saves = c.requires.saves }) in
     let tasks = c.in_ok-tasks.tasks.items in
     let begin : BeginLeg g.plan g.input g.start g.layout.stages (layout_in g) tasks = begins g c.args.leg.now.number c.args.leg.now.saves.now c.args.given.saves.now tasks c.requires.number c.requires.same refl c.in_ok-tasks.ensures.begin in
