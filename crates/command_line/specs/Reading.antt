@@ -1,11 +1,11 @@
 -- The command that words say.
 use Rattle.std.specs.Prelude.{◌≡◌, ℕ, List, [], map, Bool, true, false, ◌||◌, Option, Some, None, option_map, unwrap_or, bytes_eq, codes}
 use Rattle.clap.specs.Words.{first_value}
-use Rattle.clap.specs.Matches.{matched_of, raw_values}
+use Rattle.clap.specs.Matches.{matched_of, one_text, raw_values}
 use Rattle.clap.specs.declared.parser.matches.Found.{Found}
 use Rattle.import_command.specs.declared.words.ImportWords.{ImportWords}
 use Rattle.commands.specs.declared.command.Command.{Command}
-use Rattle.commands.specs.declared.command.Command.TheVariants.{Run, Simulate, Leg, Layout, Check, Import, Show, Group, Explain, Version}
+use Rattle.commands.specs.declared.command.Command.TheVariants.{Run, Simulate, Leg, Cuts, Layout, Check, Import, Show, Group, Explain, Version}
 
 -- the word under a name
 abbrev pub word : Found → List ℕ → List ℕ
@@ -16,6 +16,7 @@ abbrev pub name_of : Command → List ℕ
 name_of (Run _ _ _ _) = codes "run"
 name_of (Simulate _ _ _ _) = codes "simulate"
 name_of (Leg _ _ _ _ _ _) = codes "leg"
+name_of (Cuts _ _ _ _) = codes "cuts"
 name_of (Layout _ _) = codes "layout"
 name_of (Check _ _ _) = codes "check"
 name_of (Import _ _) = codes "import"
@@ -44,6 +45,12 @@ or_else (Some word) other = Some word
 abbrev pub scale_word : Found → Option (List ℕ)
 scale_word words = or_else (first_value words (codes "SCALE")) (first_value words (codes "scale"))
 
+-- an option that is there or not is there, or is not
+pub record IsFlag (words : Found) (name : List ℕ) (is_there : Bool) : Type 0 where
+  pub absent : one_text words name ≡ None → is_there ≡ false
+  pub given : one_text words name ≡ Some (codes "true") → is_there ≡ true
+  pub other : one_text words name ≡ Some (codes "false") → is_there ≡ false
+
 -- the words of a command, each by its name
 abbrev pub HasWords : Found → Command → Type 0
 HasWords words (Run plan input legs parallelism) =
@@ -55,6 +62,8 @@ HasWords words (Leg plan input scale from stop save) =
     (plan.now ≡ word words (codes "PLAN")) × (input.now ≡ word words (codes "INPUT")) × (scale.now ≡ word words (codes "SCALE"))
     × (option_map (λ w. w.now) from ≡ first_value words (codes "from")) × (option_map (λ w. w.now) stop ≡ first_value words (codes "stop"))
     × (option_map (λ w. w.now) save ≡ first_value words (codes "save"))
+HasWords words (Cuts plan input until stays_open) =
+    (plan.now ≡ word words (codes "PLAN")) × (input.now ≡ word words (codes "INPUT")) × (option_map (λ w. w.now) until ≡ first_value words (codes "until")) × IsFlag words (codes "open") stays_open
 HasWords words (Layout plan scale) = (plan.now ≡ word words (codes "PLAN")) × (scale.now ≡ word words (codes "SCALE"))
 HasWords words (Check plan input scale) = (plan.now ≡ word words (codes "PLAN")) × (option_map (λ w. w.now) input ≡ first_value words (codes "INPUT")) × (option_map (λ w. w.now) scale ≡ scale_word words)
 HasWords words (Import plan said) = (plan.now ≡ word words (codes "PLAN")) × HasImportWords words said
@@ -66,8 +75,8 @@ HasWords words Version = Unit {0}
 -- a name is one of a command
 abbrev pub is_command : List ℕ → Bool
 is_command name =
-    bytes_eq name (codes "run") || (bytes_eq name (codes "simulate") || (bytes_eq name (codes "leg") || (bytes_eq name (codes "layout") || (bytes_eq name (codes "check") || (bytes_eq name (codes "import")
-    || (bytes_eq name (codes "show") || (bytes_eq name (codes "group") || (bytes_eq name (codes "explain") || bytes_eq name (codes "version")))))))))
+    bytes_eq name (codes "run") || (bytes_eq name (codes "simulate") || (bytes_eq name (codes "leg") || (bytes_eq name (codes "cuts") || (bytes_eq name (codes "layout") || (bytes_eq name (codes "check") || (bytes_eq name (codes "import")
+    || (bytes_eq name (codes "show") || (bytes_eq name (codes "group") || (bytes_eq name (codes "explain") || bytes_eq name (codes "version"))))))))))
 
 -- the command of a name, with the words after it; no other name has one
 abbrev pub IsRead : List ℕ → Found → Option Command → Type 0

@@ -4,7 +4,7 @@ use Rattle.clap.specs.Words.{Rule, App, Shape, app_of, new_rule, with_subcommand
 use Rattle.clap.specs.Simple.{new_shape}
 use Rattle.clap.specs.declared.builder.command.Command.TheViews.{out-Command as fields_of}
 use Rattle.clap.specs.declared.builder.command.Command.{Command}
-use Rattle.clap.specs.declared.builder.action.ArgAction.TheVariants.{Append}
+use Rattle.clap.specs.declared.builder.action.ArgAction.TheVariants.{Append, SetTrue}
 
 -- a word that has to be there
 abbrev pub required_rule : List ℕ → Rule
@@ -13,6 +13,10 @@ required_rule name = record (new_rule name) { required = true }
 -- an option of a long name, with one value
 abbrev pub option_rule : List ℕ → Rule
 option_rule name = record (new_rule name) { long = Some name; value_names = 1 }
+
+-- an option of a long name that is there or not
+abbrev pub flag_rule : List ℕ → Rule
+flag_rule name = record (new_rule name) { long = Some name; action = Some SetTrue }
 
 -- a word that has to be there, and may come several times
 abbrev pub several_rule : List ℕ → Rule
@@ -35,6 +39,10 @@ leg_files_shape = command_shape (codes "leg") (codes "PLAN" ∷ codes "INPUT" �
 -- a leg's files, and its three options
 abbrev pub leg_shape : Shape
 leg_shape = record leg_files_shape { rules = leg_files_shape.rules ++ option_rule (codes "from") ∷ option_rule (codes "stop") ∷ option_rule (codes "save") ∷ [] }
+
+-- a plan and an input, and two options
+abbrev pub cuts_shape : Shape
+cuts_shape = record (new_shape (codes "cuts")) { rules = required_rule (codes "PLAN") ∷ required_rule (codes "INPUT") ∷ option_rule (codes "until") ∷ flag_rule (codes "open") ∷ [] }
 
 abbrev pub layout_shape : Shape
 layout_shape = command_shape (codes "layout") (codes "PLAN" ∷ codes "SCALE" ∷ [])
@@ -74,16 +82,16 @@ abbrev pub jobs : App
 jobs = with_subcommand (with_subcommand (with_subcommand top run_shape) simulate_shape) leg_shape
 
 abbrev pub texts : App
-texts = with_subcommand (with_subcommand (with_subcommand jobs import_shape) layout_shape) check_shape
+texts = with_subcommand (with_subcommand (with_subcommand (with_subcommand jobs import_shape) cuts_shape) layout_shape) check_shape
 
 abbrev pub views : App
 views = with_subcommand (with_subcommand texts show_shape) group_shape
 
--- and that is one of ten
+-- and that is one of eleven
 abbrev pub program : App
 program = record {
   top = record top.top { is_leaf = false };
-  subs = run_shape ∷ simulate_shape ∷ leg_shape ∷ import_shape ∷ layout_shape ∷ check_shape ∷ show_shape ∷ group_shape ∷ explain_shape ∷ version_shape ∷ [];
+  subs = run_shape ∷ simulate_shape ∷ leg_shape ∷ import_shape ∷ cuts_shape ∷ layout_shape ∷ check_shape ∷ show_shape ∷ group_shape ∷ explain_shape ∷ version_shape ∷ [];
 }
 
 -- a command of such a shape, without commands below it

@@ -77,6 +77,12 @@ fn command_in<'m>(name: &str, words: &'m ArgMatches<'_>) -> Option<Command<'m>>
             stop: words.get_str("stop"),
             save: words.get_str("save"),
         }),
+        "cuts" => Some(Command::Cuts {
+            plan: named(words, "PLAN"),
+            input: named(words, "INPUT"),
+            until: words.get_str("until"),
+            stays_open: words.get_flag("open"),
+        }),
         "layout" => Some(Command::Layout {
             plan: named(words, "PLAN"),
             scale: named(words, "SCALE"),

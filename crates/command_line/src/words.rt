@@ -3,7 +3,7 @@
 ghost use Rattle.std.specs.Prelude.{◌≡◌, IfOk};
 ghost use Rattle.clap.specs.Words.{app_of, new_rule};
 ghost use Rattle.clap.specs.Simple.{new_shape};
-ghost use Rattle.command_line.specs.Words.{AddsRule, IsCommand, required_rule, option_rule, several_rule, run_shape, simulate_shape, leg_files_shape, leg_shape, layout_shape, check_shape, import_files_shape, import_names_shape, import_shape, show_shape, group_shape, explain_shape, version_shape, top, jobs, texts, views, program};
+ghost use Rattle.command_line.specs.Words.{AddsRule, IsCommand, required_rule, option_rule, flag_rule, several_rule, run_shape, simulate_shape, leg_files_shape, leg_shape, cuts_shape, layout_shape, check_shape, import_files_shape, import_names_shape, import_shape, show_shape, group_shape, explain_shape, version_shape, top, jobs, texts, views, program};
 
 use clap::{Arg, ArgAction, Command};
 use std::alloc::{AllocError, Global};
@@ -64,6 +64,19 @@ fn option<'a>(
 {
     let arg = Arg::new(alloc, name).long(name).value_name(value);
     command.arg(arg.help(help))
+}
+
+/// With one option more, which is there or not.
+fn flag<'a>(
+    alloc: Global,
+    command: Command<'a>,
+    name: &'a str,
+    help: &'a str,
+) -> Result<Command<'a>, AllocError>
+    ensures { IfOk result (λ c. AddsRule (flag_rule name.now) command.entry c) }
+{
+    let arg = Arg::new(alloc, name).long(name).help(help);
+    command.arg(arg.action(ArgAction::SetTrue))
 }
 
 const PLAN: &str = "JSON file of the job: sources, filters, and one window with its aggregates";
@@ -199,6 +212,38 @@ subtask of the window's stage.
 
 Example: streamjob layout plan.json scale.json
 Page: docs/FORMATS.md, under Layout";
+
+const CUTS: &str = "\
+Without an option it prints a line for each partition: `source UID P ENTRIES RECORDS LEAST GREATEST
+WATERMARK`, with the least and the greatest time of its records, a hyphen each where it has none, and
+its greatest watermark. With --until it prints the first cut at which every window that ends by TIME
+is due, and with --open the last cut before which each partition has an entry left, so that a job which
+stops there goes on once more entries stand behind. A cut is a word that `leg --stop` takes.
+
+Example: streamjob cuts plan.json input.json --until 2026-10-21T02:00:00Z
+Page: docs/FORMATS.md, under Cuts";
+
+fn cuts_words<'a>(alloc: Global) -> Result<Command<'a>, AllocError>
+    ensures { IfOk result (λ c. IsCommand cuts_shape c) }
+{
+    let about = "Print how far the partitions of an input go, or a cut of it";
+    let command = named(alloc, "cuts", about, CUTS);
+    let command = required(alloc, command, "PLAN", PLAN)?;
+    let command = required(alloc, command, "INPUT", INPUT)?;
+    let command = option(
+        alloc,
+        command,
+        "until",
+        "TIME",
+        "A number, or a time in ISO 8601 with its zone, in milliseconds since 1970",
+    )?;
+    flag(
+        alloc,
+        command,
+        "open",
+        "Print the last cut that leaves an entry of each partition; not with --until",
+    )
+}
 
 fn layout_words<'a>(alloc: Global) -> Result<Command<'a>, AllocError>
     ensures { IfOk result (λ c. IsCommand layout_shape c) }
@@ -405,6 +450,7 @@ fn with_texts<'a>(alloc: Global) -> Result<Command<'a>, AllocError>
 {
     with_jobs(alloc)?
         .subcommand(import_words(alloc)?)?
+        .subcommand(cuts_words(alloc)?)?
         .subcommand(layout_words(alloc)?)?
         .subcommand(check_words(alloc)?)
 }

@@ -6,6 +6,10 @@ use Rattle.std.specs.declared.io.ErrorKind.TheVariants.{OutOfMemory}
 use Rattle.job_texts.specs.declared.fault.JobFault.{JobFault}
 use Rattle.job_texts.specs.declared.fault.JobFault.TheVariants.{Number, Read, Write, Memory}
 use Rattle.job_texts.specs.Group.{TellsGroup, group_said}
+use Rattle.std.specs.Borrow.{Bor}
+use Rattle.job.specs.Cuts.{TellsCuts, cuts_said}
+use Rattle.job.specs.declared.cuts.CutQuestion.{CutQuestion}
+use Rattle.job.specs.declared.cuts.CutQuestion.TheVariants.{Extents, Until, Open}
 use Rattle.job.specs.Ends.{InOneThread, OnThreads}
 use Rattle.job.specs.Layout.{TellsLayout, layout_said}
 use Rattle.job.specs.Leg.{LegJob, TellsLeg, leg_said}
@@ -62,6 +66,22 @@ abbrev pub AnswersLeg : Bool → Option (List ℕ) → Result (Unit {0}) JobFaul
 AnswersLeg names_savepoint stop result =
     CannotRead result
     ⊎ ((plan : List ℕ) × (input : List ℕ) × (scale : List ℕ) × (from : Option (List ℕ)) × (is_some from ≡ names_savepoint) × ComesOfLeg (leg_said plan input scale from stop) result)
+
+-- what is asked of an input where a time is named, or an open cut; of both at once nothing
+abbrev pub IsQuestion : Option (List ℕ) → Bool → Option CutQuestion → Type 0
+IsQuestion None false question = question ≡ Some Extents
+IsQuestion None true question = question ≡ Some Open
+IsQuestion (Some word) true question = question ≡ None
+IsQuestion (Some word) false None = ⊥
+IsQuestion (Some word) false (Some question) = (spelled : Bor (List ℕ)) × (question ≡ Until spelled) × (spelled.now ≡ word)
+
+-- what `job_cuts` answers of some plan and input, or that one of them was not read; that there is no such number, where nothing is asked
+abbrev pub AnswersQuestion : Option CutQuestion → Result (Unit {0}) JobFault → Type 0
+AnswersQuestion None result = result ≡ Err Number
+AnswersQuestion (Some question) result = CannotRead result ⊎ ((plan : List ℕ) × (input : List ℕ) × TellsCuts (cuts_said plan input question) result None None)
+
+abbrev pub AnswersCuts : Option (List ℕ) → Bool → Result (Unit {0}) JobFault → Type 0
+AnswersCuts until stays_open result = (question : Option CutQuestion) × IsQuestion until stays_open question × AnswersQuestion question result
 
 -- what `job_layout` answers of some plan and scale, or that one of them was not read
 abbrev pub AnswersLayout : Result (Unit {0}) JobFault → Type 0

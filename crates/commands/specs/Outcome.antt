@@ -4,11 +4,11 @@ use Rattle.job_texts.specs.declared.fault.JobFault.{JobFault}
 use Rattle.job_texts.specs.declared.fault.JobFault.TheVariants.{Write as WriteFault}
 use Rattle.user_texts.specs.declared.writing.TextFault.{TextFault}
 use Rattle.user_texts.specs.declared.writing.TextFault.TheVariants as text
-use Rattle.commands.specs.Answers.{AnswersRun, AnswersSimulate, AnswersLeg, AnswersLayout, AnswersShow, AnswersGroup, AnswersExplain}
+use Rattle.commands.specs.Answers.{AnswersRun, AnswersSimulate, AnswersLeg, AnswersCuts, AnswersLayout, AnswersShow, AnswersGroup, AnswersExplain}
 use Rattle.commands.specs.Checking.{AnswersCheck}
 use Rattle.commands.specs.Importing.{AnswersImport}
 use Rattle.commands.specs.declared.command.Command.{Command}
-use Rattle.commands.specs.declared.command.Command.TheVariants.{Run, Simulate, Leg, Layout, Check, Import, Show, Group, Explain, Version}
+use Rattle.commands.specs.declared.command.Command.TheVariants.{Run, Simulate, Leg, Cuts, Layout, Check, Import, Show, Group, Explain, Version}
 use Rattle.commands.specs.declared.fault.CommandFault.{CommandFault}
 use Rattle.commands.specs.declared.fault.CommandFault.TheVariants.{Job, NoPage}
 
@@ -35,6 +35,7 @@ abbrev pub Performs : Command → Result (Unit {0}) CommandFault → Type 0
 Performs (Run plan input legs parallelism) result = Comes after_command (AnswersRun (is_some legs) (option_map (λ word. word.now) parallelism)) result
 Performs (Simulate plan input legs choices) result = Comes after_command AnswersSimulate result
 Performs (Leg plan input scale from stop save) result = Comes after_command (AnswersLeg (is_some from) (option_map (λ word. word.now) stop)) result
+Performs (Cuts plan input until stays_open) result = Comes after_command (AnswersCuts (option_map (λ word. word.now) until) stays_open) result
 Performs (Layout plan scale) result = Comes after_command AnswersLayout result
 Performs (Check plan input scale) result = Comes after_command (AnswersCheck (is_some input) (is_some scale)) result
 Performs (Import plan words) result = AnswersImport result

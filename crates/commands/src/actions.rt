@@ -3,14 +3,14 @@
 ghost use Rattle.std.specs.Prelude.{◌≡◌, ◌⊎◌, false, is_some, None, option_map, Some, IfErr};
 ghost use Rattle.job.specs.Leg.{leg_said};
 ghost use Rattle.commands.specs.Answers as answers;
-ghost use Rattle.commands.specs.Answers.{AnswersRun, AnswersSimulate, AnswersLeg, ComesOfLeg, AnswersLayout, AnswersShow, AnswersGroup, AnswersExplain};
+ghost use Rattle.commands.specs.Answers.{AnswersRun, AnswersSimulate, AnswersLeg, ComesOfLeg, IsQuestion, AnswersCuts, AnswersLayout, AnswersShow, AnswersGroup, AnswersExplain};
 
 use crate::files::{file, optional_file};
 use crate::installed::commit;
 use crate::saving::{check_apart, save};
 use job::{
-    HashKeys, JobFault, OpenGate, job_group, job_layout, job_leg, job_run, job_run_parallel,
-    job_show, job_simulate,
+    CutQuestion, HashKeys, JobFault, OpenGate, job_cuts, job_group, job_layout, job_leg, job_run,
+    job_run_parallel, job_show, job_simulate,
 };
 use std::io::{Write, writer};
 use std::random::RandomSource;
@@ -230,6 +230,40 @@ pub fn leg<R: Files + Print + RandomSource + Threads + Wait + Clock + Sync + All
     };
     let from = savepoint.as_deref();
     done_leg(rt, keys, &plan, input, &scale, from, stop, save)
+}
+
+/// What is asked of an input: of its partitions, or of the first cut for a time, or of the last that leaves it open.
+fn question<'a>(until: Option<&'a str>, stays_open: bool) -> Option<CutQuestion<'a>>
+    ensures { IsQuestion (option_map (λ word. word.now) until.entry) stays_open result }
+{
+    match (until, stays_open) {
+        (None, false) => Some(CutQuestion::Extents),
+        (Some(word), false) => Some(CutQuestion::Until(word)),
+        (None, true) => Some(CutQuestion::Open),
+        (Some(_), true) => None,
+    }
+}
+
+/// Prints how far the partitions of an input go, or the word of a cut of it.
+///
+/// # Errors
+///
+/// `Number` where both a time and an open cut are asked for; `Read` where a file cannot be read, else the fault of `job_cuts`.
+pub fn cuts<R: Files + Print + AllocGlobal>(
+    rt: &R,
+    plan: &str,
+    input: &str,
+    until: Option<&str>,
+    stays_open: bool,
+) -> Result<(), JobFault>
+    ensures { AnswersCuts (option_map (λ word. word.now) until.entry) stays_open result }
+{
+    let Some(question) = question(until, stays_open) else {
+        return Err(JobFault::Number);
+    };
+    let plan = file(rt, plan)?;
+    let input = file(rt, input)?;
+    job_cuts(rt.alloc(), &plan, input, question, &mut writer(rt))
 }
 
 /// Prints the layout of a plan at a scale.

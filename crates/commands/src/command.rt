@@ -28,6 +28,13 @@ pub enum Command<'a> {
         stop: Option<&'a str>,
         save: Option<&'a str>,
     },
+    /// Print how far the partitions of an input go, or the first cut for a time, or the last that leaves the input open.
+    Cuts {
+        plan: &'a str,
+        input: &'a str,
+        until: Option<&'a str>,
+        stays_open: bool,
+    },
     /// Print the layout of a plan at a scale.
     Layout {
         plan: &'a str,

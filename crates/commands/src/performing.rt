@@ -2,7 +2,7 @@
 
 ghost use Rattle.commands.specs.Outcome.{Performs};
 
-use crate::actions::{explain, group, layout, leg, run, show, simulate, version};
+use crate::actions::{cuts, explain, group, layout, leg, run, show, simulate, version};
 use crate::checking::check;
 use crate::command::Command;
 use crate::fault::{CommandFault, after_job, after_page};
@@ -45,6 +45,12 @@ pub fn performed<R: Files + Print + RandomSource + Threads + Wait + Clock + Sync
             stop,
             save,
         } => after_job(leg(rt, plan, input, scale, *from, *stop, *save)),
+        Command::Cuts {
+            plan,
+            input,
+            until,
+            stays_open,
+        } => after_job(cuts(rt, plan, input, *until, *stays_open)),
         Command::Layout { plan, scale } => after_job(layout(rt, plan, scale)),
         Command::Check { plan, input, scale } => after_job(check(rt, plan, *input, *scale)),
         Command::Import { plan, words } => import(rt, plan, words),

@@ -46,7 +46,7 @@ save_told said save.Order is = ap (as_job Save) is
 save_told said save.Range is = ap (as_job Save) is
 
 -- no text that is read is refused as one that is not written
-unwritten : {X Y F : Type 0} (fault_of : F → JobFault) (next : X → Result Y JobFault) (said : Result X F) → ((f : F) → fault_of f ≢ Write) → ((x : X) → next x ≢ Err Write) → and_then next (as_job fault_of said) ≢ Err Write
+pub unwritten : {X Y F : Type 0} (fault_of : F → JobFault) (next : X → Result Y JobFault) (said : Result X F) → ((f : F) → fault_of f ≢ Write) → ((x : X) → next x ≢ Err Write) → and_then next (as_job fault_of said) ≢ Err Write
 unwritten fault_of next (Ok x) faults rest e = rest x e
 unwritten fault_of next (Err f) faults rest e = faults f cc
 

@@ -1,3 +1,4 @@
+pub mod Cuts
 pub mod Ends
 pub mod Layout
 pub mod Run

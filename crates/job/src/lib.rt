@@ -1,6 +1,7 @@
 //! Jobs from bytes to bytes: a plan's text and an input's text to the text of the rows.
 #![tactic(auto)]
 
+mod cuts;
 mod layout;
 mod leg;
 mod parallel;
@@ -11,6 +12,7 @@ mod show;
 mod simulate;
 mod whole;
 
+pub use cuts::{CutQuestion, job_cuts};
 pub use job_texts::{JobFault, fault_line, job_group, read_cut, status_of};
 pub use layout::job_layout;
 pub use leg::job_leg;

@@ -48,8 +48,8 @@ fn without_hyphen(text: &[u8]) -> &[u8]
     }
 }
 
-/// A number of 64 bits: a hyphen or none, and 1 to 19 digits.
-fn key_of(text: &str) -> Option<i64>
+/// The number of 64 bits that a word spells: a hyphen or none, and 1 to 19 digits.
+pub fn read_key(text: &str) -> Option<i64>
     ensures { result ≡ key_said text.now }
 {
     if !are_digits(without_hyphen(text.as_bytes()), 19) {
@@ -84,7 +84,7 @@ pub fn job_group<W: Write>(
     ensures answers { TellsGroup (group_said key.now max.now par.now) result (W.contents out.old) (W.contents out.new) }
     ensures kept { KeepsWriter result (W.contents out.old) (W.contents out.new) }
 {
-    let key = key_of(key).ok_or(JobFault::Number)?;
+    let key = read_key(key).ok_or(JobFault::Number)?;
     let groups = read_count(max, 1, MOST_GROUPS).ok_or(JobFault::Number)?;
     let subtasks = read_count(par, 1, groups.min(MOST_SUBTASKS)).ok_or(JobFault::Number)?;
     let max = MaxParallelism::new(groups).ok_or(JobFault::Number)?;

@@ -16,9 +16,10 @@ mod writing;
 
 pub use cut::read_cut;
 pub use fault::JobFault;
-pub use group::{job_group, read_count};
+pub use group::{job_group, read_count, read_key};
 pub use layout_text::text_of_layout;
 pub use line::{fault_line, status_of};
+pub use number::{push_decimal, push_number};
 pub use show_text::text_of_savepoint;
 pub use sorting::sort_rows;
 pub use text::text_of_rows;

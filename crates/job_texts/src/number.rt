@@ -6,16 +6,24 @@ ghost use Rattle.std.specs.List.{flat_map};
 use itoa::{Buffer, Integer};
 use std::alloc::AllocError;
 
-/// The number in decimal.
-pub(crate) fn push_decimal<I: Integer>(text: &mut String, number: I) -> Result<(), AllocError>
+/// Puts a number in decimal behind a text.
+///
+/// # Errors
+///
+/// Only where memory runs out.
+pub fn push_decimal<I: Integer>(text: &mut String, number: I) -> Result<(), AllocError>
     ensures { OnOk result (string_bytes text.new ≡ string_bytes text.old ++ I.text number) }
 {
     let mut buffer = Buffer::new();
     text.push_str(buffer.format(number))
 }
 
-/// A space, and the number in decimal.
-pub(crate) fn push_number<I: Integer>(text: &mut String, number: I) -> Result<(), AllocError>
+/// Puts a space and a number in decimal behind a text.
+///
+/// # Errors
+///
+/// Only where memory runs out.
+pub fn push_number<I: Integer>(text: &mut String, number: I) -> Result<(), AllocError>
     ensures { OnOk result (string_bytes text.new ≡ string_bytes text.old ++ 32 ∷ I.text number) }
 {
     text.push_str(" ")?;

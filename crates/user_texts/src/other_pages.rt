@@ -26,7 +26,8 @@ Write it as `2,2/5`, for two partitions of the first source and one of the secon
 A word of `group` is no number in its range: KEY is a hyphen or none and 1 to 19 digits, of 64 bits; MAX has 1 to 5
 digits, from 1 to 32768; PAR has 1 to 5 digits, from 1 to 64 and at most MAX. A `+`, a space, a point or an empty word
 is none. `import` says it of `--bound`, digits alone, below 2^64, and of `--rows`, from 1 to 4096, with the word. `run`
-says it of `--parallelism` where it is not 1 to 5 digits, and beside a list of legs, each of which has its own scale.
+says it of `--parallelism` where it is not 1 to 5 digits, and beside a list of legs, each of which has its own scale;
+`cuts` of `--until` where it is neither a number as KEY is nor a time in ISO 8601, and beside `--open`.
 
 ```console
 $ streamjob group 7 128 65

@@ -1,7 +1,7 @@
 use Rattle.std.proofs.Common.{◌≡◌, true, rules}
 use Rattle.job_texts.specs.Group.{are_digits, without_hyphen}
 use Rattle.job_texts.proofs.Numerals.{parsed_key, said_no_key}
-use Rattle.job_texts.proofs.group.key_of.Goals as goal
+use Rattle.job_texts.proofs.group.read_key.Goals as goal
 
 pub returns-then-not-are_digits : goal.returns-then-not-are_digits
 returns-then-not-are_digits c = search (rules, said_no_key)

@@ -1,0 +1,4 @@
+pub mod Extents
+pub mod Laws
+pub mod Times
+pub mod Words

@@ -1,0 +1,5 @@
+use Rattle.input_cuts.proofs.Cuts.{first_cut_is_first}
+use Rattle.input_cuts.proofs.laws.first_cut_is_first.Goals as goal
+
+pub returns : goal.returns
+returns c = first_cut_is_first
