@@ -4,21 +4,23 @@ ghost use Rattle.std.specs.Prelude.{◌≡◌, ◌⊎◌, is_some, IfErr, IfOk};
 ghost use Rattle.std.specs.IoError.{error_kind};
 ghost use Rattle.commands.specs.Answers as answers;
 
-use job::JobFault;
+use job::{JobFault, read_all};
+use std::fs::File;
+use std::io;
 use std::io::ErrorKind;
 use std::rt::Files;
-use std::{fs, io};
 
 /// All bytes of the file at a path.
 ///
 /// # Errors
 ///
-/// `Memory`, or else `Read` where there is no file that can be read, as at a folder.
+/// `Memory`, or else `Read` where there is no file that can be read, as at a folder, or where it has more bytes than
+/// [`read_all`] takes.
 pub fn file<R: Files + AllocGlobal>(rt: &R, path: &str) -> Result<Vec<u8>, JobFault>
     ensures { IfErr result (λ fault. (fault ≡ JobFault.Read) ⊎ (fault ≡ JobFault.Memory)) }
 {
-    match fs::read(rt, path) {
-        Ok(bytes) => Ok(bytes),
+    match File::open(rt, path) {
+        Ok(mut file) => read_all(rt.alloc(), &mut file),
         Err(error) => Err(read_fault(&error)),
     }
 }

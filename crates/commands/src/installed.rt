@@ -1,6 +1,7 @@
 //! The commit that an installed program is of. For each call of the system a path is copied onto the stack, so functions that
 //! make one have frames of their own.
 
+use crate::files::file;
 use std::fs;
 use std::rt::Files;
 
@@ -39,5 +40,6 @@ pub(crate) fn commit<R: Files + AllocGlobal>(rt: &R) -> Option<String> {
     if !is_small_file(rt, path.as_str()) {
         return None;
     }
-    fs::read_to_string(rt, path.as_str()).ok()
+    let bytes = file(rt, path.as_str()).ok()?;
+    String::from_utf8(bytes).ok()
 }

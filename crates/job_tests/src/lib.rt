@@ -14,4 +14,6 @@ mod parallel;
 #[cfg(test)]
 mod premises;
 #[cfg(test)]
+mod readers;
+#[cfg(test)]
 mod writers;

@@ -1,6 +1,7 @@
-//! Writers of which a clause says nothing, since what they hold is known after a flush alone, and one that is full.
+//! Writers of which a clause says nothing: what they hold is known after a flush alone, or one of their writes fails; and one that
+//! is full.
 
-use crate::jobs::{INPUT, PLAN, SCALE};
+use crate::jobs::{INPUT, PLAN, ROWS, SCALE};
 use job::{HashKeys, JobFault, OpenGate, job_group, job_layout, job_run};
 use std::io::{Error, ErrorKind, Result as IoResult, Write};
 use std::random::RandomSource;
@@ -113,5 +114,75 @@ fn a_writer_that_is_full(rt: HostRuntime) -> Result<(), Fail> {
     let mut bytes = [0; 20];
     let fault = fault_in(&rt, &mut bytes)?;
     assert_eq!(rt; fault, Some(JobFault::Write));
+    Ok(())
+}
+
+/// Takes a few bytes at a time, and fails at one of its writes, if any.
+#[derive(Drop)]
+struct Failing {
+    taken: Vec<u8>,
+    most: usize,
+    fails_at: Option<usize>,
+    writes: usize,
+}
+
+impl Write for Failing {
+    fn write(&mut self, bytes: &[u8]) -> IoResult<usize> {
+        let number = self.writes;
+        self.writes = number.saturating_add(1);
+        if self.fails_at == Some(number) {
+            return Err(Error::from(ErrorKind::BrokenPipe));
+        }
+        let count = bytes.len().min(self.most);
+        self.taken.extend_from_slice(&bytes[..count])?;
+        Ok(count)
+    }
+
+    fn flush(&mut self) -> IoResult<()> {
+        Ok(())
+    }
+}
+
+/// Why a job is not written by a writer that takes so many bytes at a time, and what the writer has taken and at how many writes.
+fn taken_by(
+    rt: &(impl AllocGlobal + RandomSource + Threads + Wait + Clock + Sync),
+    most: usize,
+    fails_at: Option<usize>,
+) -> Result<(Option<JobFault>, Failing), Fail> {
+    let mut out = Failing {
+        taken: Vec::new(rt.alloc()),
+        most,
+        fails_at,
+        writes: 0,
+    };
+    let keys = HashKeys::random(rt)?;
+    let input = Vec::from_slice(rt.alloc(), INPUT.as_bytes())?;
+    let said = job_run(
+        rt,
+        rt.alloc(),
+        keys,
+        PLAN.as_bytes(),
+        input,
+        None,
+        &OpenGate,
+        &mut out,
+    );
+    Ok((said.err(), out))
+}
+
+#[test]
+fn a_write_that_fails_is_told_and_ends_the_text(rt: HostRuntime) -> Result<(), Fail> {
+    for most in [1, 10, ROWS.len()] {
+        let (fault, whole) = taken_by(&rt, most, None)?;
+        assert_eq!(rt; fault, None);
+        assert_eq!(rt; whole.taken.as_slice(), ROWS.as_bytes());
+        assert_eq!(rt; whole.writes, ROWS.len().div_ceil(most));
+        for number in 0..whole.writes {
+            let (fault, out) = taken_by(&rt, most, Some(number))?;
+            assert_eq!(rt; fault, Some(JobFault::Write));
+            assert!(rt; ROWS.as_bytes().starts_with(&out.taken));
+            assert_eq!(rt; out.taken.len(), number.saturating_mul(most));
+        }
+    }
     Ok(())
 }

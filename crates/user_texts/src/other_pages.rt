@@ -45,10 +45,11 @@ Take a number in the range.
         "F1",
         r#"F1 Read (status 3)
 
-A file is missing, is a folder, or may not be read; `-` is a file of that name and not standard input. All files are
-read first, so this comes before any fault of a plan. `run`, `leg` and `simulate` also say it where the system gives no
-random bytes. `import` reads one file after the other, and names the one that is missing; `check` names it on standard
-output, as `no-such-file.json: the file cannot be read`.
+A file is missing, is a folder, may not be read, or has more than 1073741824 bytes, as a device without an end does; `-`
+is a file of that name and not standard input. All files are read first, so this comes before any fault of a plan.
+`run`, `leg` and `simulate` also say it where the system gives no random bytes. `import` reads one file after the other,
+and names the one that is missing, its records may be any number of bytes; `check` names it on standard output, as
+`no-such-file.json: the file cannot be read`.
 
 ```console
 $ streamjob run plan.json no-such-file.json
