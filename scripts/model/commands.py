@@ -3,7 +3,8 @@ import collections
 import itertools
 
 from .jobs import (
-    Refusal, SINK, ends_of, leg, level_stages, nothing_of, read_cut, read_input, read_legs, read_plan, read_scale, require_choices, require_stop, text_of,
+    LEAST, Refusal, SINK, ends_of, leg, level_stages, nothing_of, read_cut, read_input, read_legs, read_plan, read_scale, read_time, require, require_choices, require_stop,
+    text_of, watermark_at,
 )
 from .savepoints import check, decode, encode, savepoint_of
 
@@ -70,6 +71,32 @@ def show(files, savepoint):
     return lines_of(lines)
 
 
+def cuts(files, plan, input_, *options):
+    """The answer of `cuts`, whose option is `--until=TIME` or `--open`."""
+    plan = read_plan(files[plan])
+    sources = read_input(plan, files[input_])
+    if not options:
+        return lines_of(extent(plan, uid, p, entries) for (uid, _), partitions in zip(plan.sources, sources) for p, entries in enumerate(partitions))
+    if options[0] == "--open":
+        count = lambda entries: max(0, len(entries) - 1)
+    else:
+        time = read_time(options[0].removeprefix("--until="))
+        count = lambda entries: next(n for n in range(len(entries) + 1) if watermark_at(entries, n) >= time - 1)
+    return word_of_cut([[count(entries) for entries in partitions] for partitions in sources]) + "\n"
+
+
+def word_of_cut(cut):
+    return "/".join(",".join(map(str, counts)) for counts in cut)
+
+
+def extent(plan, uid, place, entries):
+    """The words of the line of a partition."""
+    times = [record[plan.time] for entry in entries for record in entry.get("rows", [])]
+    ends = [min(times), max(times)] if times else ["-", "-"]
+    marks = [entry["watermark"] for entry in entries if "watermark" in entry]
+    return ["source", uid, place, len(entries), len(times), *ends, max(marks, default=LEAST)]
+
+
 def layout(files, plan, scale):
     plan = read_plan(files[plan])
     stages = read_scale(plan, files[scale])
@@ -98,4 +125,4 @@ def lines_of(lines):
     return "".join(" ".join(map(str, line)) + "\n" for line in lines)
 
 
-COMMANDS = {"run": run, "simulate": run, "leg": run_leg, "layout": layout, "show": show}
+COMMANDS = {"run": run, "simulate": run, "leg": run_leg, "cuts": cuts, "layout": layout, "show": show}

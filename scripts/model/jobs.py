@@ -4,6 +4,7 @@ Each command is a function of the bytes of its files and of its words. It gives 
 standard error has. Nothing here is made as the program makes it: there are no subtasks, no messages and no order of steps.
 """
 import dataclasses
+import datetime
 import functools
 import json
 import re
@@ -344,6 +345,15 @@ def read_cut(word):
     cut = [[int(count) for count in source] for source in counts]
     require(all(count < 2**64 for source in cut for count in source), "C1 Cut")
     return cut
+
+
+def read_time(word):
+    """A number of 64 bits, with a hyphen or none and 1 to 19 digits, or a time of UTC in whole seconds, in milliseconds since 1970."""
+    if re.fullmatch(r"-?[0-9]{1,19}", word, re.ASCII):
+        require(-(2**63) <= int(word) < 2**63, "C2 Number")
+        return int(word)
+    require(re.fullmatch(r"[0-9]{4}-[0-9]{2}-[0-9]{2}T[0-9]{2}:[0-9]{2}:[0-9]{2}Z", word, re.ASCII), "C2 Number")
+    return int(datetime.datetime.fromisoformat(word.replace("Z", "+00:00")).timestamp()) * 1000
 
 
 def read_legs(plan, data):

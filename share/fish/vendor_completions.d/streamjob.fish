@@ -4,6 +4,7 @@ complete -c streamjob -n __fish_use_subcommand -a run -d 'Run a plan on an input
 complete -c streamjob -n __fish_use_subcommand -a simulate -d 'Run a job in legs by an order of steps that you choose, and print its rows'
 complete -c streamjob -n __fish_use_subcommand -a leg -d 'Run one leg of a job at a scale and print its rows'
 complete -c streamjob -n __fish_use_subcommand -a import -d 'Write an input of a plan from CSV or NDJSON files'
+complete -c streamjob -n __fish_use_subcommand -a cuts -d 'Print how far the partitions of an input go, or a cut of it'
 complete -c streamjob -n __fish_use_subcommand -a layout -d 'Print the stages, edges, partitions and key groups of a plan at a scale'
 complete -c streamjob -n __fish_use_subcommand -a check -d 'Print the places at which a plan, an input or a scale is refused'
 complete -c streamjob -n __fish_use_subcommand -a show -d 'Print what a savepoint holds'
@@ -11,7 +12,7 @@ complete -c streamjob -n __fish_use_subcommand -a group -d 'Print the key group 
 complete -c streamjob -n __fish_use_subcommand -a explain -d 'Print what a refusal means, a text that gives it, and what to do'
 complete -c streamjob -n __fish_use_subcommand -a version -d 'Print the version of the program and of its toolchain'
 complete -c streamjob -n __fish_use_subcommand -a help -d 'Print the help of a command'
-complete -c streamjob -n '__fish_seen_subcommand_from help' -a 'run simulate leg import layout check show group explain version'
+complete -c streamjob -n '__fish_seen_subcommand_from help' -a 'run simulate leg import cuts layout check show group explain version'
 complete -c streamjob -s h -l help -d 'Print help'
 complete -c streamjob -n '__fish_seen_subcommand_from run' -F
 complete -c streamjob -n '__fish_seen_subcommand_from run' -l parallelism -r -d 'How many subtasks each operator has, 1 to 64 (1); a source no more than partitions; not with LEGS' -f
@@ -25,6 +26,8 @@ complete -c streamjob -n '__fish_seen_subcommand_from import' -l names -r -d 'Fi
 complete -c streamjob -n '__fish_seen_subcommand_from import' -l bound -r -d 'How far behind the greatest time of earlier entries a record may come; without it there are no watermarks' -f
 complete -c streamjob -n '__fish_seen_subcommand_from import' -l late -r -d 'File to write late records to; without it the first is refused' -F
 complete -c streamjob -n '__fish_seen_subcommand_from import' -l rows -r -d 'Most rows of an entry, 1 to 4096 (4096); watermarks stand between entries, so 1 looks at each record' -f
+complete -c streamjob -n '__fish_seen_subcommand_from cuts' -F
+complete -c streamjob -n '__fish_seen_subcommand_from cuts' -l until -r -d 'A number, or a time in ISO 8601 with its zone, in milliseconds since 1970' -f
 complete -c streamjob -n '__fish_seen_subcommand_from layout' -F
 complete -c streamjob -n '__fish_seen_subcommand_from check' -F
 complete -c streamjob -n '__fish_seen_subcommand_from check' -l scale -r -d 'JSON file of the scale, where no word names it' -F
