@@ -8,18 +8,20 @@ use Rattle.std.specs.Option.{option_map, option_to_list}
 use Rattle.byte_fields.specs.declared.fault.FieldFault.{FieldFault}
 use Rattle.byte_fields.specs.Format.{whole}
 use Rattle.byte_fields.proofs.Exact.{IsBytes, whole_again, whole_takes}
-use Rattle.plan_model.specs.PlanData.{PlanData, IsPlan}
+use Rattle.plan_model.specs.PlanData.{PlanData}
 use Rattle.plan_model.specs.Rows.{AreRowsOf}
 use Rattle.plan_model.specs.declared.spec.Row.{Row}
 use Rattle.stream_model.specs.declared.entry.Entry.{Entry}
-use Rattle.stream_model.specs.InputData.{InputData, IsInput, BelongsTo}
-use Rattle.stream_model.specs.Laws.{EndIsDue}
+use Rattle.stream_model.specs.InputData.{InputData}
 use Rattle.stream_model.specs.PlanRows.{due_rows}
 use Rattle.stream_model.specs.Watermarks.{IsCut, IsOrderly, empty_cut}
 use Rattle.input_flow.proofs.Facts.{empty_is_cut}
 use Rattle.dataflow_laws.specs.Compiled.{cut_to}
 use Rattle.dataflow_laws.specs.Inputs.{due_between}
+use Rattle.logical_plan.specs.Answer.{plan_of_bytes}
 use Rattle.logical_plan.specs.Laws.{SaidIsPlan}
+use Rattle.input_changes.specs.Agreement.{entries_before}
+use Rattle.input_texts.specs.Answer.{input_of_bytes}
 use Rattle.stream_input.specs.Laws.{SaidIsInput}
 use Rattle.plan_scale.specs.Answer.{scale_of_bytes}
 use Rattle.legs.specs.declared.cut.Cut.{Cut}
@@ -34,14 +36,12 @@ use Rattle.redistribute.specs.Snapshots.{saved_source, start_at}
 use Rattle.redistribute.specs.StartData.{StartData, offsets_of}
 use Rattle.redistribute.specs.Stopping.{CanStop}
 use Rattle.restore.specs.Answer.{start_or_fault}
-use Rattle.restarts.specs.Laws.{SnapshotsRestart}
 use Rattle.leg_tasks.specs.Saved.{IsSavedAt}
 use Rattle.core_steps.proofs.Delivered.{none_at_first}
 use Rattle.core_steps.proofs.Ending.{end_is_cut}
 use Rattle.savepoint_codec.proofs.Facts.{savepoint_exact}
 use Rattle.job_texts.specs.Text.{IsTextOf, line_of, text_of_rows}
 use Rattle.job_texts.specs.declared.fault.JobFault.TheVariants.{Plan, Input, Scale, Save, Restore}
-use Rattle.job_legs.specs.Laws.{NothingDueAtFirst, RowsAddUp}
 use Rattle.job_legs.proofs.Facts.{before_end, come_to}
 use Rattle.job.specs.Ends.{and_then, as_job}
 use Rattle.job.specs.Leg.{CanStopSo, IsLegText, IsSavedBy, LegJob, job_with, leg_by, leg_job, leg_on, leg_said, start_said, stop_said}
@@ -49,7 +49,10 @@ use Rattle.job.proofs.Facts.{job_ok, ok_is, then_ok}
 use Rattle.lineages.specs.Lineage.{ComesFrom}
 use Rattle.lineages.specs.Calls.{AreExactCalls, AreGivenAt, AreRead, Calls, CallsAreAnswered, CallsAreExact, IsAnswered, LegCall, SaidComesFrom, written}
 use Rattle.lineages.specs.Calls.Calls.{first, next}
-use Rattle.lineages.proofs.Exact.{bytes_restart, one_more}
+use Rattle.lineages.specs.Changes.{CallsOverInputs, CallsOverInputsAreExact, SaySameEntries}
+use Rattle.lineages.specs.Changes.CallsOverInputs.{first_on, next_on}
+use Rattle.lineages.proofs.Changes.{AreFit, is_carried}
+use Rattle.lineages.proofs.Exact.{Carry, bytes_restart, due_too, one_more}
 
 -- ---- what was said
 
@@ -96,18 +99,18 @@ said_nothing p i s e = subst (IsFromNothing i) (ok_is (start_at i.sources (empty
 
 -- ---- a plan and an input
 
--- and what every plan and every input of it meets
-record AreSound (plan input : List ℕ) (p : PlanData) (i : InputData) : Type 0 where
-  read : AreRead plan input p i
-  plan_is : IsPlan p
-  input_is : IsInput i
-  orderly : IsOrderly i.time i.sources
-  belongs : BelongsTo p i
-
-are_sound : SaidIsPlan → SaidIsInput → (plan input : List ℕ) (p : PlanData) (i : InputData) → AreRead plan input p i → AreSound plan input p i
-are_sound of_plan of_input plan input p i read =
+are_fit : SaidIsPlan → SaidIsInput → (plan input : List ℕ) (p : PlanData) (i : InputData) → AreRead plan input p i → AreFit p i
+are_fit of_plan of_input plan input p i read =
     let is = of_input p input i read.input_said in
-    record { read = read; plan_is = of_plan plan p read.plan_said; input_is = is.0; orderly = is.1; belongs = is.2 }
+    record { plan = of_plan plan p read.plan_said; input = is.0; orderly = subst (λ t. IsOrderly t i.sources) is.2.time is.1; belongs = is.2 }
+
+-- texts of which a call has answered Ok say an input by the plan that they say
+said_input : (plan input : List ℕ) (p : PlanData) (c : LegCall) → plan_of_bytes plan ≡ Ok p → IsAnswered plan input c → (i : InputData) × AreRead plan input p i
+unfolding leg_said leg_by
+said_input plan input p c plan_said a =
+    let of_plan : leg_by p input c.scale c.from c.stop ≡ Ok a.job = subst (λ r. and_then (λ x. leg_by x input c.scale c.from c.stop) (as_job Plan r) ≡ Ok a.job) plan_said a.said in
+    let b = then_ok (λ x. leg_on p x c.scale c.from c.stop) (as_job Input (input_of_bytes p input)) a.job of_plan in
+    (b.0, record { plan_said = plan_said; input_said = job_ok Input (input_of_bytes p input) b.0 b.1 })
 
 -- ---- one call
 
@@ -143,6 +146,11 @@ gave p i number (At cut) saved bytes e (old, is, sound, at) = (cut, old, refl, (
 
 -- ---- all of them
 
+-- the last of calls has answered
+answered : (plan input : List ℕ) (last : LegCall) (earlier : List LegCall) → CallsOverInputs plan input (last ∷ earlier) → IsAnswered plan input last
+answered plan input last [] (first_on nothing a) = a
+answered plan input last (before ∷ earlier) (next_on calls same saved from a) = a
+
 record Comes (p : PlanData) (i : InputData) (last : LegCall) (earlier : List LegCall) : Type 0 where
   stop : Stop
   stopped : stop_said last.stop ≡ Ok stop
@@ -152,11 +160,11 @@ record Comes (p : PlanData) (i : InputData) (last : LegCall) (earlier : List Leg
   lines : written (last ∷ earlier) ≡ text_of_rows rows
   given : AreGivenAt p i (length (last ∷ earlier)) stop last.saved
 
-module _ (none : NothingDueAtFirst) (add : RowsAddUp) (restart : SnapshotsRestart) (one : (a b : Contents) → IsSavepoint a → IsSavepoint b → savepoint_bytes a ≡ savepoint_bytes b → a ≡ b) (plan input : List ℕ) (p : PlanData) (i : InputData) (sound : AreSound plan input p i) where
+module _ (carry : Carry) (of_plan : SaidIsPlan) (of_input : SaidIsInput) (plan : List ℕ) (p : PlanData) where
   -- a call from a cut, with its snapshot, adds the lines of what becomes due
-  after : (c : LegCall) (earlier : List LegCall) (a : IsAnswered plan input c) (says : Says p i c a.job) (b : List (List ℕ)) → HasSnapshot p i says.start → offsets_of says.start ≡ b → says.start.number ≡ length earlier → IsCut i.sources b
-      → (before : List Row) → AreRowsOf (due_rows p i.sources b) before → written earlier ≡ text_of_rows before → Comes p i c earlier
-  after c earlier a says b has offsets number is before due lines =
+  after : (input : List ℕ) (i : InputData) (fit : AreFit p i) (c : LegCall) (earlier : List LegCall) (a : IsAnswered plan input c) (says : Says p i c a.job) (b : List (List ℕ)) → HasSnapshot p i says.start → offsets_of says.start ≡ b
+      → says.start.number ≡ length earlier → IsCut i.sources b → (before : List Row) → AreRowsOf (due_rows p i.sources b) before → written earlier ≡ text_of_rows before → Comes p i c earlier
+  after input i fit c earlier a says b has offsets number is before due lines =
       let stop = says.stop in
       let end = cut_to i (until_of stop) in
       let can : CanStop i.sources b stop = subst (λ o. CanStop i.sources o stop) offsets (subst CanStopSo (sym says.is) a.can) in
@@ -167,34 +175,51 @@ module _ (none : NothingDueAtFirst) (add : RowsAddUp) (restart : SnapshotsRestar
         stopped = says.stopped;
         is_cut = end_is_cut i b stop can;
         rows = before ++ text.rows;
-        due = add p i b end before text.rows sound.input_is (before_end i b stop is can) (end_is_cut i b stop can) due rows;
+        due = carry.add p i b end before text.rows fit.input (before_end i b stop is can) (end_is_cut i b stop can) due rows;
         lines = (λ k. lines k ++ text.lines k) ∙ sym (flat_map-append line_of before text.rows);
         given = left_by p i says.start stop stop (length (c ∷ earlier)) c.saved a.bytes.0 has (ap (λ n. n + 1) number ∙ one_more c earlier) a.bytes.1
             (subst (λ (job : LegJob). IsSavedBy job job.stop a.bytes.0) (sym says.is) a.bytes.2);
       }
 
-  comes : (last : LegCall) (earlier : List LegCall) → Calls plan input (last ∷ earlier) → Comes p i last earlier
-  comes last [] (first nothing a) =
-      let said = says plan input p i last a.job sound.read a.said in
+  comes : (input : List ℕ) (i : InputData) → AreRead plan input p i → (last : LegCall) (earlier : List LegCall) → CallsOverInputs plan input (last ∷ earlier) → Comes p i last earlier
+  comes input i read last [] (first_on nothing a) =
+      let fit = are_fit of_plan of_input plan input p i read in
+      let said = says plan input p i last a.job read a.said in
       let from = said_nothing p i said.start (subst (λ o. start_said p i o ≡ Ok said.start) nothing said.started) in
-      let none_due : AreRowsOf (due_rows p i.sources (empty_cut i.sources)) [] = λ q. sym (ap option_to_list (none p i q (subst (λ t. IsOrderly t i.sources) sound.belongs.time sound.orderly))) in
-      after last [] a said (empty_cut i.sources) (none_at_first p i said.start from) from.offsets from.number (empty_is_cut i.sources) [] none_due refl
-  comes last (before ∷ earlier) (next {bytes = bytes} calls saved from a) =
-      let c = comes before earlier calls in
-      let (cut, old, stops, spelled, is_savepoint, at) = gave p i (length (before ∷ earlier)) c.stop before.saved bytes saved c.given in
-      let said = says plan input p i last a.job sound.read a.said in
+      let none_due : AreRowsOf (due_rows p i.sources (empty_cut i.sources)) [] = λ q. sym (ap option_to_list (carry.none p i q fit.orderly)) in
+      after input i fit last [] a said (empty_cut i.sources) (none_at_first p i said.start from) from.offsets from.number (empty_is_cut i.sources) [] none_due refl
+  comes input i read last (before ∷ earlier) (next_on {old = text} {bytes = bytes} calls same saved from a) =
+      let (old, old_read) = said_input plan text p before read.plan_said (answered plan text before earlier calls) in
+      let c = comes text old old_read before earlier calls in
+      let (cut, held, stops, spelled, is_savepoint, at) = gave p old (length (before ∷ earlier)) c.stop before.saved bytes saved c.given in
+      let said = says plan input p i last a.job read a.said in
       let started = subst (λ o. start_said p i o ≡ Ok said.start) (from ∙ ap Some spelled) said.started in
-      let is_cut : IsCut i.sources cut.counts = subst (λ x. IsCut i.sources (cut_to i (until_of x))) stops c.is_cut in
-      let due : AreRowsOf (due_rows p i.sources cut.counts) c.rows = subst (λ x. AreRowsOf (due_rows p i.sources (cut_to i (until_of x))) c.rows) stops c.due in
-      let start = bytes_restart restart one p i cut.counts (length (before ∷ earlier)) old said.start sound.plan_is sound.input_is sound.belongs is_cut at is_savepoint (from_spelling p i old said.start is_savepoint started) in
-      after last (before ∷ earlier) a said cut.counts start.snapshot start.offsets start.number is_cut c.rows due c.lines
+      let origin = from_spelling p i held said.start is_savepoint started in
+      let is_cut : IsCut old.sources cut.counts = subst (λ x. IsCut old.sources (cut_to old (until_of x))) stops c.is_cut in
+      let due : AreRowsOf (due_rows p old.sources cut.counts) c.rows = subst (λ x. AreRowsOf (due_rows p old.sources (cut_to old (until_of x))) c.rows) stops c.due in
+      let number = length (before ∷ earlier) in
+      let old_fit = are_fit of_plan of_input plan text p old old_read in
+      let fit = are_fit of_plan of_input plan input p i read in
+      let there = is_carried carry.agreeing carry.keep carry.restart carry.one p old i cut.counts number held said.start old_fit fit is_cut at is_savepoint (same p old i cut old_read read (c.stopped ∙ ap Ok stops)) origin in
+      let start = bytes_restart carry.restart carry.one p i cut.counts number held said.start fit.plan fit.input fit.belongs there.is_cut there.saved_at is_savepoint origin in
+      after input i fit last (before ∷ earlier) a said cut.counts start.snapshot start.offsets start.number there.is_cut c.rows (due_too p old i cut.counts number held c.rows there due) c.lines
 
-  exact : EndIsDue → (stop : Stop) (last : LegCall) (earlier : List LegCall) → stop_said last.stop ≡ Ok stop → Calls plan input (last ∷ earlier) → AreExactCalls p i stop last (last ∷ earlier)
-  exact end stop last earlier stopped calls =
-      let c = comes last earlier calls in
-      let same : c.stop ≡ stop = ok_is c.stop stop (sym c.stopped ∙ stopped) in
-      subst (λ x. AreExactCalls p i x last (last ∷ earlier)) same (record { rows = c.rows; are = come_to end p i c.stop c.rows sound.plan_is sound.input_is sound.belongs c.due; lines = c.lines; given = c.given })
+pub over_inputs_exact : Carry → SaidIsPlan → SaidIsInput → CallsOverInputsAreExact
+over_inputs_exact carry of_plan of_input plan input p i stop last earlier read stopped calls =
+    let fit = are_fit of_plan of_input plan input p i read in
+    let c = comes carry of_plan of_input plan p input i read last earlier calls in
+    let same : c.stop ≡ stop = ok_is c.stop stop (sym c.stopped ∙ stopped) in
+    subst (λ x. AreExactCalls p i x last (last ∷ earlier)) same (record { rows = c.rows; are = come_to carry.end p i c.stop c.rows fit.plan fit.input fit.belongs c.due; lines = c.lines; given = c.given })
 
-pub calls_are_exact : NothingDueAtFirst → RowsAddUp → SnapshotsRestart → ((a b : Contents) → IsSavepoint a → IsSavepoint b → savepoint_bytes a ≡ savepoint_bytes b → a ≡ b) → EndIsDue → SaidIsPlan → SaidIsInput → CallsAreExact
-calls_are_exact none add restart one end of_plan of_input plan input p i stop last earlier read stopped calls =
-    exact none add restart one plan input p i (are_sound of_plan of_input plan input p i read) end stop last earlier stopped calls
+-- ---- one text of an input for all of them
+
+one_text : (plan input : List ℕ) (word : Option (List ℕ)) → SaySameEntries plan input input word
+one_text plan input word p i j cut here there stopped = let same : i ≡ j = ok_is i j (sym here.input_said ∙ there.input_said) in ap (λ (x : InputData). entries_before x.sources cut.counts) same
+
+same_text : (plan input : List ℕ) (calls : List LegCall) → Calls plan input calls → CallsOverInputs plan input calls
+same_text plan input [] l = elim l [ ]
+same_text plan input (c ∷ []) (first nothing a) = first_on nothing a
+same_text plan input (c ∷ before ∷ earlier) (next calls saved from a) = next_on (same_text plan input (before ∷ earlier) calls) (one_text plan input before.stop) saved from a
+
+pub calls_are_exact : CallsOverInputsAreExact → CallsAreExact
+calls_are_exact made plan input p i stop last earlier read stopped calls = made plan input p i stop last earlier read stopped (same_text plan input (last ∷ earlier) calls)

@@ -1,8 +1,7 @@
 -- Legs one after another deliver what is due.
-use Rattle.std.proofs.Common.{◌≡◌, ◌∙◌, ℕ, ◌+◌, ◌≤◌, ◌^◌, List, [], ◌∷◌, ◌++◌, length, Ok, refl, sym, ap, subst, arith}
-use Rattle.std.proofs.lemmas.Bool.{leb-true}
+use Rattle.std.proofs.Common.{◌≡◌, ◌∙◌, ℕ, ◌+◌, List, [], ◌∷◌, ◌++◌, length, Ok, refl, sym, ap, subst, arith}
 use Rattle.std.specs.Option.{option_to_list}
-use Rattle.answers.proofs.Facts.{met_first, no_fault}
+use Rattle.answers.proofs.Facts.{no_fault}
 use Rattle.plan_model.specs.PlanData.{PlanData}
 use Rattle.plan_model.specs.Rows.{AreRowsOf}
 use Rattle.plan_model.specs.declared.spec.Row.{Row}
@@ -10,6 +9,8 @@ use Rattle.stream_model.specs.InputData.{InputData}
 use Rattle.stream_model.specs.Laws.{EndIsDue}
 use Rattle.stream_model.specs.Watermarks.{IsCut, IsOrderly, empty_cut}
 use Rattle.stream_model.specs.PlanRows.{due_rows}
+use Rattle.input_changes.specs.Agreement.{HaveSameEntries}
+use Rattle.input_changes.specs.Laws.{AgreeingAreSame, EntriesKeepTheCut}
 use Rattle.input_flow.proofs.Facts.{empty_is_cut}
 use Rattle.dataflow_model.specs.Leg.{Until}
 use Rattle.dataflow_model.specs.Leg.Until.{TillAsked}
@@ -26,8 +27,6 @@ use Rattle.redistribute.specs.Stopping.{CanStop}
 use Rattle.savepoint_codec.specs.Layout.{IsSavepoint, savepoint_bytes}
 use Rattle.savepoint_codec.specs.declared.savepoint.Contents.{Contents}
 use Rattle.restore.specs.Answer.{start_of, start_or_fault}
-use Rattle.restore.specs.Requirements.{has_max, has_known_uids, has_all_uids, has_plan, has_partitions, has_offsets, has_watermarks, has_groups, has_open_windows, has_counts, has_number, plan_requirements, input_requirements}
-use Rattle.restore.specs.declared.fault.RestoreFault.TheVariants.{MaxParallelism, UnknownUid, MissingUid, PlanChanged, Partitions, Offset, Watermark, WrongGroup, ClosedWindow, Count, Number}
 use Rattle.restarts.specs.Laws.{IsStartAt, SnapshotsRestart, savepoint_at}
 use Rattle.leg_tasks.specs.Saved.{IsSavedAt, SavedAtIsOne}
 use Rattle.core_steps.specs.Given.{GivenData}
@@ -38,34 +37,20 @@ use Rattle.core_steps.proofs.Delivered.{at_its_end, delivers, none_at_first, sav
 use Rattle.job_legs.specs.Laws.{NothingDueAtFirst, RowsAddUp}
 use Rattle.job_legs.specs.Ending.{rows_to}
 use Rattle.job_legs.proofs.Facts.{before_end, come_to}
-use Rattle.lineages.specs.Lineage.{AreExact, BytesRestart, ComesFrom, FinishedIsLeg, Headline, IsLeg, LegEnd, Lineage, LineagesAreExact, OneSavepoint, TasksAreLeg, delivered, given_of, leg_rows, leg_savepoint}
+use Rattle.lineages.specs.Lineage.{BytesRestart, ComesFrom, FinishedIsLeg, Headline, IsLeg, LegEnd, Lineage, LineagesAreExact, OneSavepoint, TasksAreLeg, delivered, given_of, leg_rows, leg_savepoint}
 use Rattle.lineages.specs.Lineage.Lineage.{begins, goes_on}
+use Rattle.lineages.specs.Changes.{HeadlineOverInputs, LineageOverInputs, LineagesOverInputsAreExact}
+use Rattle.lineages.specs.Changes.LineageOverInputs.{begins_on, goes_on_with}
+use Rattle.lineages.proofs.Changes.{AreFit, IsCarried, OneContent, accepted_at, has_passed, is_carried}
 
 -- ---- a start from bytes
 
--- the number of a savepoint that is accepted leaves room for those of legs to come
-few : (p : PlanData) (i : InputData) (s : Contents) (d : StartData) → start_or_fault p i s ≡ Ok d → s.number ≤ 2 ^ 63
-unfolding plan_requirements input_requirements has_number
-few p i s d accepted =
-    let said = no_fault _ (start_of p s) d accepted in
-    let a = (met_first MaxParallelism (has_max p s) _ said.0).1 in
-    let b = (met_first UnknownUid (has_known_uids p s) _ a).1 in
-    let e = (met_first MissingUid (has_all_uids p s) _ b).1 in
-    let f = (met_first PlanChanged (has_plan p s) _ e).1 in
-    let g = (met_first Partitions (has_partitions p s) _ f).1 in
-    let h = (met_first Offset (has_offsets p i s) _ g).1 in
-    let k = (met_first Watermark (has_watermarks p i s) _ h).1 in
-    let l = (met_first WrongGroup (has_groups p s) _ k).1 in
-    let m = (met_first ClosedWindow (has_open_windows p i s) _ l).1 in
-    let n = (met_first Count (has_counts p i s) _ m).1 in
-    leb-true s.number (2 ^ 63) (met_first Number (has_number s) _ n).0
-
-pub bytes_restart : SnapshotsRestart → ((a b : Contents) → IsSavepoint a → IsSavepoint b → savepoint_bytes a ≡ savepoint_bytes b → a ≡ b) → BytesRestart
+pub bytes_restart : SnapshotsRestart → OneContent → BytesRestart
 bytes_restart restart one p i cut number old s plan input belongs is at savepoint from =
     let held = savepoint_at p i cut at.windows number in
-    let checked : start_or_fault p i held ≡ Ok s = subst (λ x. start_or_fault p i x ≡ Ok s) (one from.savepoint old from.is_savepoint savepoint from.spelled ∙ at.is) from.checked in
+    let checked : start_or_fault p i held ≡ Ok s = accepted_at one p i i cut number old s at savepoint from in
     let start = (no_fault _ (start_of p held) s checked).1 in
-    subst (IsStartAt p i cut number) start (restart p i cut at.windows number (record { plan = plan; input = input; belongs = belongs; cut = is; windows = at.snapshot }) (few p i held s checked))
+    subst (IsStartAt p i cut number) start (restart p i cut at.windows number (record { plan = plan; input = input; belongs = belongs; cut = is; windows = at.snapshot }) (has_passed p i held s checked).number)
 
 -- ---- where a leg begins and stops
 
@@ -77,9 +62,12 @@ module _ (p : PlanData) (i : InputData) (s : StartData) (l : LayoutData) (saves 
   at_first nothing = record { in_input = given.starts; snapshot = none_at_first p i s nothing; offsets = nothing.offsets; number = nothing.number }
 
   -- where it starts from the bytes of a cut's savepoint, it begins at that cut, with its snapshot
-  pub from_bytes : SnapshotsRestart → ((a b : Contents) → IsSavepoint a → IsSavepoint b → savepoint_bytes a ≡ savepoint_bytes b → a ≡ b)
+  pub from_bytes : SnapshotsRestart → OneContent
       → (cut : List (List ℕ)) (number : ℕ) (old : Contents) → IsCut i.sources cut → IsSavedAt p i cut number old → IsSavepoint old → ComesFrom p i (savepoint_bytes old) s → IsStartAt p i cut number s
   from_bytes restart one cut number old is at savepoint from = bytes_restart restart one p i cut number old s given.plan given.input given.belongs is at savepoint from
+
+  pub is_fit : AreFit p i
+  is_fit = record { plan = given.plan; input = given.input; orderly = subst (λ t. IsOrderly t i.sources) given.belongs.time given.orderly; belongs = given.belongs }
 
   pub is_end : (b : List (List ℕ)) (number : ℕ) → IsStartAt p i b number s → IsCut i.sources (cut_to i (until_of stop))
   is_end b number at = end_is_cut i b stop (can_stop b number at)
@@ -127,6 +115,7 @@ LastIs P [] = Unit {0}
 LastIs P (e ∷ earlier) = P e
 
 pub record Comes (p : PlanData) (i : InputData) (stop : Stop) (legs : List LegEnd) : Type 0 where
+  pub fit : AreFit p i
   pub is_cut : IsCut i.sources (cut_to i (until_of stop))
   pub due : AreRowsOf (due_rows p i.sources (cut_to i (until_of stop))) (delivered legs)
   pub rows : AreRowsOf (rows_to p i stop) (delivered legs)
@@ -135,38 +124,76 @@ pub record Comes (p : PlanData) (i : InputData) (stop : Stop) (legs : List LegEn
 pub one_more : {X : Type 0} (last : X) (earlier : List X) → length earlier + 1 ≡ length (last ∷ earlier)
 one_more last earlier = omega (arith)
 
-module _ (none : NothingDueAtFirst) (add : RowsAddUp) (restart : SnapshotsRestart) (one : (a b : Contents) → IsSavepoint a → IsSavepoint b → savepoint_bytes a ≡ savepoint_bytes b → a ≡ b) (end : EndIsDue) (p : PlanData) (i : InputData) where
-  after : (s : StartData) (stop : Stop) (e : LegEnd) (earlier : List LegEnd) → IsLeg p i s [] stop e → (b : List (List ℕ)) → IsStartAt p i b (length earlier) s → IsCut i.sources b → AreRowsOf (due_rows p i.sources b) (delivered earlier) → Comes p i stop (e ∷ earlier)
+-- the laws that carry a job from leg to leg
+pub record Carry : Type 0 where
+  pub none : NothingDueAtFirst
+  pub add : RowsAddUp
+  pub restart : SnapshotsRestart
+  pub one : OneContent
+  pub end : EndIsDue
+  pub agreeing : AgreeingAreSame
+  pub keep : EntriesKeepTheCut
+
+-- rows that are due at a cut by one input are due there by another
+pub due_too : (p : PlanData) (old new : InputData) (cut : List (List ℕ)) (number : ℕ) (saved : Contents) (rows : List Row) → IsCarried p old new cut number saved → AreRowsOf (due_rows p old.sources cut) rows → AreRowsOf (due_rows p new.sources cut) rows
+due_too p old new cut number saved rows carried due = λ q. due q ∙ ap option_to_list (carried.due q)
+
+module _ (carry : Carry) (p : PlanData) where
+  after : (i : InputData) (s : StartData) (stop : Stop) (e : LegEnd) (earlier : List LegEnd) → IsLeg p i s [] stop e → (b : List (List ℕ)) → IsStartAt p i b (length earlier) s → IsCut i.sources b → AreRowsOf (due_rows p i.sources b) (delivered earlier) → Comes p i stop (e ∷ earlier)
   unfolding LastIs
-  after s stop e earlier leg b at is due =
-      let now = added p i s [] stop e leg add b (length earlier) at is (delivered earlier) due in
+  after i s stop e earlier leg b at is due =
+      let g = given p i s [] stop e leg in
+      let now = added p i s [] stop e leg carry.add b (length earlier) at is (delivered earlier) due in
       record {
-        is_cut = is_end p i s leg.layout [] stop (given p i s [] stop e leg) b (length earlier) at;
+        fit = is_fit p i s leg.layout [] stop g;
+        is_cut = is_end p i s leg.layout [] stop g b (length earlier) at;
         due = now;
-        rows = whole p i s [] stop e leg end (delivered (e ∷ earlier)) now;
+        rows = whole p i s [] stop e leg carry.end (delivered (e ∷ earlier)) now;
         saved = λ cut same. subst (λ n. IsSavedAt p i cut.counts n (leg_savepoint e)) (one_more e earlier) (saved p i s [] stop e leg b (length earlier) at cut same);
       }
 
-  pub comes : (stop : Stop) (legs : List LegEnd) → Lineage p i stop legs → Comes p i stop legs
+  -- what legs that stopped at a cut leave to the next, which may have another input
+  pub left_to : (old i : InputData) (cut : Cut) (before : LegEnd) (earlier : List LegEnd) (s : StartData) → Comes p old (At cut) (before ∷ earlier) → AreFit p i → HaveSameEntries old i cut.counts → IsSavepoint (leg_savepoint before)
+      → ComesFrom p i (savepoint_bytes (leg_savepoint before)) s → IsCarried p old i cut.counts (length (before ∷ earlier)) (leg_savepoint before)
   unfolding LastIs
-  comes stop [] l = elim l [ ]
-  comes stop (e ∷ []) (begins {s = s} nothing leg) =
+  left_to old i cut before earlier s c fit same savepoint from =
+      is_carried carry.agreeing carry.keep carry.restart carry.one p old i cut.counts (length (before ∷ earlier)) (leg_savepoint before) s c.fit fit c.is_cut (c.saved cut refl) savepoint same from
+
+  pub comes : (i : InputData) (stop : Stop) (legs : List LegEnd) → LineageOverInputs p i stop legs → Comes p i stop legs
+  comes i stop [] l = elim l [ ]
+  comes i stop (e ∷ []) (begins_on {s = s} nothing leg) =
       let g = given p i s [] stop e leg in
-      after s stop e [] leg (empty_cut i.sources) (at_first p i s leg.layout [] stop g nothing) (empty_is_cut i.sources) (λ q. sym (ap option_to_list (none p i q (subst (λ t. IsOrderly t i.sources) g.belongs.time g.orderly))))
-  comes stop (e ∷ before ∷ earlier) (goes_on {cut = cut} {s = s} legs savepoint from leg) =
-      let c = comes (At cut) (before ∷ earlier) legs in
-      after s stop e (before ∷ earlier) leg cut.counts
-      (from_bytes p i s leg.layout [] stop (given p i s [] stop e leg) restart one cut.counts (length (before ∷ earlier)) (leg_savepoint before) c.is_cut (c.saved cut refl) savepoint from) c.is_cut c.due
+      after i s stop e [] leg (empty_cut i.sources) (at_first p i s leg.layout [] stop g nothing) (empty_is_cut i.sources) (λ q. sym (ap option_to_list (carry.none p i q (is_fit p i s leg.layout [] stop g).orderly)))
+  comes i stop (e ∷ before ∷ earlier) (goes_on_with {old = old} {cut = cut} {s = s} legs same savepoint from leg) =
+      let c = comes old (At cut) (before ∷ earlier) legs in
+      let g = given p i s [] stop e leg in
+      let there = left_to old i cut before earlier s c (is_fit p i s leg.layout [] stop g) same savepoint from in
+      let number = length (before ∷ earlier) in
+      let at = from_bytes p i s leg.layout [] stop g carry.restart carry.one cut.counts number (leg_savepoint before) there.is_cut there.saved_at savepoint from in
+      after i s stop e (before ∷ earlier) leg cut.counts at there.is_cut (due_too p old i cut.counts number (leg_savepoint before) (delivered (before ∷ earlier)) there c.due)
 
-  pub exact : (stop : Stop) (last : LegEnd) (earlier : List LegEnd) → Lineage p i stop (last ∷ earlier) → AreExact p i stop last (last ∷ earlier)
-  unfolding LastIs
-  exact stop last earlier l =
-      let c = comes stop (last ∷ earlier) l in
-      record { rows = c.rows; saved = c.saved }
+pub over_inputs_exact : Carry → LineagesOverInputsAreExact
+unfolding LastIs
+over_inputs_exact carry p i stop last earlier l =
+    let c = comes carry p i stop (last ∷ earlier) l in
+    record { rows = c.rows; saved = c.saved }
 
-pub headline : LineagesAreExact → Headline
-headline made p i (e ∷ earlier) l = (made p i Never e earlier l).rows
-headline made p i [] l = elim l [ ]
+pub headline_over_inputs : LineagesOverInputsAreExact → HeadlineOverInputs
+headline_over_inputs made p i (e ∷ earlier) l = (made p i Never e earlier l).rows
+headline_over_inputs made p i [] l = elim l [ ]
+
+-- ---- one input for all of them
+
+pub one_input : (p : PlanData) (i : InputData) (stop : Stop) (legs : List LegEnd) → Lineage p i stop legs → LineageOverInputs p i stop legs
+one_input p i stop [] l = elim l [ ]
+one_input p i stop (e ∷ []) (begins nothing leg) = begins_on nothing leg
+one_input p i stop (e ∷ before ∷ earlier) (goes_on {cut = cut} legs savepoint from leg) = goes_on_with (one_input p i (At cut) (before ∷ earlier) legs) refl savepoint from leg
+
+pub exact : LineagesOverInputsAreExact → LineagesAreExact
+exact made p i stop last earlier l = made p i stop last earlier (one_input p i stop (last ∷ earlier) l)
+
+pub headline : HeadlineOverInputs → Headline
+headline made p i legs l = made p i legs (one_input p i Never legs l)
 
 -- ---- legs from one snapshot to one cut
 

@@ -1,3 +1,4 @@
+mod Changes
 mod Exact
 mod Moments
 mod Calls

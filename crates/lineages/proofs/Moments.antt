@@ -9,7 +9,7 @@ use Rattle.plan_model.specs.PlanData.{PlanData}
 use Rattle.plan_model.specs.Rows.{AreRowsOf, is_due, row_is_at}
 use Rattle.stream_model.specs.InputData.{InputData}
 use Rattle.stream_model.specs.Laws.{EndIsDue}
-use Rattle.stream_model.specs.Watermarks.{IsCut, IsOrderly, empty_cut, merged_watermark}
+use Rattle.stream_model.specs.Watermarks.{IsCut, empty_cut, merged_watermark}
 use Rattle.stream_model.specs.PlanRows.{due_rows, plan_rows}
 use Rattle.input_flow.proofs.Facts.{empty_is_cut}
 use Rattle.dataflow_laws.specs.Compiled.{cut_to}
@@ -19,20 +19,20 @@ use Rattle.legs.specs.declared.stop.Stop.TheVariants.{At}
 use Rattle.legs.specs.Stops.{until_of}
 use Rattle.redistribute.specs.StartData.{StartData, offsets_of}
 use Rattle.redistribute.specs.Begins.{HasSnapshot}
-use Rattle.savepoint_codec.specs.Layout.{IsSavepoint, savepoint_bytes}
-use Rattle.savepoint_codec.specs.declared.savepoint.Contents.{Contents}
-use Rattle.restarts.specs.Laws.{IsStartAt, SnapshotsRestart}
+use Rattle.restarts.specs.Laws.{IsStartAt}
 use Rattle.core_steps.specs.Given.{GivenData}
 use Rattle.core_steps.specs.World.{WorldData, IsGiven}
 use Rattle.core_steps.specs.Finishing.{rows_in}
 use Rattle.core_steps.proofs.Delivered.{world_so_far}
 use Rattle.core_steps.proofs.Ending.{end_is_cut}
-use Rattle.job_legs.specs.Laws.{EachRowAddsUp, NothingDueAtFirst, RowsAddUp}
+use Rattle.job_legs.specs.Laws.{EachRowAddsUp}
 use Rattle.job_legs.specs.Ending.{rows_to}
 use Rattle.job_legs.proofs.Facts.{before_end, row_to}
 use Rattle.lineages.specs.Lineage.{EachMomentIsPart, IsUnderWay, delivered, given_of, leg_savepoint}
 use Rattle.lineages.specs.Lineage.UnderWay.{sets_out, goes_further}
-use Rattle.lineages.proofs.Exact.{LastIs, at_first, can_stop, comes, from_bytes}
+use Rattle.lineages.specs.Changes.{EachMomentOverInputs}
+use Rattle.lineages.specs.Changes.UnderWayOverInputs.{sets_out_on, goes_further_with}
+use Rattle.lineages.proofs.Exact.{Carry, at_first, can_stop, comes, due_too, from_bytes, is_fit, left_to, one_input}
 
 -- nothing of a list, or all of it
 abbrev IsPart : List Row → List Row → Type 0
@@ -70,14 +70,23 @@ module _ (p : PlanData) (i : InputData) (s : StartData) (saves : List (List (Lis
   due_there : EndIsDue → (xs : List Row) (q : Pane) → IsPart xs (option_to_list (due_rows p i.sources end q)) → IsPart xs (option_to_list (rows_to p i stop q))
   due_there at_end xs q = subst (λ o. IsPart xs (option_to_list o)) (row_to at_end p i stop q on_way.plan on_way.input on_way.belongs)
 
-pub each_moment : NothingDueAtFirst → RowsAddUp → EachRowAddsUp → SnapshotsRestart → ((a b : Contents) → IsSavepoint a → IsSavepoint b → savepoint_bytes a ≡ savepoint_bytes b → a ≡ b) → EndIsDue → EachMomentIsPart
-unfolding LastIs
-each_moment none add each restart one at_end p i stop w [] (sets_out {s = s} nothing way) q =
+pub each_moment : EachRowAddsUp → Carry → EachMomentOverInputs
+each_moment each carry p i stop w [] (sets_out_on {s = s} nothing way) q =
     let g = on_way p i s [] stop w way in
     let at = at_first p i s way.layout [] stop g nothing in
-    let none_due : AreRowsOf (due_rows p i.sources (empty_cut i.sources)) [] = λ x. sym (ap option_to_list (none p i x (subst (λ t. IsOrderly t i.sources) g.belongs.time g.orderly))) in
-    due_there p i s [] stop w way at_end (filter (row_is_at q) (rows_in w)) q (with_earlier p i s [] stop w way each (empty_cut i.sources) 0 at (empty_is_cut i.sources) [] none_due q)
-each_moment none add each restart one at_end p i stop w (before ∷ earlier) (goes_further {cut = cut} {s = s} legs savepoint from way) q =
-    let c = comes none add restart one at_end p i (At cut) (before ∷ earlier) legs in
-    let at = from_bytes p i s way.layout [] stop (on_way p i s [] stop w way) restart one cut.counts (length (before ∷ earlier)) (leg_savepoint before) c.is_cut (c.saved cut refl) savepoint from in
-    due_there p i s [] stop w way at_end _ q (with_earlier p i s [] stop w way each cut.counts (length (before ∷ earlier)) at c.is_cut (delivered (before ∷ earlier)) c.due q)
+    let none_due : AreRowsOf (due_rows p i.sources (empty_cut i.sources)) [] = λ x. sym (ap option_to_list (carry.none p i x (is_fit p i s way.layout [] stop g).orderly)) in
+    due_there p i s [] stop w way carry.end (filter (row_is_at q) (rows_in w)) q (with_earlier p i s [] stop w way each (empty_cut i.sources) 0 at (empty_is_cut i.sources) [] none_due q)
+each_moment each carry p i stop w (before ∷ earlier) (goes_further_with {old = old} {cut = cut} {s = s} legs same savepoint from way) q =
+    let c = comes carry p old (At cut) (before ∷ earlier) legs in
+    let g = on_way p i s [] stop w way in
+    let there = left_to carry p old i cut before earlier s c (is_fit p i s way.layout [] stop g) same savepoint from in
+    let number = length (before ∷ earlier) in
+    let at = from_bytes p i s way.layout [] stop g carry.restart carry.one cut.counts number (leg_savepoint before) there.is_cut there.saved_at savepoint from in
+    due_there p i s [] stop w way carry.end _ q
+    (with_earlier p i s [] stop w way each cut.counts number at there.is_cut (delivered (before ∷ earlier)) (due_too p old i cut.counts number (leg_savepoint before) (delivered (before ∷ earlier)) there c.due) q)
+
+-- with one input for all of them
+pub one_input_is_part : EachMomentOverInputs → EachMomentIsPart
+one_input_is_part made p i stop w [] (sets_out nothing way) q = made p i stop w [] (sets_out_on nothing way) q
+one_input_is_part made p i stop w (before ∷ earlier) (goes_further {cut = cut} legs savepoint from way) q =
+    made p i stop w (before ∷ earlier) (goes_further_with (one_input p i (At cut) (before ∷ earlier) legs) refl savepoint from way) q

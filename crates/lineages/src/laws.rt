@@ -1,11 +1,13 @@
 //! Laws of the legs of a job, each the contract of a function that does nothing.
 
 ghost use Rattle.lineages.specs.Calls.{CallsAreAnswered, CallsAreExact, SaidComesFrom};
+ghost use Rattle.lineages.specs.Changes.{AcceptedAgree, BetweenIsSame, CallsOverInputsAreExact, EachMomentOverInputs, HeadlineOverInputs, LineagesOverInputsAreExact};
 ghost use Rattle.lineages.specs.Dealing.{DealtAreGathered, SavepointsAreGatheredAgain};
 ghost use Rattle.lineages.specs.Lineage.{BytesRestart, EachMomentIsPart, EachMomentOfALeg, FinishedIsLeg, Headline, LineagesAreExact, OneSavepoint, TasksAreLeg};
 ghost use Rattle.lineages.specs.Steps.{EachStepFalls};
 
 use gather::laws::same_panes_same_savepoint;
+use input_changes::laws::{agree_earlier, agreeing_are_same, entries_keep_the_cut};
 use job_legs::laws::{each_row_adds_up, nothing_due_at_first, rows_add_up};
 use leg_tasks::laws::saved_at_is_one;
 use logical_plan::laws::said_is_plan;
@@ -22,7 +24,16 @@ use stream_model::laws::end_is_due;
 pub fn headline()
     ensures { Headline }
 {
-    let _exact = lineages_are_exact();
+    let _over = headline_over_inputs();
+}
+
+/// The headline theorem where the input changes between the legs: each leg has an input of its own, of which nothing is asked but
+/// that its first entries in each partition are those that the leg before had read of its own when it stopped, and that the check
+/// of its savepoint accepts it. The rows are the plan's on all of the last input, each once.
+pub fn headline_over_inputs()
+    ensures { HeadlineOverInputs }
+{
+    let _exact = lineages_over_inputs_are_exact();
 }
 
 /// A world on its way is a leg once all its tasks are done.
@@ -41,11 +52,21 @@ pub fn tasks_are_leg()
 pub fn lineages_are_exact()
     ensures { LineagesAreExact }
 {
+    let _over = lineages_over_inputs_are_exact();
+}
+
+/// Legs of which each has an input of its own, and the last stopped at a cut, have delivered just the rows that are due there by
+/// the last input, each once, and leave the savepoint of that input's cut, numbered by the legs.
+pub fn lineages_over_inputs_are_exact()
+    ensures { LineagesOverInputsAreExact }
+{
     let _first = nothing_due_at_first();
     let _add = rows_add_up();
     let _restart = snapshots_restart();
     let _content = one_content();
     let _end = end_is_due();
+    let _agreeing = agreeing_are_same();
+    let _keep = entries_keep_the_cut();
 }
 
 /// At every moment of a job, in the midst of a leg too, its legs have delivered together, of each pane, nothing or just the row
@@ -53,12 +74,21 @@ pub fn lineages_are_exact()
 pub fn each_moment_is_part()
     ensures { EachMomentIsPart }
 {
+    let _over = each_moment_over_inputs();
+}
+
+/// So it is where each leg has an input of its own: what is due by the last input.
+pub fn each_moment_over_inputs()
+    ensures { EachMomentOverInputs }
+{
     let _first = nothing_due_at_first();
     let _add = rows_add_up();
     let _each = each_row_adds_up();
     let _restart = snapshots_restart();
     let _content = one_content();
     let _end = end_is_due();
+    let _agreeing = agreeing_are_same();
+    let _keep = entries_keep_the_cut();
 }
 
 /// At every moment of one leg that starts with the snapshot of its cut, its sink has, of each pane, nothing or just the row that
@@ -80,6 +110,24 @@ pub fn bytes_restart()
     let _content = one_content();
 }
 
+/// Where the entries before a cut are the same in two inputs of a plan, and the check accepts the savepoint that a job by the one
+/// has left at the cut for the other, they agree before the cut: the watermarks there are the same too, which the check compares.
+pub fn accepted_agree()
+    ensures { AcceptedAgree }
+{
+    let _keep = entries_keep_the_cut();
+    let _restart = snapshots_restart();
+    let _content = one_content();
+}
+
+/// What becomes due between two cuts is the same by two inputs that agree before the later one.
+pub fn between_is_same()
+    ensures { BetweenIsSame }
+{
+    let _earlier = agree_earlier();
+    let _agreeing = agreeing_are_same();
+}
+
 /// The start that the bytes of a savepoint say is what the check gives of the savepoint that they spell.
 pub fn said_comes_from()
     ensures { SaidComesFrom }
@@ -96,11 +144,21 @@ pub fn calls_are_answered()
 pub fn calls_are_exact()
     ensures { CallsAreExact }
 {
+    let _over = calls_over_inputs_are_exact();
+}
+
+/// So it is of calls for one plan, each with an input of its own, where the entries that one call had read when it stopped stand
+/// first in the next one's: the lines are those of the rows by the last input.
+pub fn calls_over_inputs_are_exact()
+    ensures { CallsOverInputsAreExact }
+{
     let _first = nothing_due_at_first();
     let _add = rows_add_up();
     let _restart = snapshots_restart();
     let _content = one_content();
     let _end = end_is_due();
+    let _agreeing = agreeing_are_same();
+    let _keep = entries_keep_the_cut();
     let _plan = said_is_plan();
     let _input = said_is_input();
 }

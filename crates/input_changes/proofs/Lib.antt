@@ -1,0 +1,4 @@
+mod Same
+mod Cuts
+mod Ends
+mod Examples
