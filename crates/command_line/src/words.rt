@@ -311,7 +311,7 @@ fn import_files<'a>(alloc: Global) -> Result<Command<'a>, AllocError>
         alloc,
         command,
         "SOURCE",
-        "SOURCE=FILE[,FILE..]: a source of the plan, and its files, one for each partition",
+        "SOURCE=FILE[,FILE..]: a source of the plan, and its files, one for each partition, or several with pluses between",
     )
 }
 

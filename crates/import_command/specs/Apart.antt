@@ -2,16 +2,17 @@
 use Rattle.std.specs.Prelude.{nat_eq, ℕ, Bool, true, false, not, ◌&&◌, ◌||◌, List, bytes_eq, codes, Option, Some, None}
 use Rattle.std.specs.Borrow.{Bor}
 use Rattle.std.specs.List.{list_any, after_first, starts_with}
-use Rattle.import_words.specs.Words.{parts, has_equals, is_equals}
+use Rattle.import_words.specs.Files.{parts, names_in}
+use Rattle.import_words.specs.Words.{has_equals, is_equals}
 use Rattle.import_command.specs.declared.words.ImportWords.{ImportWords}
 
 -- what a device takes is lost in no file
 abbrev pub is_device : List ℕ → Bool
 is_device path = starts_with nat_eq path (codes "/dev/")
 
--- a file is one of those that stand in a word, with commas between
+-- a file is one of those that stand in a word, with commas and pluses between
 abbrev pub has_file : List ℕ → List ℕ → Bool
-has_file path files = list_any (bytes_eq path) (parts files)
+has_file path files = list_any (λ part. list_any (bytes_eq path) (names_in part)) (parts files)
 
 -- a word of a source names a file
 abbrev pub names_file : List ℕ → List ℕ → Bool

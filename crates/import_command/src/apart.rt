@@ -5,7 +5,7 @@ ghost use Rattle.import_words.specs.Judging.{IsRefusal, Judges};
 ghost use Rattle.import_command.specs.Apart.{is_device, has_file, names_file, is_read, may_write, is_path, is_taken, may_write_late, may_write_names, are_apart};
 
 use crate::words::ImportWords;
-use import_words::{ImportCode, ImportFault, refused};
+use import_words::{ImportCode, ImportFault, names_path, refused};
 use std::alloc::Global;
 
 /// Whether a path is one of a device.
@@ -15,11 +15,11 @@ fn is_device(path: &str) -> bool
     path.as_bytes().starts_with(b"/dev/")
 }
 
-/// Whether a file is one of those that stand in a word, with commas between.
+/// Whether a file is one of those that stand in a word, with commas and pluses between.
 fn has_file(files: &str, path: &str) -> bool
     ensures { result ≡ has_file path.now files.now }
 {
-    files.split(',').any(|file| path == file)
+    files.split(',').any(|part| names_path(part, path))
 }
 
 /// Whether a word of a source names a file.

@@ -2,7 +2,8 @@
 use Rattle.std.proofs.Common.{ℕ, List, ◌∷◌, Option, Some, None}
 use Rattle.std.specs.Borrow.{Bor}
 use Rattle.import_words.specs.Judging.{IsRefusal}
-use Rattle.import_words.specs.Words.{parts, HasNoColumn, RefusesColumns}
+use Rattle.import_words.specs.Files.{parts}
+use Rattle.import_words.specs.Words.{HasNoColumn, RefusesColumns}
 use Rattle.import_words.specs.declared.refusal.ImportCode.TheVariants.{Columns}
 use Rattle.import_words.specs.declared.refusal.ImportFault.{ImportFault}
 use Rattle.import_words.specs.declared.refusal.ImportFault.TheVariants.{Refused, Write, Memory}

@@ -1,21 +1,19 @@
 -- What the words of an import say.
-use Rattle.std.specs.Prelude.{◌≡◌, ◌==◌, nat_lt, ℕ, Bool, true, false, not, ◌&&◌, ◌||◌, List, [], ◌∷◌, map, filter, length, bytes_eq, Option, Some, None, Result, Ok, Err, Vec}
+use Rattle.std.specs.Prelude.{◌≡◌, ◌==◌, nat_lt, ℕ, Bool, true, false, not, ◌&&◌, ◌||◌, List, [], ◌∷◌, map, filter, length, bytes_eq, Option, Some, None, Result, Ok, Err, Vec, String, string_bytes}
 use Rattle.std.specs.Borrow.{Bor}
-use Rattle.std.specs.List.{slice_split, list_all, list_any, position_or_len, before_first, after_first, Contains}
+use Rattle.std.specs.declared.alloc.Global.{Global}
+use Rattle.std.specs.List.{list_all, list_any, position_or_len, before_first, after_first, Contains}
 use Rattle.import_columns.specs.Columns.{view_column, column_said}
 use Rattle.import_columns.specs.declared.column.Column.{Column}
 use Rattle.import_columns.specs.declared.fault.ColumnFault.{ColumnFault}
 use Rattle.import_columns.specs.declared.kind.ColumnKind.{ColumnKind}
 use Rattle.import_columns.specs.declared.kind.ColumnKind.TheVariants as kind
 use Rattle.plan_model.specs.declared.spec.SourceSpec.{SourceSpec}
+use Rattle.import_words.specs.Files.{parts, lists_in}
 use Rattle.import_words.specs.Judging.{IsRefusal}
 use Rattle.import_words.specs.declared.refusal.ImportCode.TheVariants.{Columns, Sources}
 use Rattle.import_words.specs.declared.refusal.ImportFault.{ImportFault}
 use Rattle.import_words.specs.declared.refusal.ImportFault.TheVariants.{Refused, Write, Memory}
-
--- the parts of a word, with commas between
-abbrev pub parts : List ℕ → List (List ℕ)
-parts word = slice_split (λ b. b == 44) word
 
 -- these are the columns that words say, one each
 abbrev pub AreColumns : List (List ℕ) → List Column → Type 0
@@ -67,6 +65,13 @@ only (files ∷ others ∷ more) = None
 abbrev pub GivesFiles : Option (List ℕ) → Result (Bor (List ℕ)) ImportFault → Type 0
 GivesFiles said (Ok files) = said ≡ Some files.now
 GivesFiles said (Err fault) = (said ≡ None) × IsRefusal Sources fault
+
+-- the files of each partition, or that no word names them, or not just one; or there was no memory for them
+abbrev pub GivesLists : {A : Type 0} → Option (List ℕ) → Result (Vec (Vec (String Global) Global) A) ImportFault → Type 0
+GivesLists None (Ok lists) = ⊥
+GivesLists None (Err fault) = IsRefusal Sources fault
+GivesLists (Some files) (Ok lists) = map (λ list. map string_bytes list.items) lists.items ≡ lists_in files
+GivesLists (Some files) (Err fault) = fault ≡ Memory
 
 -- there are files, and as many as are wanted
 abbrev pub are_many : ℕ → Option (List ℕ) → Bool

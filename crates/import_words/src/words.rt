@@ -2,10 +2,12 @@
 
 ghost use Rattle.std.specs.Prelude.{◌≡◌, map, length, bytes_eq};
 ghost use Rattle.std.specs.List.{list_all, list_any};
+ghost use Rattle.import_words.specs.Files.{parts};
 ghost use Rattle.import_words.specs.Judging.{IsRefusal, Judges};
-ghost use Rattle.import_words.specs.Words.{parts, ReadsColumns, are_right};
-ghost use Rattle.import_words.specs.Words.{only, files_named, GivesFiles, names_some, has_files, are_sources};
+ghost use Rattle.import_words.specs.Words.{ReadsColumns, are_right};
+ghost use Rattle.import_words.specs.Words.{only, files_named, GivesFiles, GivesLists, names_some, has_files, are_sources};
 
+use crate::files::file_lists;
 use crate::refusal::{ImportCode, ImportFault, refused};
 use import_columns::{Column, ColumnFault, ColumnKind, read_column};
 use plan_model::SourceSpec;
@@ -88,12 +90,8 @@ fn refused_source(alloc: Global, word: &str, what: &str) -> ImportFault
     refused(ImportCode::Sources, format!(in alloc; "{word:?}: {what}"))
 }
 
-/// The files that words name for a source, with commas between. Each word is `SOURCE=FILE,FILE`.
-///
-/// # Errors
-///
-/// `Sources` where not one word names the source; `Memory`.
-pub fn files_of<'w>(
+/// What words say of the files of a source. Each word is the source's name, an equals sign and that.
+fn said_of<'w>(
     alloc: Global,
     words: &[&'w str],
     source: &SourceSpec,
@@ -122,6 +120,24 @@ pub fn files_of<'w>(
     }
 }
 
+/// The files that words name for a source: of each partition those that stand behind one another. Each word is
+/// `SOURCE=FILE+FILE,FILE`, with commas between the partitions and pluses between the files of one; two pluses stand for one in
+/// the name of a file.
+///
+/// # Errors
+///
+/// `Sources` where not one word names the source; `Memory`.
+pub fn files_of(
+    alloc: Global,
+    words: &[&str],
+    source: &SourceSpec,
+) -> Result<Vec<Vec<String>>, ImportFault>
+    ensures { GivesLists (only (files_named source.now.uid (map (λ word. word.now) words.now))) result }
+{
+    let said = said_of(alloc, words, source)?;
+    file_lists(alloc, said)
+}
+
 /// Whether one of the sources has a name.
 fn is_source(sources: &[SourceSpec], name: &str) -> bool
     ensures { result ≡ list_any (λ source. bytes_eq source.uid name.now) sources.now }
@@ -143,7 +159,7 @@ fn check_word(alloc: Global, word: &str, sources: &[SourceSpec]) -> Result<(), I
         None => Err(refused_source(
             alloc,
             word,
-            "a source and its files are SOURCE=FILE[,FILE..]",
+            "a source and its files are SOURCE=FILE[+FILE..][,FILE[+FILE..]..]",
         )),
     }
 }
@@ -181,7 +197,7 @@ fn check_files(alloc: Global, words: &[&str], source: &SourceSpec) -> Result<(),
 {
     let uid = source.uid.as_str();
     let wanted = source.partitions;
-    let files = files_of(alloc, words, source)?;
+    let files = said_of(alloc, words, source)?;
     let count = count_of(files);
     if count as u64 == u64::from(wanted) {
         return Ok(());

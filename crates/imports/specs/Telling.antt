@@ -26,6 +26,7 @@ abbrev pub TellsRow : RowFault → ImportFault → Type 0
 TellsRow row.Read told = IsRefusal code.Read told
 TellsRow (row.NoField column) told = IsRefusal code.Header told
 TellsRow (row.FieldTwice column) told = IsRefusal code.Header told
+TellsRow row.OtherHeader told = IsRefusal code.Header told
 TellsRow (row.Width width wanted) told = IsRefusal code.Width told
 TellsRow row.NoObject told = IsRefusal code.Object told
 TellsRow (row.Member column why) told = IsRefusal (member_code why) told

@@ -16,6 +16,8 @@ pub enum RowFault {
     NoField(usize),
     /// The header has the name of this column twice.
     FieldTwice(usize),
+    /// The header is not that of the first CSV file of the partition.
+    OtherHeader,
     /// The record has so many fields, and the header so many.
     Width(usize, usize),
     /// The line is no JSON object.

@@ -1,9 +1,16 @@
 //! An import of files.
 
+ghost use Rattle.std.specs.Prelude.{◌≡◌, ℕ, List, Option, OnOk};
+ghost use Rattle.entry_texts.specs.Partitions.{rule_of};
+ghost use Rattle.imports.specs.Copies.{Writes, WritesPartition};
+
+use crate::fault::RowFault;
+use crate::first::FirstHeader;
 use crate::kinds::Records;
 use crate::late::LateRows;
-use crate::partition::copy_rows;
+use crate::partition::{copy_records, write_end};
 use crate::telling::{refused_file, refused_row};
+use entry_texts::PartitionText;
 use import_columns::Column;
 use import_entries::EntryRule;
 use import_words::{ImportFault, files_of};
@@ -44,50 +51,109 @@ fn put<W: Write>(out: &mut W, text: &str) -> Result<(), ImportFault> {
     }
 }
 
-/// Writes the rows of an opened file.
-fn import_rows<R: Files + AllocGlobal, W: Write, L: Write + Drop>(
+/// Copies the records of an opened file behind those of a partition.
+fn copy_rows<'f, R: Files + AllocGlobal, W: Write, L: Write + Drop>(
     rt: &R,
     rule: ImportRule<'_>,
-    path: &str,
+    file: &'f str,
     rows: &mut Records<R::File>,
+    first: &mut Option<FirstHeader<'f>>,
+    partition: &mut PartitionText,
     names: &mut NameTable,
     late: &mut Option<LateRows<L>>,
     out: &mut W,
-) -> Result<(), ImportFault> {
-    match copy_rows(
+) -> Result<(), RowFault>
+    ensures rule { rule_of partition.new ≡ rule_of partition.old }
+    ensures writes { (start : Option (List ℕ)) → Writes start (W.contents out.old) partition.old → OnOk result (Writes start (W.contents out.new) partition.new) }
+{
+    let places = rows.begin(rt.alloc(), rule.columns, file, first)?;
+    copy_records(
         rt.alloc(),
         rows,
         rule.columns,
+        &places,
         rule.time,
         names,
-        rule.entries,
+        partition,
         late,
         out,
-    ) {
-        Ok(()) => Ok(()),
-        Err(fault) => Err(refused_row(rt.alloc(), path, rule.columns, rule.time, rows, fault)),
-    }
+    )
 }
 
-/// Writes the rows of a file as a partition.
-fn import_file<R: Files + AllocGlobal, W: Write, L: Write + Drop>(
+/// Copies the records of a file behind those of a partition.
+fn copy_file<'f, R: Files + AllocGlobal, W: Write, L: Write + Drop>(
     rt: &R,
     rule: ImportRule<'_>,
-    path: &str,
+    file: &'f str,
+    first: &mut Option<FirstHeader<'f>>,
+    partition: &mut PartitionText,
     names: &mut NameTable,
     late: &mut Option<LateRows<L>>,
     out: &mut W,
-) -> Result<(), ImportFault> {
-    match File::open(rt, path) {
-        Ok(file) => match Records::new(rt.alloc(), path, file) {
-            Ok(mut rows) => import_rows(rt, rule, path, &mut rows, names, late, out),
-            Err(_) => Err(ImportFault::Memory),
-        },
-        Err(error) => Err(open_fault(rt.alloc(), path, &error)),
+) -> Result<(), ImportFault>
+    ensures rule { rule_of partition.new ≡ rule_of partition.old }
+    ensures writes { (start : Option (List ℕ)) → Writes start (W.contents out.old) partition.old → OnOk result (Writes start (W.contents out.new) partition.new) }
+{
+    let opened = match File::open(rt, file) {
+        Ok(opened) => opened,
+        Err(error) => return Err(open_fault(rt.alloc(), file, &error)),
+    };
+    let Ok(mut rows) = Records::new(rt.alloc(), file, opened) else {
+        return Err(ImportFault::Memory);
+    };
+    match copy_rows(
+        rt, rule, file, &mut rows, first, partition, names, late, out,
+    ) {
+        Ok(()) => Ok(()),
+        Err(fault) => Err(refused_row(
+            rt.alloc(),
+            file,
+            rule.columns,
+            rule.time,
+            &rows,
+            first.as_ref(),
+            fault,
+        )),
     }
 }
 
-/// Writes the files of a source, each as a partition.
+/// Writes the records of files, behind one another, as a partition. Each file is open only while it is read.
+///
+/// # Errors
+///
+/// What is refused first; `Write`; `Memory`. Some of the text may have been written then.
+pub fn import_partition<R: Files + AllocGlobal, W: Write, L: Write + Drop>(
+    rt: &R,
+    rule: ImportRule<'_>,
+    files: &[String],
+    names: &mut NameTable,
+    late: &mut Option<LateRows<L>>,
+    out: &mut W,
+) -> Result<(), ImportFault>
+    ensures { OnOk result (WritesPartition rule.entry.entries (W.contents out.old) (W.contents out.new)) }
+{
+    let mut partition = PartitionText::new(rt.alloc(), rule.entries);
+    let mut first = None;
+    for file in files {
+        copy_file(
+            rt,
+            rule,
+            file.as_str(),
+            &mut first,
+            &mut partition,
+            names,
+            late,
+            out,
+        )?;
+    }
+    match write_end(&mut partition, out) {
+        Ok(()) => Ok(()),
+        Err(RowFault::Memory) => Err(ImportFault::Memory),
+        Err(_) => Err(ImportFault::Write),
+    }
+}
+
+/// Writes the partitions of a source.
 fn import_source<R: Files + AllocGlobal, W: Write, L: Write + Drop>(
     rt: &R,
     rule: ImportRule<'_>,
@@ -96,17 +162,17 @@ fn import_source<R: Files + AllocGlobal, W: Write, L: Write + Drop>(
     late: &mut Option<LateRows<L>>,
     out: &mut W,
 ) -> Result<(), ImportFault> {
-    let files = files_of(rt.alloc(), rule.words, source)?;
+    let partitions = files_of(rt.alloc(), rule.words, source)?;
     let mut is_first = true;
-    for path in files.split(',') {
+    for files in &partitions {
         put(out, if is_first { "[" } else { "," })?;
-        import_file(rt, rule, path, names, late, out)?;
+        import_partition(rt, rule, files, names, late, out)?;
         is_first = false;
     }
     put(out, "]")
 }
 
-/// Writes an input of files: for each source of a plan its partitions, one of each file, as words that [`check_sources`](crate::check_sources) takes name them.
+/// Writes an input of files: for each source of a plan its partitions, as words that [`check_sources`](crate::check_sources) takes name them.
 ///
 /// # Errors
 ///

@@ -11,7 +11,7 @@ const MOST_FIELDS: usize = 10;
 const MOST_SHOWN: usize = 100;
 
 /// The name of a field, if it is no long one.
-fn field_text(alloc: Global, field: &[u8]) -> Result<String, AllocError> {
+pub(crate) fn field_text(alloc: Global, field: &[u8]) -> Result<String, AllocError> {
     let count = field.len();
     match str::from_utf8(field) {
         Ok(text) if count <= MOST_SHOWN => format!(in alloc; "{text:?}"),

@@ -1,6 +1,7 @@
 //! The records of a file, whatever kind of file it is.
 
 use crate::fault::{RowFault, line_fault};
+use crate::first::{FirstHeader, check_header};
 use crate::placing::places_of;
 use crate::records::CsvRows;
 use csv::ByteRecord;
@@ -64,15 +65,18 @@ impl<R: Read + Drop> Records<R> {
     ///
     /// # Errors
     ///
-    /// `Read`; those of the header that a CSV text has; `Memory`.
-    pub(crate) fn begin(
+    /// `Read`; those of the header that a CSV text has, which is to be that of the partition; `Memory`.
+    pub(crate) fn begin<'f>(
         &mut self,
         alloc: Global,
         columns: &[Column<'_>],
+        file: &'f str,
+        first: &mut Option<FirstHeader<'f>>,
     ) -> Result<Vec<usize>, RowFault> {
         match self {
             Records::Rows(rows) => {
                 let _is_empty = rows.advance()?;
+                check_header(first, file, rows.record())?;
                 places_of(alloc, rows.record(), columns)
             }
             Records::Objects(_) => first_places(alloc, columns.len()),

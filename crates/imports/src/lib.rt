@@ -3,6 +3,7 @@
 
 mod fault;
 mod files;
+mod first;
 mod header;
 mod kinds;
 mod late;
@@ -17,10 +18,9 @@ mod watched;
 mod writer;
 
 pub use fault::RowFault;
-pub use files::{ImportRule, import_files};
+pub use files::{ImportRule, import_files, import_partition};
 pub use kinds::Records;
 pub use late::LateRows;
 pub use names::{read_names, text_of_names};
-pub use partition::copy_rows;
 pub use records::CsvRows;
 pub use telling::refused_names;

@@ -81,8 +81,13 @@ fn put_or_keep<R: Read + Drop, L: Write + Drop>(
     }
 }
 
-/// Copies the records, each as a row.
-fn copy_records<R: Read + Drop, W: Write, L: Write + Drop>(
+/// Copies the records of a file into a partition, each as a row, in one pass. `time` is the column of the times, and `places` has
+/// the place of each column's text in a record. Late rows go among `late`, where there is a place for them.
+///
+/// # Errors
+///
+/// The fault of the first record that is refused, which is then the one that `rows` has.
+pub(crate) fn copy_records<R: Read + Drop, W: Write, L: Write + Drop>(
     alloc: Global,
     rows: &mut Records<R>,
     columns: &[Column<'_>],
@@ -109,37 +114,13 @@ fn copy_records<R: Read + Drop, W: Write, L: Write + Drop>(
     Err(RowFault::Read)
 }
 
-/// Writes the records of a file as the entries of a partition, in one pass. `time` is the column of the times. Late rows go among
-/// `late`, where there is a place for them.
-///
-/// # Errors
-///
-/// The fault of the first record that is refused, which is then the one that `rows` has.
-pub fn copy_rows<R: Read + Drop, W: Write, L: Write + Drop>(
-    alloc: Global,
-    rows: &mut Records<R>,
-    columns: &[Column<'_>],
-    time: usize,
-    names: &mut NameTable,
-    rule: EntryRule,
-    late: &mut Option<LateRows<L>>,
+/// Ends a partition, and writes the text that it keeps.
+pub(crate) fn write_end<W: Write>(
+    partition: &mut PartitionText,
     out: &mut W,
 ) -> Result<(), RowFault>
-    ensures { OnOk result (WritesPartition rule (W.contents out.old) (W.contents out.new)) }
+    ensures { (start : Option (List ℕ)) → Writes start (W.contents out.old) partition.old → OnOk result (WritesPartition (rule_of partition.old) start (W.contents out.new)) }
 {
-    let places = rows.begin(alloc, columns)?;
-    let mut partition = PartitionText::new(alloc, rule);
-    copy_records(
-        alloc,
-        rows,
-        columns,
-        &places,
-        time,
-        names,
-        &mut partition,
-        late,
-        out,
-    )?;
     partition.end()?;
-    write_text(&mut partition, out)
+    write_text(partition, out)
 }

@@ -4,6 +4,7 @@ ghost use Rattle.import_words.specs.Judging.{IsRefusal};
 ghost use Rattle.imports.specs.Telling.{member_code, place_code, TellsRow, TellsNames};
 
 use crate::fault::RowFault;
+use crate::first::FirstHeader;
 use crate::header::fields_text;
 use crate::kinds::Records;
 use crate::records::CsvRows;
@@ -155,6 +156,37 @@ fn refused_twice(alloc: Global, spot: Spot<'_>, name: &str) -> ImportFault
     )
 }
 
+fn other_header_sentence(
+    alloc: Global,
+    spot: Spot<'_>,
+    first: &FirstHeader<'_>,
+    header: &ByteRecord,
+) -> Result<String, AllocError> {
+    let (file, line) = (spot.file, spot.line);
+    let wanted = first.file;
+    let difference = first.difference(alloc, header)?;
+    format!(in alloc; "{file}:{line}: the header is not that of {wanted}: {difference}")
+}
+
+/// The refusal of a header that is not that of the first file.
+fn refused_other_header(
+    alloc: Global,
+    spot: Spot<'_>,
+    first: Option<&FirstHeader<'_>>,
+    header: &ByteRecord,
+) -> ImportFault
+    ensures { IsRefusal ImportCode.Header result }
+{
+    let (file, line) = (spot.file, spot.line);
+    refused(
+        ImportCode::Header,
+        match first {
+            Some(first) => other_header_sentence(alloc, spot, first, header),
+            None => format!(in alloc; "{file}:{line}"),
+        },
+    )
+}
+
 /// What may be wrong with a record that goes on to a line: a quotation mark stands open where it is not the first line.
 fn open_quote(alloc: Global, line: u64, last: u64) -> Result<String, AllocError> {
     if last <= line {
@@ -227,13 +259,14 @@ fn refused_member(alloc: Global, spot: Spot<'_>, name: &str, fault: MemberFault)
     }
 }
 
-/// The refusal of the record that `rows` has, in the file of a name.
+/// The refusal of the record that `rows` has, in the file of a name, behind the first CSV file of its partition.
 pub(crate) fn refused_row<R: Read + Drop>(
     alloc: Global,
     file: &str,
     columns: &[Column<'_>],
     time: usize,
     rows: &Records<R>,
+    first: Option<&FirstHeader<'_>>,
     fault: RowFault,
 ) -> ImportFault
     ensures { TellsRow fault result }
@@ -248,6 +281,7 @@ pub(crate) fn refused_row<R: Read + Drop>(
             refused_header(alloc, spot, name_of(columns, column), rows.record())
         }
         RowFault::FieldTwice(column) => { refused_twice(alloc, spot, name_of(columns, column)) }
+        RowFault::OtherHeader => refused_other_header(alloc, spot, first, rows.record()),
         RowFault::Width(width, wanted) => {
             refused_width(alloc, spot, rows.last_line(), width, wanted)
         }

@@ -3,7 +3,8 @@ use Rattle.std.proofs.lemmas.List.Elements.{Contains-get_or}
 use Rattle.std.proofs.lemmas.Iterator.Consumers.{YieldsList-at, YieldsList-turn, YieldsList-end}
 use Rattle.std.proofs.lemmas.Iterator.Splits.{YieldsList-from_str_split}
 use Rattle.std.specs.List.{Contains}
-use Rattle.import_words.specs.Words.{parts, AreColumns}
+use Rattle.import_words.specs.Files.{parts}
+use Rattle.import_words.specs.Words.{AreColumns}
 use Rattle.import_words.proofs.Found.{refused}
 use Rattle.import_words.proofs.words.read_columns.Goals as goal
 
