@@ -16,7 +16,8 @@ use Rattle.job_texts.specs.declared.fault.JobFault.TheVariants.{Plan, Input, Sca
 use Rattle.job_texts.specs.Fault.{plan_fault, input_fault, scale_fault, is_memory}
 use Rattle.job.specs.declared.leg.LegEnd.{LegEnd}
 use Rattle.job.specs.Ends.{and_then, as_job, Ends}
-use Rattle.job.specs.Leg.{LegJob, GivesLeg, IsLegEnd, EndsLeg}
+use Rattle.job.specs.Leg.{LegJob, GivesLeg}
+use Rattle.job.specs.Asked.{EndsLeg, IsEndSo}
 
 pub only : {P Q : Type 0} (b : Bool) → (P → Q) → unless b P → unless b Q
 only true f h = tt
@@ -94,6 +95,6 @@ module _ {J T : Type 0} (Other : JobFault → Type 0) (Can : J → Type 0) (Is :
   read next said x result is ends = subst (λ z. Ends Other Can Is (and_then next z) result) (sym is) ends
 
 -- all texts of a leg are read
-pub told : (job : LegJob) (result : Result LegEnd JobFault) → GivesLeg (IsLegEnd job) job result → EndsLeg (Ok job) result
-told job (Ok end) gives = (job, refl, gives.0, gives.1)
-told job (Err fault) late = only (is_memory fault) (λ l. inr (job, refl, l)) late
+pub told : (asked : Bool) (job : LegJob) (result : Result LegEnd JobFault) → GivesLeg (IsEndSo asked job) job result → EndsLeg asked (Ok job) result
+told asked job (Ok end) gives = (job, refl, gives.0, gives.1)
+told asked job (Err fault) late = only (is_memory fault) (λ l. inr (job, refl, l)) late

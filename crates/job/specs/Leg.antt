@@ -31,7 +31,7 @@ use Rattle.job_texts.specs.declared.fault.JobFault.TheVariants.{Plan, Input, Sca
 use Rattle.job_texts.specs.Cut.{cut_said}
 use Rattle.job_texts.specs.Fault.{is_memory}
 use Rattle.job_texts.specs.Text.{IsTextOf}
-use Rattle.job.specs.Ends.{and_then, as_job, Ends, Does, IsHalted, OnThreads}
+use Rattle.job.specs.Ends.{and_then, as_job, Does, IsHalted, OnThreads}
 
 -- what the texts of a leg say, but for its scale, which changes no row
 pub record LegJob : Type 0 where
@@ -106,10 +106,6 @@ IsLegEnd job end = IsLegText job (string_bytes end.text) × AreLegBytes job (opt
 abbrev pub GivesLeg : {X : Type 0} → (X → Type 0) → LegJob → Result X JobFault → Type 0
 GivesLeg is job (Ok x) = CanStopSo job × is x
 GivesLeg is job (Err fault) = unless (is_memory fault) (IsHalted OnThreads CanStopSo job fault)
-
--- what reading the texts of a leg and running it answers
-abbrev pub EndsLeg : Result LegJob JobFault → Result LegEnd JobFault → Type 0
-EndsLeg said result = Ends OnThreads CanStopSo IsLegEnd said result
 
 -- the leg's text is written, and the bytes are those that it leaves
 abbrev pub IsLegDone : Option (List ℕ) → Option (List ℕ) → LegJob → Option (List ℕ) → Type 0

@@ -5,4 +5,5 @@ pub mod Run
 pub mod Parallel
 pub mod Show
 pub mod Leg
+pub mod Asked
 pub mod Readers

@@ -11,7 +11,6 @@ ghost use Rattle.job.specs.Run.{IsWholeRefusal};
 use core_steps::Finish;
 use job_texts::{JobFault, sort_rows, text_of_rows};
 use layout_rules::Scale;
-use legs::Stop;
 use plan_model::{Plan, Row};
 use redistribute::Start;
 use std::alloc::Global;
@@ -19,7 +18,7 @@ use std::sync::Wait;
 use std::thread::Threads;
 use std::time::Clock;
 use stream_model::Input;
-use thread_runner::{Gate, run_leg};
+use thread_runner::{Gate, Stop, run_leg};
 use window_state::HashKeys;
 
 /// The plan's rows on an input, in the order in which they came.

@@ -262,6 +262,9 @@ pub fn run_legs<R: Threads + Wait + Clock + Sync, G: Gate>(
         >
             requires { CanRunLeg plan.now input.now start.now scale.now }
             ensures { AnswersLeg (λ fault. fault ≡ LegFault.Threads) plan.now input.now start.now stop result }
-        { run_leg(rt, alloc, keys, plan, input, start, scale, stop, gate) },
+        {
+            let stop = thread_runner::Stop::from(stop);
+            run_leg(rt, alloc, keys, plan, input, start, scale, stop, gate)
+        },
     )
 }

@@ -1,5 +1,6 @@
 pub mod Rings
 pub mod Works
+pub mod Stops
 pub mod Jobs
 pub mod Edges
 pub mod Legs

@@ -3,35 +3,37 @@
 ghost use Rattle.std.specs.Prelude.{[], ◌≡◌, IfOk, IfErr, OnOk};
 ghost use Rattle.stream_model.specs.InputData.{BelongsTo};
 ghost use Rattle.layout_rules.specs.Scale.{IsScale};
-ghost use Rattle.legs.specs.declared.stop.Stop.TheVariants.{Never};
-ghost use Rattle.legs.specs.Stops.{until_in, until_of};
+ghost use Rattle.legs.specs.Stops.{until_in};
 ghost use Rattle.redistribute.specs.StartData.{offsets_of};
 ghost use Rattle.redistribute.specs.Begins.{IsStartIn, IsFromNothing};
-ghost use Rattle.redistribute.specs.Stopping.{CanGo, CanSaveAt, CanStop, IsRefusal};
+ghost use Rattle.redistribute.specs.Stopping.{CanGo, CanSaveAt, IsRefusal};
 ghost use Rattle.task_setups.specs.Legs.{IsLayoutOf, counts_of};
 ghost use Rattle.core_steps.specs.Given.{given_data};
 ghost use Rattle.core_steps.specs.World.{IsSound};
 ghost use Rattle.core_steps.specs.Ending.{IsEndOf, IsWholeRun};
 ghost use Rattle.thread_runner.specs.Legs.{AreWired};
 ghost use Rattle.thread_runner.specs.Refusal.{IsThreadRefusal};
+ghost use Rattle.thread_runner.specs.declared.stop.Stop.TheVariants.{Never};
+ghost use Rattle.thread_runner.specs.Stops.{until_of};
 
 use crate::ending::conclude;
 use crate::gate::Gate;
 use crate::jobs::Job;
 use crate::laws::layouts_have_edges;
 use crate::run::run_all;
+use crate::stop::Stop;
 use crate::wiring::{jobs_of, wire};
 use core_steps::laws::{each_leg_is_sound, tasks_begin_new};
 use core_steps::{Finish, Given};
 use layout_rules::Scale;
 use leg_tasks::tasks;
-use legs::{LegFault, Stop, Until};
+use legs::LegFault;
 use plan_compiler::compile;
 use plan_model::Plan;
 use redistribute::Start;
 use std::alloc::Global;
-use std::sync::Wait;
 use std::sync::atomic::AtomicBool;
+use std::sync::{Arc, Wait};
 use std::thread::Threads;
 use std::time::Clock;
 use stream_model::Input;
@@ -69,9 +71,21 @@ fn prepared(
     Ok(jobs)
 }
 
+/// The word that asks a leg to stop, if there is one.
+fn word_in(asked: &Option<Arc<AtomicBool>>) -> Option<&AtomicBool> {
+    match asked {
+        Some(word) => Some(&**word),
+        None => None,
+    }
+}
+
 /// Runs a leg that begins at a start, on the layout of the plan at a scale, in a thread for each task, to the end of its input or
 /// to the cut where it stops and leaves a savepoint. The panes of the windows are hashed by the keys, and each worker passes
 /// the gate before each of its steps.
+///
+/// A leg that may be asked to stop looks for the word before each step of a source: a source that sees it reads no further entry.
+/// It ends at a cut that no one knows before, with the savepoint of there, or at the end of its input, where all its sources were
+/// closed before they saw the word.
 ///
 /// The input and the scale were read by the plan, and the start is one of the input.
 ///
@@ -94,12 +108,13 @@ pub fn run_leg<R: Threads + Wait + Clock + Sync, G: Gate>(
     requires belongs { BelongsTo plan.now input.now }
     requires scale { IsScale plan.now scale.now }
     requires starts { IsStartIn plan.now input.now start.now }
-    ensures stops { OnOk result (CanStop input.now.sources (offsets_of start.now) stop) }
+    ensures stops { OnOk result (CanGo input.now.sources (offsets_of start.now) (until_of stop)) }
     ensures ends { IfOk result (λ finish. IsEndOf plan.now input.now start.now [] (until_of stop) finish) }
     ensures whole { IfOk result (λ finish. IsFromNothing input.now start.now → stop ≡ Never → IsWholeRun plan.now input.now finish) }
     ensures refused { IfErr result (λ fault. IsThreadRefusal input.now.sources (offsets_of start.now) (until_of stop) fault) }
 {
-    start.check_stop(input, &stop)?;
+    let (until, asked) = stop.into_parts();
+    start.check_until(input, &until)?;
     let layout = compile(alloc, plan, scale)?;
     let given = Given {
         plan,
@@ -111,10 +126,10 @@ pub fn run_leg<R: Threads + Wait + Clock + Sync, G: Gate>(
     let leg = Leg {
         number: start.number(),
         saves: given.saves,
-        until: Until::from(stop),
+        until,
     };
     let jobs = prepared(alloc, keys, given, &leg)?;
     let failed = AtomicBool::new(false);
-    let dones = run_all(rt, alloc, input, jobs, gate, &failed)?;
+    let dones = run_all(rt, alloc, input, jobs, gate, word_in(&asked), &failed)?;
     Ok(conclude(alloc, given, &leg.until, dones)?)
 }

@@ -53,6 +53,7 @@ fn run_job<R: Wait + Clock, G: Gate>(
     job: Job,
     gate: &G,
     started: &AtomicBool,
+    asked: &AtomicBool,
     failed: &AtomicBool,
 ) -> Done
     requires { FindsInput input.now job }
@@ -64,7 +65,7 @@ fn run_job<R: Wait + Clock, G: Gate>(
         inputs,
         outputs,
     } = job;
-    worker(rt, input, task, inputs, outputs, gate, failed)
+    worker(rt, input, task, inputs, outputs, gate, Some(asked), failed)
 }
 
 /// Runs each job in a thread of its own, as [`run_all`] does. The word `started` is set, and the workers begin, once there is no job
@@ -76,6 +77,7 @@ fn run_jobs<R: Threads + Wait + Clock + Sync, G: Gate>(
     jobs: Vec<Job>,
     gate: &G,
     started: &AtomicBool,
+    asked: &AtomicBool,
     failed: &AtomicBool,
 ) -> Result<Vec<Done>, LegFault>
     requires { All (FindsInput input.now) jobs.items }
@@ -105,13 +107,13 @@ fn run_jobs<R: Threads + Wait + Clock + Sync, G: Gate>(
                 move || -> Done
                     requires { FindsInput input.now job }
                     ensures { IsWorkOf input.entry.now job result }
-                { run_job(rt, input, job, gate, started, failed) },
+                { run_job(rt, input, job, gate, started, asked, failed) },
             );
             let Ok(child) = child else {
                 failed.store(true, Ordering::SeqCst);
                 return Err(LegFault::Threads);
             };
-            let rest = run_jobs(rt, alloc, input, jobs, gate, started, failed);
+            let rest = run_jobs(rt, alloc, input, jobs, gate, started, asked, failed);
             let last = child.join(rt);
             let mut dones = rest?;
             match dones.push(last) {
@@ -127,7 +129,7 @@ fn run_jobs<R: Threads + Wait + Clock + Sync, G: Gate>(
 
 /// Runs each job in a thread of its own, and gives what each worker hands back, in the order of the jobs.
 ///
-/// Each task finds in the input what it is to read.
+/// Each task finds in the input what it is to read. Sources that may be asked to stop do so once the word `asked` is set.
 ///
 /// # Errors
 ///
@@ -139,6 +141,7 @@ pub fn run_all<R: Threads + Wait + Clock + Sync, G: Gate>(
     input: &Input,
     jobs: Vec<Job>,
     gate: &G,
+    asked: Option<&AtomicBool>,
     failed: &AtomicBool,
 ) -> Result<Vec<Done>, LegFault>
     requires { All (FindsInput input.now) jobs.items }
@@ -146,5 +149,7 @@ pub fn run_all<R: Threads + Wait + Clock + Sync, G: Gate>(
     ensures refused { IfErr result IsWant }
 {
     let started = AtomicBool::new(false);
-    run_jobs(rt, alloc, input, jobs, gate, &started, failed)
+    let never = AtomicBool::new(false);
+    let asked = asked.unwrap_or(&never);
+    run_jobs(rt, alloc, input, jobs, gate, &started, asked, failed)
 }

@@ -85,12 +85,27 @@ fn take_any(task: &mut Task, inputs: &mut [Receiver], first: &mut u32) -> Result
     Ok(false)
 }
 
-/// Makes a step of a source that is open and has nothing pending, if there is one.
-fn run_source(input: &Input, task: &mut Task) -> Result<bool, StepFault>
+/// Stops a source that could stop.
+fn stop_source(task: &mut Task) -> Result<bool, StepFault>
+    ensures ok { OnOk result ((i : InputData) (ins : List Receiver) (outs : List Sender) → Works i task.old ins outs task.new ins outs) }
+    ensures err { OnErr result ((i : InputData) (ins : List Receiver) (outs : List Sender) → WorksUpTo i task.old ins outs task.new ins outs) }
+{
+    match task.stop() {
+        Ok(()) => Ok(true),
+        Err(fault) => Err(fault),
+    }
+}
+
+/// Makes a step of a source that has nothing pending, if there is one. One that is asked to stop, and may be, does so rather than
+/// read or close.
+fn run_source(input: &Input, task: &mut Task, asked: bool) -> Result<bool, StepFault>
     requires { Finds input.now task.old }
     ensures ok { OnOk result ((ins : List Receiver) (outs : List Sender) → Works input.now task.old ins outs task.new ins outs) }
     ensures err { OnErr result ((ins : List Receiver) (outs : List Sender) → WorksUpTo input.now task.old ins outs task.new ins outs) }
 {
+    if asked && task.can_stop() {
+        return stop_source(task);
+    }
     if let Some(partition) = task.next_partition() {
         return match task.read(input, partition) {
             Ok(()) => Ok(true),
@@ -109,17 +124,14 @@ fn run_source(input: &Input, task: &mut Task) -> Result<bool, StepFault>
             Err(fault) => Err(fault),
         };
     }
-    if task.can_stop() {
-        return match task.stop() {
-            Ok(()) => Ok(true),
-            Err(fault) => Err(fault),
-        };
-    }
     if task.can_close() {
         return match task.close() {
             Ok(()) => Ok(true),
             Err(fault) => Err(fault),
         };
+    }
+    if task.can_stop() {
+        return stop_source(task);
     }
     Ok(false)
 }
@@ -131,6 +143,7 @@ fn attempt(
     inputs: &mut [Receiver],
     outputs: &mut [Sender],
     first: &mut u32,
+    asked: &AtomicBool,
 ) -> Result<bool, StepFault>
     requires { Finds input.now task.old }
     ensures ok { OnOk result (Works input.now task.old inputs.old outputs.old task.new inputs.new outputs.new) }
@@ -140,7 +153,7 @@ fn attempt(
         return Ok(put_first(task, outputs, output));
     }
     if inputs.is_empty() {
-        run_source(input, task)
+        run_source(input, task, asked.load(Ordering::SeqCst))
     } else {
         take_any(task, inputs, first)
     }
@@ -154,6 +167,7 @@ fn work<R: Wait + Clock, G: Gate>(
     inputs: &mut [Receiver],
     outputs: &mut [Sender],
     gate: &G,
+    asked: &AtomicBool,
     failed: &AtomicBool,
 ) -> Option<LegFault>
     requires { Finds input.now task.old }
@@ -172,7 +186,7 @@ fn work<R: Wait + Clock, G: Gate>(
             return Some(LegFault::Memory);
         }
         gate.pass(number, step);
-        match attempt(input, task, inputs, outputs, &mut first) {
+        match attempt(input, task, inputs, outputs, &mut first, asked) {
             Ok(true) => {
                 step = step.saturating_add(1);
                 patience.renew();
@@ -190,8 +204,9 @@ fn work<R: Wait + Clock, G: Gate>(
 /// Runs one task to its end: it makes the task's local steps as they become possible, and passes the gate before each.
 ///
 /// The task finds in the input what it is to read, and there is one ring end for each of its inputs and outputs, in their
-/// order. A worker that finds no memory sets the failure word `failed`, and one that sees it set ends early; either has the
-/// fault `Memory`.
+/// order. A source that may be asked to stop does so once the word `asked` is set, as soon as it is open and has nothing pending,
+/// in place of its next read. A worker that finds no memory sets the failure word `failed`, and one that sees it set ends early;
+/// either has the fault `Memory`.
 pub fn worker<R: Wait + Clock, G: Gate>(
     rt: &R,
     input: &Input,
@@ -199,11 +214,13 @@ pub fn worker<R: Wait + Clock, G: Gate>(
     inputs: Vec<Receiver>,
     outputs: Vec<Sender>,
     gate: &G,
+    asked: Option<&AtomicBool>,
     failed: &AtomicBool,
 ) -> Done
     requires { Finds input.now task }
     ensures { HasWorked input.now task inputs.items outputs.items result }
 {
+    let never = AtomicBool::new(false);
     let mut task = task;
     let mut inputs = inputs;
     let mut outputs = outputs;
@@ -214,6 +231,7 @@ pub fn worker<R: Wait + Clock, G: Gate>(
         inputs.as_mut_slice(),
         outputs.as_mut_slice(),
         gate,
+        asked.unwrap_or(&never),
         failed,
     );
     Done {

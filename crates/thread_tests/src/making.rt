@@ -21,7 +21,8 @@ use restore::check;
 use savepoint_codec::{decode, encode};
 use std::alloc::{AllocError, Global};
 use std::random::RandomSource;
-use std::sync::Wait;
+use std::sync::atomic::AtomicBool;
+use std::sync::{Arc, Wait};
 use std::test::Fail;
 use std::thread::Threads;
 use std::time::Clock;
@@ -137,7 +138,26 @@ fn stop_at(alloc: Global, counts: Option<&[u64]>) -> Result<Stop, AllocError> {
     Ok(Stop::At(Cut { counts }))
 }
 
-/// Runs a leg on threads through a gate, or, where there is none, in this one.
+/// How a leg is run with a thread for each task: through a gate, and with a word that asks it to stop, which then tells where
+/// it stops, if there is one.
+#[derive(Drop)]
+struct OnThreads<'a, G> {
+    gate: &'a G,
+    word: Option<&'a Arc<AtomicBool>>,
+}
+
+/// Where a leg on threads stops that has such a word, or none.
+fn stop_on_threads(
+    stop: Stop,
+    word: Option<&Arc<AtomicBool>>,
+) -> Result<thread_runner::Stop, AllocError> {
+    match word {
+        Some(word) => Ok(thread_runner::Stop::Asked(Arc::try_clone(word)?)),
+        None => Ok(thread_runner::Stop::from(stop)),
+    }
+}
+
+/// Runs a leg on threads, or, where it is not said how, in this one.
 fn run_scaled<R: AllocGlobal + RandomSource + Threads + Wait + Clock + Sync, G: Gate>(
     rt: &R,
     plan: &Plan,
@@ -145,7 +165,7 @@ fn run_scaled<R: AllocGlobal + RandomSource + Threads + Wait + Clock + Sync, G: 
     start: &Start,
     scale: &Scale,
     stop: Stop,
-    gate: Option<&G>,
+    threads: Option<OnThreads<'_, G>>,
 ) -> Result<Result<Finish, LegFault>, Fail>
     requires belongs { BelongsTo plan.now input.now }
     requires scale { IsScale plan.now scale.now }
@@ -153,8 +173,11 @@ fn run_scaled<R: AllocGlobal + RandomSource + Threads + Wait + Clock + Sync, G: 
 {
     let keys = HashKeys::random(rt)?;
     let alloc = rt.alloc();
-    Ok(match gate {
-        Some(gate) => run_leg(rt, alloc, keys, plan, input, start, scale, stop, gate),
+    Ok(match threads {
+        Some(OnThreads { gate, word }) => {
+            let stop = stop_on_threads(stop, word)?;
+            run_leg(rt, alloc, keys, plan, input, start, scale, stop, gate)
+        }
         None => run_leg_by(alloc, keys, plan, input, start, scale, stop, &[]),
     })
 }
@@ -165,14 +188,14 @@ fn run_started<R: AllocGlobal + RandomSource + Threads + Wait + Clock + Sync, G:
     input: &Input,
     start: &Start,
     case: &Case<'_>,
-    gate: Option<&G>,
+    threads: Option<OnThreads<'_, G>>,
 ) -> Result<Result<Finish, LegFault>, Fail>
     requires belongs { BelongsTo plan.now input.now }
     requires starts { IsStartIn plan.now input.now start.now }
 {
     let scale = Scale::read(rt.alloc(), plan, case.scale.as_bytes())?;
     let stop = stop_at(rt.alloc(), case.stop)?;
-    run_scaled(rt, plan, input, start, &scale, stop, gate)
+    run_scaled(rt, plan, input, start, &scale, stop, threads)
 }
 
 /// The start that a leg goes on from, or that of the whole input.
@@ -192,31 +215,31 @@ fn run_input<R: AllocGlobal + RandomSource + Threads + Wait + Clock + Sync, G: G
     plan: &Plan,
     input: &Input,
     case: &Case<'_>,
-    gate: Option<&G>,
+    threads: Option<OnThreads<'_, G>>,
 ) -> Result<Result<Finish, LegFault>, Fail>
     requires { BelongsTo plan.now input.now }
 {
     let start = start_of(rt.alloc(), plan, input, case.from)?;
-    run_started(rt, plan, input, &start, case, gate)
+    run_started(rt, plan, input, &start, case, threads)
 }
 
 fn run_plan<R: AllocGlobal + RandomSource + Threads + Wait + Clock + Sync, G: Gate>(
     rt: &R,
     plan: &Plan,
     case: &Case<'_>,
-    gate: Option<&G>,
+    threads: Option<OnThreads<'_, G>>,
 ) -> Result<Result<Finish, LegFault>, Fail> {
     let input = Input::read(rt.alloc(), plan, case.input.as_bytes())?;
-    run_input(rt, plan, &input, case, gate)
+    run_input(rt, plan, &input, case, threads)
 }
 
 fn run<R: AllocGlobal + RandomSource + Threads + Wait + Clock + Sync, G: Gate>(
     rt: &R,
     case: Case<'_>,
-    gate: Option<&G>,
+    threads: Option<OnThreads<'_, G>>,
 ) -> Result<Result<Finish, LegFault>, Fail> {
     let plan = Plan::read(rt.alloc(), case.plan.as_bytes())?;
-    run_plan(rt, &plan, &case, gate)
+    run_plan(rt, &plan, &case, threads)
 }
 
 /// Runs a leg with a thread for each task, through a gate.
@@ -225,7 +248,7 @@ pub fn run_on_threads<R: AllocGlobal + RandomSource + Threads + Wait + Clock + S
     case: Case<'_>,
     gate: &G,
 ) -> Result<Result<Finish, LegFault>, Fail> {
-    run(rt, case, Some(gate))
+    run(rt, case, Some(OnThreads { gate, word: None }))
 }
 
 /// Runs a leg in one thread.
@@ -233,8 +256,8 @@ pub fn run_in_one<R: AllocGlobal + RandomSource + Threads + Wait + Clock + Sync>
     rt: &R,
     case: Case<'_>,
 ) -> Result<Result<Finish, LegFault>, Fail> {
-    let gate: Option<&OpenGate> = None;
-    run(rt, case, gate)
+    let threads: Option<OnThreads<'_, OpenGate>> = None;
+    run(rt, case, threads)
 }
 
 /// What a leg on threads comes to, with its rows sorted.
@@ -244,4 +267,18 @@ pub fn outcome_on_threads<R: AllocGlobal + RandomSource + Threads + Wait + Clock
     gate: &G,
 ) -> Result<Outcome, Fail> {
     Ok(outcome_of(rt.alloc(), run_on_threads(rt, case, gate)??, true)?)
+}
+
+/// What a leg on threads comes to that may be asked to stop, with its rows sorted.
+pub fn outcome_asked<R: AllocGlobal + RandomSource + Threads + Wait + Clock + Sync, G: Gate>(
+    rt: &R,
+    case: Case<'_>,
+    gate: &G,
+    word: &Arc<AtomicBool>,
+) -> Result<Outcome, Fail> {
+    let threads = OnThreads {
+        gate,
+        word: Some(word),
+    };
+    Ok(outcome_of(rt.alloc(), run(rt, case, Some(threads))??, true)?)
 }

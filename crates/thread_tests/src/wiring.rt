@@ -124,7 +124,7 @@ fn run_wired<R: AllocGlobal + Threads + Wait + Clock + Sync>(
 {
     let jobs = wired(rt.alloc(), keys, given, leg)?;
     let failed = AtomicBool::new(false);
-    let dones = run_all(rt, rt.alloc(), given.input, jobs, &OpenGate, &failed)?;
+    let dones = run_all(rt, rt.alloc(), given.input, jobs, &OpenGate, None, &failed)?;
     if has_fault(dones.as_slice()) {
         return Ok(None);
     }
@@ -184,7 +184,7 @@ fn check_failed<R: AllocGlobal + Abort + Threads + Wait + Clock + Sync>(
 {
     let jobs = wired(rt.alloc(), keys, given, leg)?;
     let failed = AtomicBool::new(true);
-    let dones = run_all(rt, rt.alloc(), given.input, jobs, &OpenGate, &failed)?;
+    let dones = run_all(rt, rt.alloc(), given.input, jobs, &OpenGate, None, &failed)?;
     check_early(rt, dones.as_slice(), tasks);
     assert!(rt; failed.load(Ordering::SeqCst));
     Ok(())
@@ -197,7 +197,7 @@ fn check_none<R: AllocGlobal + Abort + Threads + Wait + Clock + Sync>(
 ) -> Result<(), LegFault> {
     let failed = AtomicBool::new(false);
     let jobs = Vec::new(rt.alloc());
-    let dones = run_all(rt, rt.alloc(), input, jobs, &OpenGate, &failed)?;
+    let dones = run_all(rt, rt.alloc(), input, jobs, &OpenGate, None, &failed)?;
     assert!(rt; dones.is_empty());
     assert!(rt; !has_fault(dones.as_slice()));
     assert!(rt; !failed.load(Ordering::SeqCst));

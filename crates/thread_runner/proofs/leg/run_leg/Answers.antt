@@ -7,6 +7,6 @@ use Rattle.thread_runner.proofs.leg.run_leg.Goals as goal
 
 pub run_all-requires-after_bounds : goal.run_all-requires-after_bounds
 run_all-requires-after_bounds g c =
-    let given : GivenData = record { plan = c.args.plan.now; input = c.args.input.now; start = c.args.start.now; layout = c.in_ok-layout.layout; saves = []; until = until_in c.from.result } in
+    let given : GivenData = record { plan = c.args.plan.now; input = c.args.input.now; start = c.args.start.now; layout = c.in_ok-layout.layout; saves = []; until = until_in c.into_parts-until.result.0 } in
     let found : All (FindsInput c.args.input.now) c.in_ok-jobs.jobs.items = finds_all given c.in_ok-jobs.jobs.items c.in_ok-jobs.ensures.wired in
     λ _ _. found
