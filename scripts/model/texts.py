@@ -80,8 +80,13 @@ def times(chance):
 
 def partition(chance, plan, base):
     """Entries whose times go up from a base, and are above the watermarks before them."""
-    entries, now, least = [], base, LEAST_TIME - 1
-    for _ in range(chance.choice([0, 1, 2, 4, 4, 6])):
+    return entries_behind(chance, plan, base, LEAST_TIME - 1, chance.choice([0, 1, 2, 4, 4, 6]))
+
+
+def entries_behind(chance, plan, base, least, count):
+    """So many entries whose times go up from a base, and are above a watermark and those before them."""
+    entries, now = [], base
+    for _ in range(count):
         now = min(now + chance.randint(0, 15), GREATEST_TIME)
         if chance.random() < 0.45:
             watermark = min(max(now + chance.randint(-9, 3), LEAST_TIME), GREATEST_TIME - 1)
@@ -133,6 +138,46 @@ def next_cut(chance, sources, least):
     """A cut from the least on: the least itself, that of all lengths, or another."""
     same, ends = [list(counts) for counts in least], [[len(entries) for entries in partitions] for partitions in sources]
     return chance.choice([same, ends, *(cut_of(chance, sources, least) for _ in range(3))])
+
+
+def unread(chance, sources, least, cut):
+    """The cut, mostly with an entry less where it is at the end of a partition that has one behind the least."""
+    if chance.random() < 0.2:
+        return cut
+    return [[max(low, min(n, len(entries) - 1)) for entries, low, n in zip(*part)] for part in zip(sources, least, cut)]
+
+
+def put_right(chance, plan, entry):
+    """The entry with another number in one of its records, which is not its time."""
+    entry, others = copy.deepcopy(entry), [column for column in range(plan["columns"]) if column != plan["time"]]
+    if "rows" in entry and others:
+        chance.choice(entry["rows"])[chance.choice(others)] = small(chance)
+    return entry
+
+
+def gone_on(chance, plan, entries):
+    """The entries of a partition and some more, at least one."""
+    least = max([entry["watermark"] for entry in entries if "watermark" in entry], default=LEAST_TIME - 1)
+    times = [record[plan["time"]] for entry in entries for record in entry.get("rows", [])]
+    return entries + entries_behind(chance, plan, max(times, default=max(least, 0)), least, chance.choice([1, 2, 4]))
+
+
+def changed_behind(chance, plan, input_, cut, how):
+    """The input with other entries behind a cut wherever a partition does not end there: those that were there put right or left out, and more.
+
+    So that this is not allowed, `how` is `ended`: partitions that end there go on too; or `before`: entries before the cut are put right.
+    """
+    def changed(entries, count):
+        kept, rest = entries[:count], entries[count:]
+        if how == "before":
+            kept = [put_right(chance, plan, entry) for entry in kept]
+        if not rest and how != "ended":
+            return kept
+        if chance.random() < 0.5:
+            kept += [put_right(chance, plan, entry) for entry in rest]
+        return gone_on(chance, plan, kept)
+
+    return {uid: [changed(*pair) for pair in zip(partitions, counts)] for (uid, partitions), counts in zip(input_.items(), cut)}
 
 
 def choices_of(chance, legs, most):
