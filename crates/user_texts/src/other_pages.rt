@@ -383,8 +383,8 @@ The savepoint has read more entries of a partition than the input has.
 {"calls": [[]]}
 ```
 
-Go on with the same input, or with one that has the same entries and more after them. The entries that were read have to
-be there, too: an input of what is new alone is refused, and so is one that was imported with more `--rows` in an entry.
+Go on with the same input, or with one that has changed behind the cut alone: the entries that were read have to be
+there as they were. An input of what is new alone is refused, and so is one that was imported with more `--rows`.
 "#,
     ),
     (
@@ -398,10 +398,10 @@ one, or entries were added to a partition that had been read to its end.
 {"calls": [[{"watermark": 0}, {"rows": [[2, 7]]}]]}
 ```
 
-Go on with the input that the job began with, imported with the same `--rows` and `--bound`: others say other entries
-and watermarks. `streamjob show savepoint` prints each offset and watermark; that of a partition which was read to its
-end is 2^63 - 1. A job that is to go on with more entries later stops before its input's end: an entry before the end of
-each partition that is to get more.
+Go on with the input that was read, or one that has changed behind the cut alone, imported with the same `--rows` and
+`--bound`: others say other entries and watermarks. `streamjob show savepoint` prints each offset and watermark; that of
+a partition which was read to its end is 2^63 - 1. A job that is to go on with more entries later stops before its
+input's end: an entry before the end of each partition that is to get more.
 "#,
     ),
     (

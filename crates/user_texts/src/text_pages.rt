@@ -27,7 +27,8 @@ Give a column for each number of a record, in the order of the plan's, as [Impor
         "D2",
         r#"D2 Sources (status 2)
 
-The words SOURCE=FILE of `import` are not one for each source of the plan, with a file for each of its partitions.
+The words SOURCE=FILE of `import` are not one for each source of the plan, with a file for each of its partitions, or
+several with pluses between them.
 
 ```console
 $ streamjob import plan.json new.json at,key clicks=calls.csv
@@ -35,13 +36,14 @@ D2 Sources "clicks": the plan has no such source
 $ streamjob import plan.json new.json at,key calls=a.csv,b.csv
 D2 Sources "calls": files are named for 2 partitions, and the plan has 1
 $ streamjob import plan.json new.json at,key calls.csv
-D2 Sources "calls.csv": a source and its files are SOURCE=FILE[,FILE..]
+D2 Sources "calls.csv": a source and its files are SOURCE=FILE[+FILE..][,FILE[+FILE..]..]
 $ streamjob import plan.json new.json at,key 'calls=call?.csv,b.csv'
 D2 Sources "calls": files are named for 2 partitions, and the plan has 1; no pattern is expanded: name each file, with commas between
 ```
 
 Name each source once, and its files with commas between; or change `partitions` in the plan. A file's name can have no
-comma. A pattern as `calls=call*.csv` is expanded by no shell, since it does not begin a word, and by `import` neither.
+comma, and a plus in it is written twice. A pattern as `calls=call*.csv` is expanded by no shell, since it does not
+begin a word, and by `import` neither.
 "#,
     ),
     (
@@ -419,7 +421,8 @@ Split the input by keys, as under `memory`.
         "D3",
         r#"D3 Header (status 3)
 
-The header, the first line of a CSV file, lacks the field of a column, or has it twice.
+The header, the first line of a CSV file, lacks the field of a column, or has it twice; or it is not that of the first
+CSV file of its partition, where several stand [behind one another](FORMATS.md#files-behind-one-another).
 
 ```csv calls.csv
 at,user
@@ -431,8 +434,24 @@ $ streamjob import plan.json new.json at,key calls=calls.csv
 D3 Header calls.csv:1: the header has no field "key": it has "at", "user"
 ```
 
+```csv first.csv
+at,key
+5,1
+```
+
+```csv next.csv
+at,user,key
+6,7,1
+```
+
+```console
+$ streamjob import plan.json new.json at,key calls=first.csv+next.csv
+D3 Header next.csv:1: the header is not that of first.csv: field 2 is "user" in place of "key"
+```
+
 Spell the column as the header does, in the same case and with the same spaces. Fields are divided by commas; a file
-with semicolons or tabs has one field, and the refusal says so. Of many fields it names the first 10.
+with semicolons or tabs has one field, and the refusal says so. Of many fields it names the first 10. Give the files of
+a partition the same fields in the same order.
 "#,
     ),
     (
