@@ -1,5 +1,6 @@
 pub mod Facts
-mod LegAnswers
+pub mod LegAnswers
+mod StartAnswers
 mod LegEnds
 mod RunAnswers
 mod CutAnswers

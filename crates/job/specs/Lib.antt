@@ -5,5 +5,6 @@ pub mod Run
 pub mod Parallel
 pub mod Show
 pub mod Leg
+pub mod Start
 pub mod Asked
 pub mod Readers

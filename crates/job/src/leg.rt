@@ -33,7 +33,7 @@ use window_state::HashKeys;
 
 /// Where a leg begins: at the savepoint that bytes spell, or from nothing.
 #[tactic(auto, unfolding(crate::specs::Leg::start_said))]
-fn start_of(
+pub(crate) fn start_of(
     alloc: Global,
     plan: &Plan,
     input: &Input,

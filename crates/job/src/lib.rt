@@ -10,6 +10,7 @@ mod reading;
 mod run;
 mod show;
 mod simulate;
+mod start;
 mod whole;
 
 pub use cuts::{CutQuestion, job_cuts};
@@ -21,5 +22,6 @@ pub use readers::{MOST_BYTES, read_all};
 pub use run::job_run;
 pub use show::job_show;
 pub use simulate::job_simulate;
+pub use start::job_start;
 pub use thread_runner::{Gate, OpenGate};
 pub use window_state::HashKeys;

@@ -1,0 +1,9 @@
+-- Whether a leg of a job can begin.
+use Rattle.std.specs.Prelude.{Result}
+use Rattle.job_texts.specs.declared.fault.JobFault.{JobFault}
+use Rattle.job.specs.Ends.{Ends, InOneThread}
+use Rattle.job.specs.Leg.{LegJob, CanStopSo}
+
+-- Ok where texts say a leg that can stop as it is to; else the refusal is the first that the texts give, or that the leg cannot stop so
+abbrev pub BeginsLeg : Result LegJob JobFault → Result (Unit {0}) JobFault → Type 0
+BeginsLeg said result = Ends InOneThread CanStopSo (λ job begun. Unit {0}) said result

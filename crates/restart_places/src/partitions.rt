@@ -1,0 +1,226 @@
+//! How far a savepoint has read partitions, beside the entries that an input has of them.
+
+ghost use Rattle.std.specs.Prelude.{◌≡◌, ◌+◌, ◌-◌, ◌^◌, min, take, length};
+ghost use Rattle.stream_model.specs.InputData.{records_of_entry, records_in};
+ghost use Rattle.stream_model.specs.Watermarks.{partition_watermark};
+
+use crate::saved::saved_under;
+use plan_model::Plan;
+use savepoint_codec::{Contents, SavedPartition};
+use std::alloc::{AllocError, Global};
+use std::fmt;
+use stream_model::{Entry, Input, Partition, greatest_watermark};
+use text_places::Findings;
+
+/// What is asked of a partition.
+#[derive(Clone, Copy)]
+pub(crate) enum Test {
+    /// That it has as many entries as were read.
+    Offset,
+    /// That it has the same watermark after them.
+    Watermark,
+}
+
+/// A partition, by its source and its place there.
+#[derive(Clone, Copy)]
+struct Named<'u> {
+    uid: &'u str,
+    place: usize,
+}
+
+impl fmt::Display for Named<'_> {
+    fn fmt<W: fmt::Write>(&self, f: &mut fmt::Formatter<W>) -> fmt::Result {
+        let (uid, place) = (self.uid, self.place);
+        write!(f, "partition {place} of {uid:?}")
+    }
+}
+
+/// A watermark, as a sentence says it.
+#[derive(Clone, Copy)]
+struct Mark(i64);
+
+impl fmt::Display for Mark {
+    fn fmt<W: fmt::Write>(&self, f: &mut fmt::Formatter<W>) -> fmt::Result {
+        match self.0 {
+            i64::MIN => f.write_str("no watermark"),
+            time => write!(f, "the watermark {time}"),
+        }
+    }
+}
+
+/// The first entries of a partition.
+fn first(entries: &[Entry], count: u64) -> &[Entry]
+    ensures { result.now ≡ take count entries.now }
+{
+    &entries[..count.min(entries.len() as u64) as usize]
+}
+
+/// The watermark of a partition after its first entries.
+fn watermark_at(entries: &[Entry], count: u64) -> i64
+    ensures { result ≡ partition_watermark entries.now count }
+{
+    if count == entries.len() as u64 {
+        i64::MAX
+    } else {
+        greatest_watermark(first(entries, count))
+    }
+}
+
+/// Tells of a partition of which more entries were read than it has.
+fn check_offset(
+    alloc: Global,
+    found: &mut Findings,
+    named: Named<'_>,
+    saved: SavedPartition,
+    entries: &[Entry],
+) -> Result<(), AllocError> {
+    let (offset, count) = (saved.offset, entries.len());
+    if offset <= count as u64 {
+        return Ok(());
+    }
+    let sentence = format!(in alloc;
+        "{offset} entries of {named} were read, and the input has {count}: it lacks what was read before, or was imported with more --rows"
+    )?;
+    found.tell(0, sentence)
+}
+
+/// Why a partition has another watermark than a savepoint says, where it goes on behind the entries that were read, or ends there.
+fn watermark_sentence(
+    alloc: Global,
+    named: Named<'_>,
+    saved: SavedPartition,
+    entries: &[Entry],
+    mark: i64,
+) -> Result<String, AllocError> {
+    let offset = saved.offset;
+    let before = Mark(saved.watermark);
+    if saved.watermark == i64::MAX {
+        return format!(in alloc;
+            "{named} was read to its end after {offset} entries, so that its windows fired, and the input has more of it: a job that is to go on stops an entry before the end"
+        );
+    }
+    if offset == entries.len() as u64 {
+        return format!(in alloc;
+            "{named} had {before} after {offset} entries, and more behind them, and in this input it ends there: the input was cut short"
+        );
+    }
+    let after = Mark(mark);
+    format!(in alloc;
+        "{named} had {before} after {offset} entries, and in this input it has {after}: other data, or imported with another --rows or --bound"
+    )
+}
+
+/// Tells of a partition that has another watermark after the entries that were read.
+fn check_watermark(
+    alloc: Global,
+    found: &mut Findings,
+    named: Named<'_>,
+    saved: SavedPartition,
+    entries: &[Entry],
+) -> Result<(), AllocError> {
+    let mark = watermark_at(entries, saved.offset);
+    if mark == saved.watermark {
+        return Ok(());
+    }
+    let sentence = watermark_sentence(alloc, named, saved, entries, mark)?;
+    found.tell(0, sentence)
+}
+
+fn check_partition(
+    alloc: Global,
+    found: &mut Findings,
+    named: Named<'_>,
+    saved: SavedPartition,
+    entries: &[Entry],
+    test: Test,
+) -> Result<(), AllocError> {
+    match test {
+        Test::Offset => check_offset(alloc, found, named, saved, entries),
+        Test::Watermark => check_watermark(alloc, found, named, saved, entries),
+    }
+}
+
+fn check_source(
+    alloc: Global,
+    found: &mut Findings,
+    uid: &str,
+    saved: &[SavedPartition],
+    partitions: &[Partition],
+    test: Test,
+) -> Result<(), AllocError> {
+    for (place, (saved, entries)) in saved.iter().zip(partitions).enumerate() {
+        let named = Named { uid, place };
+        check_partition(alloc, found, named, *saved, entries.as_slice(), test)?;
+    }
+    Ok(())
+}
+
+/// Tells of the partitions that do not pass a test.
+pub(crate) fn check_partitions(
+    alloc: Global,
+    found: &mut Findings,
+    plan: &Plan,
+    input: &Input,
+    contents: &Contents,
+    test: Test,
+) -> Result<(), AllocError> {
+    for (spec, partitions) in plan.sources().iter().zip(input.sources()) {
+        let uid = spec.uid.as_str();
+        let saved = saved_under(contents.sources.as_slice(), uid);
+        check_source(alloc, found, uid, saved, partitions.as_slice(), test)?;
+    }
+    Ok(())
+}
+
+fn records_of(entry: &Entry) -> u64
+    ensures { result ≡ length (records_of_entry entry.now) }
+{
+    match entry {
+        Entry::Rows(batch) => batch.len() as u64,
+        Entry::Watermark(_) => 0,
+    }
+}
+
+/// So many records and those of entries, as far as they can be counted.
+fn with_entries(count: u64, entries: &[Entry]) -> u64
+    ensures { result ≡ min (count + length (records_in entries.now)) (2 ^ 64 - 1) }
+{
+    let mut total = count;
+    for entry in entries {
+        total = total.saturating_add(records_of(entry));
+    }
+    total
+}
+
+/// How far partitions were read: their least watermark, and how many records they have before it.
+#[derive(Clone, Copy)]
+pub(crate) struct Reached {
+    pub(crate) watermark: i64,
+    pub(crate) records: u64,
+}
+
+fn with_source(reached: Reached, saved: &[SavedPartition], partitions: &[Partition]) -> Reached {
+    let mut reached = reached;
+    for (saved, entries) in saved.iter().zip(partitions) {
+        let entries = entries.as_slice();
+        let watermark = watermark_at(entries, saved.offset);
+        reached = Reached {
+            watermark: reached.watermark.min(watermark),
+            records: with_entries(reached.records, first(entries, saved.offset)),
+        };
+    }
+    reached
+}
+
+/// How far all partitions were read.
+pub(crate) fn all_partitions(plan: &Plan, input: &Input, contents: &Contents) -> Reached {
+    let mut reached = Reached {
+        watermark: i64::MAX,
+        records: 0,
+    };
+    for (spec, partitions) in plan.sources().iter().zip(input.sources()) {
+        let saved = saved_under(contents.sources.as_slice(), spec.uid.as_str());
+        reached = with_source(reached, saved, partitions.as_slice());
+    }
+    reached
+}
