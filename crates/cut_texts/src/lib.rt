@@ -8,5 +8,5 @@ mod spelling;
 mod times;
 
 pub use extents::text_of_extents;
-pub use spelling::text_of_cut;
+pub use spelling::{push_separator, text_of_cut};
 pub use times::read_time;

@@ -8,8 +8,12 @@ use legs::Cut;
 use plain_data::Items;
 use std::alloc::{AllocError, Global};
 
-/// What stands before the part at a place: nothing before the first one, and else the separator.
-fn push_separator(text: &mut String, place: usize, separator: &str) -> Result<(), AllocError>
+/// Puts behind a text what stands before the part at a place: nothing before the first one, and else the separator.
+///
+/// # Errors
+///
+/// Only where memory runs out.
+pub fn push_separator(text: &mut String, place: usize, separator: &str) -> Result<(), AllocError>
     ensures { OnOk result (string_bytes text.new ≡ string_bytes text.old ++ before_part separator.now place) }
 {
     if place == 0 {
