@@ -1,0 +1,65 @@
+//! The texts of answers.
+
+use core_steps::Finish;
+use job_legs::LegsEnd;
+use job_texts::{sort_rows, text_of_rows, text_of_savepoint};
+use plan_model::Row;
+use std::alloc::{AllocError, Global};
+use std::fmt::Write;
+
+/// Bytes, two digits each.
+pub(crate) fn text_of_bytes(alloc: Global, bytes: &[u8]) -> Result<String, AllocError> {
+    let mut text = String::new(alloc);
+    for byte in bytes {
+        write!(text, "{byte:02x}")?;
+    }
+    Ok(text)
+}
+
+fn text_of_sorted(alloc: Global, rows: Vec<Row>) -> Result<String, AllocError> {
+    let mut rows = rows;
+    sort_rows(&mut rows)?;
+    text_of_rows(alloc, rows.as_slice())
+}
+
+/// The rows of a leg, in the order of start and key, and what the savepoint holds that it left where it stopped.
+pub(crate) fn text_of_finish(alloc: Global, finish: Finish) -> Result<String, AllocError> {
+    match finish {
+        Finish::Ended(rows) => text_of_sorted(alloc, rows.into_vec()),
+        Finish::Stopped(rows, savepoint) => {
+            let mut text = text_of_sorted(alloc, rows.into_vec())?;
+            text.push_str(text_of_savepoint(alloc, savepoint.contents())?.as_str())?;
+            Ok(text)
+        }
+    }
+}
+
+/// Rows that were written, and the bytes of a savepoint.
+pub(crate) fn text_of_saved(
+    alloc: Global,
+    rows: &str,
+    savepoint: &Option<Vec<u8>>,
+) -> Result<String, AllocError> {
+    let mut text = String::from_str(alloc, rows)?;
+    if let Some(bytes) = savepoint {
+        text.push_str(text_of_bytes(alloc, bytes)?.as_str())?;
+    }
+    Ok(text)
+}
+
+/// The rows of legs, and the bytes of the savepoint that the last of them left where it stopped.
+pub(crate) fn text_of_end(alloc: Global, end: &LegsEnd) -> Result<String, AllocError> {
+    let rows = text_of_rows(alloc, end.rows.as_slice())?;
+    text_of_saved(alloc, rows.as_str(), &end.savepoint)
+}
+
+/// Rows that have fired, and what stands in the panes then.
+pub(crate) fn text_of_fired(
+    alloc: Global,
+    rows: &[Row],
+    parts: &str,
+) -> Result<String, AllocError> {
+    let mut text = text_of_rows(alloc, rows)?;
+    text.push_str(parts)?;
+    Ok(text)
+}
