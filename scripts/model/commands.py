@@ -44,8 +44,9 @@ def run_parallel(files, plan, input_, parallelism):
 
 
 def run_leg(files, plan, input_, scale, *options):
-    """The answer of `leg`, whose options are `--from FILE`, `--stop CUT` and `--save FILE`."""
+    """The answer of `leg`, whose options are `--from FILE`, `--stop CUT`, `--save FILE`, and `--stop-file FILE`, which is there from the first or never."""
     options = dict(zip(options[::2], options[1::2]))
+    require("--stop-file" not in options or ("--stop" not in options and "--save" in options), "C1 Cut")
     plan = read_plan(files[plan])
     sources = read_input(plan, files[input_])
     read_scale(plan, files[scale])
@@ -55,8 +56,9 @@ def run_leg(files, plan, input_, scale, *options):
     if "--stop" in options:
         cut = read_cut(options["--stop"])
         require_stop(sources, start, cut)
-    rows, left = leg(plan, sources, start, cut)
-    if "--save" in options and "--stop" in options:
+    is_asked = options.get("--stop-file") in files
+    rows, left = leg(plan, sources, start, start.cut if is_asked else cut)
+    if "--save" in options and ("--stop" in options or is_asked):
         files[options["--save"]] = encode(savepoint_of(plan, sources, left))
     return text_of(plan, rows)
 

@@ -15,7 +15,7 @@ word words name = unwrap_or (first_value words name) []
 abbrev pub name_of : Command → List ℕ
 name_of (Run _ _ _ _) = codes "run"
 name_of (Simulate _ _ _ _) = codes "simulate"
-name_of (Leg _ _ _ _ _ _) = codes "leg"
+name_of (Leg _ _ _ _ _ _ _) = codes "leg"
 name_of (Cuts _ _ _ _) = codes "cuts"
 name_of (Layout _ _) = codes "layout"
 name_of (Check _ _ _) = codes "check"
@@ -58,10 +58,10 @@ HasWords words (Run plan input legs parallelism) =
     × (option_map (λ w. w.now) parallelism ≡ first_value words (codes "parallelism"))
 HasWords words (Simulate plan input legs choices) =
     (plan.now ≡ word words (codes "PLAN")) × (input.now ≡ word words (codes "INPUT")) × (legs.now ≡ word words (codes "LEGS")) × (choices.now ≡ word words (codes "CHOICES"))
-HasWords words (Leg plan input scale from stop save) =
+HasWords words (Leg plan input scale from stop stop_file save) =
     (plan.now ≡ word words (codes "PLAN")) × (input.now ≡ word words (codes "INPUT")) × (scale.now ≡ word words (codes "SCALE"))
     × (option_map (λ w. w.now) from ≡ first_value words (codes "from")) × (option_map (λ w. w.now) stop ≡ first_value words (codes "stop"))
-    × (option_map (λ w. w.now) save ≡ first_value words (codes "save"))
+    × (option_map (λ w. w.now) stop_file ≡ first_value words (codes "stop-file")) × (option_map (λ w. w.now) save ≡ first_value words (codes "save"))
 HasWords words (Cuts plan input until stays_open) =
     (plan.now ≡ word words (codes "PLAN")) × (input.now ≡ word words (codes "INPUT")) × (option_map (λ w. w.now) until ≡ first_value words (codes "until")) × IsFlag words (codes "open") stays_open
 HasWords words (Layout plan scale) = (plan.now ≡ word words (codes "PLAN")) × (scale.now ≡ word words (codes "SCALE"))

@@ -36,9 +36,9 @@ simulate_shape = command_shape (codes "simulate") (codes "PLAN" ∷ codes "INPUT
 abbrev pub leg_files_shape : Shape
 leg_files_shape = command_shape (codes "leg") (codes "PLAN" ∷ codes "INPUT" ∷ codes "SCALE" ∷ [])
 
--- a leg's files, and its three options
+-- a leg's files, and its four options
 abbrev pub leg_shape : Shape
-leg_shape = record leg_files_shape { rules = leg_files_shape.rules ++ option_rule (codes "from") ∷ option_rule (codes "stop") ∷ option_rule (codes "save") ∷ [] }
+leg_shape = record leg_files_shape { rules = leg_files_shape.rules ++ option_rule (codes "from") ∷ option_rule (codes "stop") ∷ option_rule (codes "stop-file") ∷ option_rule (codes "save") ∷ [] }
 
 -- a plan and an input, and two options
 abbrev pub cuts_shape : Shape

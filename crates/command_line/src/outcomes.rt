@@ -58,10 +58,16 @@ fn done(answer: Result<(), CommandFault>) -> Result<(), Refusal>
 }
 
 /// Does what the command asks for that the words name; clap lets no others through.
-fn chosen<R: Files + Print + RandomSource + Threads + Wait + Clock + Sync + AllocGlobal>(
-    rt: &R,
-    matches: &ArgMatches<'_>,
-) -> Result<(), Refusal>
+fn chosen<
+    R: Files<File: Send, Dir: Send>
+        + Print
+        + RandomSource
+        + Threads
+        + Wait
+        + Clock
+        + Sync
+        + AllocGlobal,
+>(rt: &R, matches: &ArgMatches<'_>) -> Result<(), Refusal>
     ensures { AnswersNamed (subcommand_name_of matches.now) result }
 {
     match found_command(matches) {
@@ -77,10 +83,16 @@ fn words_of<R: Env + AllocGlobal>(rt: &R) -> io::Result<Vec<String>> {
 }
 
 /// Does what the command asks for that words name, the program's own name first.
-fn obeyed<R: Files + Print + RandomSource + Threads + Wait + Clock + Sync + AllocGlobal>(
-    rt: &R,
-    words: &[String],
-) -> Result<(), Refusal>
+fn obeyed<
+    R: Files<File: Send, Dir: Send>
+        + Print
+        + RandomSource
+        + Threads
+        + Wait
+        + Clock
+        + Sync
+        + AllocGlobal,
+>(rt: &R, words: &[String]) -> Result<(), Refusal>
     ensures { AnswersWords (map string_bytes words.now) result }
 {
     let command = command(rt.alloc())?;
@@ -93,9 +105,17 @@ fn obeyed<R: Files + Print + RandomSource + Threads + Wait + Clock + Sync + Allo
 /// # Errors
 ///
 /// Why no command is done: the words, or the fault of the command.
-pub fn outcome<R: Files + Print + Env + RandomSource + Threads + Wait + Clock + Sync + AllocGlobal>(
-    rt: &R,
-) -> Result<(), Refusal>
+pub fn outcome<
+    R: Files<File: Send, Dir: Send>
+        + Print
+        + Env
+        + RandomSource
+        + Threads
+        + Wait
+        + Clock
+        + Sync
+        + AllocGlobal,
+>(rt: &R) -> Result<(), Refusal>
     ensures { AnswersProgram result }
 {
     match words_of(rt) {

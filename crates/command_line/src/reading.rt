@@ -75,6 +75,7 @@ fn command_in<'m>(name: &str, words: &'m ArgMatches<'_>) -> Option<Command<'m>>
             scale: named(words, "SCALE"),
             from: words.get_str("from"),
             stop: words.get_str("stop"),
+            stop_file: words.get_str("stop-file"),
             save: words.get_str("save"),
         }),
         "cuts" => Some(Command::Cuts {

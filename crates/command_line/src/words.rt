@@ -157,10 +157,11 @@ A leg is a part of a job: it begins with nothing or with a savepoint, and goes t
 end of the input. It prints the rows, as `run` does, whose windows become due on the way. A leg
 that stops leaves a savepoint, which is written before the rows are printed. CUT has how many
 entries lie before it in each partition, with commas between the partitions of a source and
-slashes between sources.
+slashes between sources. With --stop-file it stops where it has come once that file is there, which
+it looks for ten times a second; one that was at the end by then leaves no savepoint.
 
 Example: streamjob leg plan.json input.json scale.json --stop 2,2/5 --save savepoint
-Page: docs/FORMATS.md, under Scale and Cut";
+Page: docs/FORMATS.md, under Scale, Cut and Stop file";
 
 /// The files that a leg always reads.
 fn leg_files<'a>(alloc: Global) -> Result<Command<'a>, AllocError>
@@ -194,6 +195,13 @@ fn leg_words<'a>(alloc: Global) -> Result<Command<'a>, AllocError>
         "stop",
         "CUT",
         "Cut to stop at; without it the leg goes to the end of the input",
+    )?;
+    let command = option(
+        alloc,
+        command,
+        "stop-file",
+        "FILE",
+        "File that stops the leg where it is, once it is there; with --save, and not with --stop",
     )?;
     option(
         alloc,

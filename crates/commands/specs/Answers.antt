@@ -4,9 +4,10 @@ use Rattle.std.specs.Prelude.{◌≡◌, ◌⊎◌, ℕ, List, [], Bool, true, f
 use Rattle.std.specs.declared.io.ErrorKind.{ErrorKind}
 use Rattle.std.specs.declared.io.ErrorKind.TheVariants.{OutOfMemory}
 use Rattle.job_texts.specs.declared.fault.JobFault.{JobFault}
-use Rattle.job_texts.specs.declared.fault.JobFault.TheVariants.{Number, Read, Write, Memory}
+use Rattle.job_texts.specs.declared.fault.JobFault.TheVariants.{Cut, Number, Read, Write, Memory}
 use Rattle.job_texts.specs.Group.{TellsGroup, group_said}
 use Rattle.std.specs.Borrow.{Bor}
+use Rattle.job.specs.Asked.{TellsAskedLeg}
 use Rattle.job.specs.Cuts.{TellsCuts, cuts_said}
 use Rattle.job.specs.declared.cuts.CutQuestion.{CutQuestion}
 use Rattle.job.specs.declared.cuts.CutQuestion.TheVariants.{Extents, Until, Open}
@@ -61,11 +62,22 @@ LegAnswer = Result (Option (List ℕ)) JobFault × List ℕ
 abbrev pub ComesOfLeg : Result LegJob JobFault → Result (Unit {0}) JobFault → Type 0
 ComesOfLeg said result = (given : LegAnswer) × TellsLeg (λ saved. saved) said given.0 (Some []) (Some given.1) × after_leg given.0 result
 
--- what comes of what `job_leg` answers of some plan, input and scale, with a savepoint just where one is named, and of the word of a cut, or that one of them was not read
-abbrev pub AnswersLeg : Bool → Option (List ℕ) → Result (Unit {0}) JobFault → Type 0
-AnswersLeg names_savepoint stop result =
+-- what comes of what `job_leg_asked` answers of it
+abbrev pub ComesOfAskedLeg : Result LegJob JobFault → Result (Unit {0}) JobFault → Type 0
+ComesOfAskedLeg said result = (given : LegAnswer) × TellsAskedLeg (λ saved. saved) said given.0 (Some []) (Some given.1) × after_leg given.0 result
+
+-- what comes of the leg that some plan, input and scale say, with a savepoint just where one is named, and the word of a cut, or that one of them was not read
+abbrev pub ComesOfTexts : (Result LegJob JobFault → Result (Unit {0}) JobFault → Type 0) → Bool → Option (List ℕ) → Result (Unit {0}) JobFault → Type 0
+ComesOfTexts Comes names_savepoint stop result =
     CannotRead result
-    ⊎ ((plan : List ℕ) × (input : List ℕ) × (scale : List ℕ) × (from : Option (List ℕ)) × (is_some from ≡ names_savepoint) × ComesOfLeg (leg_said plan input scale from stop) result)
+    ⊎ ((plan : List ℕ) × (input : List ℕ) × (scale : List ℕ) × (from : Option (List ℕ)) × (is_some from ≡ names_savepoint) × Comes (leg_said plan input scale from stop) result)
+
+-- what comes of what `job_leg` answers, or, where a file may stop the leg, `job_leg_asked`; that there is no such cut, where a cut is named too or its savepoint would be lost
+abbrev pub AnswersLeg : Bool → Option (List ℕ) → Bool → Bool → Result (Unit {0}) JobFault → Type 0
+AnswersLeg names_savepoint stop false keeps result = ComesOfTexts ComesOfLeg names_savepoint stop result
+AnswersLeg names_savepoint None true true result = ComesOfTexts ComesOfAskedLeg names_savepoint None result
+AnswersLeg names_savepoint None true false result = result ≡ Err Cut
+AnswersLeg names_savepoint (Some word) true keeps result = result ≡ Err Cut
 
 -- what is asked of an input where a time is named, or an open cut; of both at once nothing
 abbrev pub IsQuestion : Option (List ℕ) → Bool → Option CutQuestion → Type 0

@@ -34,7 +34,7 @@ AnswersVersion result = IfErr result (λ fault. fault ≡ text.Write)
 abbrev pub Performs : Command → Result (Unit {0}) CommandFault → Type 0
 Performs (Run plan input legs parallelism) result = Comes after_command (AnswersRun (is_some legs) (option_map (λ word. word.now) parallelism)) result
 Performs (Simulate plan input legs choices) result = Comes after_command AnswersSimulate result
-Performs (Leg plan input scale from stop save) result = Comes after_command (AnswersLeg (is_some from) (option_map (λ word. word.now) stop)) result
+Performs (Leg plan input scale from stop stop_file save) result = Comes after_command (AnswersLeg (is_some from) (option_map (λ word. word.now) stop) (is_some stop_file) (is_some save)) result
 Performs (Cuts plan input until stays_open) result = Comes after_command (AnswersCuts (option_map (λ word. word.now) until) stays_open) result
 Performs (Layout plan scale) result = Comes after_command AnswersLayout result
 Performs (Check plan input scale) result = Comes after_command (AnswersCheck (is_some input) (is_some scale)) result

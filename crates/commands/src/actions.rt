@@ -1,15 +1,12 @@
 //! What each command does.
 
-ghost use Rattle.std.specs.Prelude.{◌≡◌, ◌⊎◌, false, is_some, None, option_map, Some, IfErr};
-ghost use Rattle.job.specs.Leg.{leg_said};
-ghost use Rattle.commands.specs.Answers as answers;
-ghost use Rattle.commands.specs.Answers.{AnswersRun, AnswersSimulate, AnswersLeg, ComesOfLeg, IsQuestion, AnswersCuts, AnswersLayout, AnswersShow, AnswersGroup, AnswersExplain};
+ghost use Rattle.std.specs.Prelude.{◌≡◌, false, is_some, None, option_map, Some, IfErr};
+ghost use Rattle.commands.specs.Answers.{AnswersRun, AnswersSimulate, IsQuestion, AnswersCuts, AnswersLayout, AnswersShow, AnswersGroup, AnswersExplain};
 
 use crate::files::{file, optional_file};
 use crate::installed::commit;
-use crate::saving::{check_apart, save};
 use job::{
-    CutQuestion, HashKeys, JobFault, OpenGate, job_cuts, job_group, job_layout, job_leg, job_run,
+    CutQuestion, HashKeys, JobFault, OpenGate, job_cuts, job_group, job_layout, job_run,
     job_run_parallel, job_show, job_simulate,
 };
 use std::io::{Write, writer};
@@ -123,7 +120,7 @@ pub fn simulate<R: Files + Print + RandomSource + AllocGlobal>(
 }
 
 /// Prints bytes.
-fn print<R: Print>(rt: &R, bytes: &[u8]) -> Result<(), JobFault>
+pub fn print<R: Print>(rt: &R, bytes: &[u8]) -> Result<(), JobFault>
     ensures { IfErr result (λ fault. fault ≡ JobFault.Write) }
 {
     let mut out = writer(rt);
@@ -131,105 +128,6 @@ fn print<R: Print>(rt: &R, bytes: &[u8]) -> Result<(), JobFault>
         return Err(JobFault::Write);
     }
     Ok(())
-}
-
-/// Writes the savepoint that a leg left, if it left one and a file is named for it.
-fn keep<R: Files + Print + RandomSource + AllocGlobal>(
-    rt: &R,
-    path: Option<&str>,
-    saved: Option<&[u8]>,
-) -> Result<(), JobFault>
-    ensures { IfErr result (λ fault. (fault ≡ JobFault.Write) ⊎ (fault ≡ JobFault.Memory)) }
-{
-    let Some(path) = path else {
-        return Ok(());
-    };
-    let Some(bytes) = saved else {
-        return Ok(());
-    };
-    check_apart(rt, path)?;
-    save(rt, path, bytes)
-}
-
-/// Keeps what a leg left, and then prints its rows: rows whose savepoint is lost would come again.
-fn give<R: Files + Print + RandomSource + AllocGlobal>(
-    rt: &R,
-    path: Option<&str>,
-    saved: Option<&[u8]>,
-    rows: &[u8],
-) -> Result<(), JobFault>
-    ensures { IfErr result (λ fault. (fault ≡ JobFault.Write) ⊎ (fault ≡ JobFault.Memory)) }
-{
-    keep(rt, path, saved)?;
-    print(rt, rows)
-}
-
-/// The fault of a call that writes into memory: it takes no more only where there is none left.
-fn buffered(fault: JobFault) -> JobFault
-    ensures { result ≡ answers.buffered fault }
-{
-    match fault {
-        JobFault::Write => JobFault::Memory,
-        other => other,
-    }
-}
-
-/// Runs the leg that texts tell, and gives what it gives.
-fn done_leg<R: Files + Print + RandomSource + Threads + Wait + Clock + Sync + AllocGlobal>(
-    rt: &R,
-    keys: HashKeys,
-    plan: &[u8],
-    input: Vec<u8>,
-    scale: &[u8],
-    from: Option<&[u8]>,
-    stop: Option<&str>,
-    path: Option<&str>,
-) -> Result<(), JobFault>
-    ensures { ComesOfLeg (leg_said plan.now input.items scale.now (option_map (λ bytes. bytes.now) from.entry) (option_map (λ word. word.now) stop.entry)) result }
-{
-    let mut rows = Vec::new(rt.alloc());
-    match job_leg(
-        rt,
-        rt.alloc(),
-        keys,
-        plan,
-        input,
-        scale,
-        from,
-        stop,
-        &OpenGate,
-        &mut rows,
-    ) {
-        Ok(saved) => give(rt, path, saved.as_deref(), &rows),
-        Err(fault) => Err(buffered(fault)),
-    }
-}
-
-/// Prints the rows of one leg of a job, once the savepoint that it leaves where it stops is written, if a file is named for it.
-///
-/// # Errors
-///
-/// `Read` where a file cannot be read, else the fault of `job_leg`, `Write` where the savepoint or the rows cannot be written.
-pub fn leg<R: Files + Print + RandomSource + Threads + Wait + Clock + Sync + AllocGlobal>(
-    rt: &R,
-    plan: &str,
-    input: &str,
-    scale: &str,
-    from: Option<&str>,
-    stop: Option<&str>,
-    save: Option<&str>,
-) -> Result<(), JobFault>
-    ensures { AnswersLeg (is_some from.entry) (option_map (λ word. word.now) stop.entry) result }
-{
-    let plan = file(rt, plan)?;
-    let input = file(rt, input)?;
-    let scale = file(rt, scale)?;
-    let savepoint = optional_file(rt, from)?;
-    let Ok(keys) = HashKeys::random(rt) else {
-        return Err(JobFault::Read);
-    };
-    let from = savepoint.as_deref();
-    done_leg(rt, keys, &plan, input, &scale, from, stop, save)
 }
 
 /// What is asked of an input: of its partitions, or of the first cut for a time, or of the last that leaves it open.

@@ -26,6 +26,7 @@ pub enum Command<'a> {
         scale: &'a str,
         from: Option<&'a str>,
         stop: Option<&'a str>,
+        stop_file: Option<&'a str>,
         save: Option<&'a str>,
     },
     /// Print how far the partitions of an input go, or the first cut for a time, or the last that leaves the input open.

@@ -43,7 +43,8 @@ pub fn optional_file<R: Files + AllocGlobal>(
     }
 }
 
-fn read_fault(error: &io::Error) -> JobFault
+/// Why a file could not be read.
+pub fn read_fault(error: &io::Error) -> JobFault
     ensures { result ≡ answers.read_fault (error_kind error.now) }
 {
     match error.kind() {

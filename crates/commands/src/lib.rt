@@ -8,8 +8,10 @@ mod fault;
 mod files;
 mod importing;
 mod installed;
+mod one_leg;
 mod performing;
 mod saving;
+mod stop_file;
 
 pub use command::Command;
 pub use fault::{CommandFault, told};

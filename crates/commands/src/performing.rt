@@ -2,11 +2,12 @@
 
 ghost use Rattle.commands.specs.Outcome.{Performs};
 
-use crate::actions::{cuts, explain, group, layout, leg, run, show, simulate, version};
+use crate::actions::{cuts, explain, group, layout, run, show, simulate, version};
 use crate::checking::check;
 use crate::command::Command;
 use crate::fault::{CommandFault, after_job, after_page};
 use crate::importing::import;
+use crate::one_leg::{LegFiles, leg};
 use std::random::RandomSource;
 use std::rt::Files;
 use std::sync::Wait;
@@ -18,10 +19,16 @@ use std::time::Clock;
 /// # Errors
 ///
 /// Why it is not done.
-pub fn performed<R: Files + Print + RandomSource + Threads + Wait + Clock + Sync + AllocGlobal>(
-    rt: &R,
-    command: &Command<'_>,
-) -> Result<(), CommandFault>
+pub fn performed<
+    R: Files<File: Send, Dir: Send>
+        + Print
+        + RandomSource
+        + Threads
+        + Wait
+        + Clock
+        + Sync
+        + AllocGlobal,
+>(rt: &R, command: &Command<'_>) -> Result<(), CommandFault>
     ensures { Performs command.now result }
 {
     match command {
@@ -43,8 +50,18 @@ pub fn performed<R: Files + Print + RandomSource + Threads + Wait + Clock + Sync
             scale,
             from,
             stop,
+            stop_file,
             save,
-        } => after_job(leg(rt, plan, input, scale, *from, *stop, *save)),
+        } => {
+            let files = LegFiles {
+                plan,
+                input,
+                scale,
+                from: *from,
+                save: *save,
+            };
+            after_job(leg(rt, &files, *stop, *stop_file))
+        }
         Command::Cuts {
             plan,
             input,

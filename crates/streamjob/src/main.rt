@@ -13,7 +13,16 @@ use std::time::Clock;
 
 /// Does what the program's words ask for, and answers the status to end with.
 fn exit_status<
-    R: Files + Print + Eprint + Env + RandomSource + Threads + Wait + Clock + Sync + AllocGlobal,
+    R: Files<File: Send, Dir: Send>
+        + Print
+        + Eprint
+        + Env
+        + RandomSource
+        + Threads
+        + Wait
+        + Clock
+        + Sync
+        + AllocGlobal,
 >(rt: &R) -> u8
     ensures { EndsWith result }
 {

@@ -9,14 +9,19 @@ pub const OTHER_PAGES: [FaultPage<'static>; 34] = [
         r#"C1 Cut (status 2)
 
 The word after `--stop` is no cut: counts of 1 to 20 digits, each below 2^64, with commas between the partitions of a
-source, and slashes between sources. A sign, a space, a point or an empty count is none.
+source, and slashes between sources. A sign, a space, a point or an empty count is none. `leg` also says it of
+`--stop-file` beside `--stop`, as it would have two places to stop at, and without `--save`, as what it has read would
+be lost.
 
 ```console
 $ streamjob leg plan.json input.json scale.json --stop 1,x
 C1 Cut
+$ streamjob leg plan.json input.json scale.json --stop-file stop
+C1 Cut
 ```
 
-Write it as `2,2/5`, for two partitions of the first source and one of the second. See the [cut](FORMATS.md#cut).
+Write it as `2,2/5`, for two partitions of the first source and one of the second. See the [cut](FORMATS.md#cut). With
+`--stop-file` name a file for the savepoint, and no cut. See the [stop file](FORMATS.md#stop-file).
 "#,
     ),
     (
@@ -47,7 +52,8 @@ Take a number in the range.
 
 A file is missing, is a folder, may not be read, or has more than 1073741824 bytes, as a device without an end does; `-`
 is a file of that name and not standard input. All files are read first, so this comes before any fault of a plan.
-`run`, `leg` and `simulate` also say it where the system gives no random bytes. `import` reads one file after the other,
+`run`, `leg` and `simulate` also say it where the system gives no random bytes, and `leg` where it cannot be told
+whether the file of `--stop-file` is there, as in a folder without permission. `import` reads one file after the other,
 and names the one that is missing, its records may be any number of bytes; `check` names it on standard output, as
 `no-such-file.json: the file cannot be read`.
 

@@ -20,6 +20,7 @@ complete -c streamjob -n '__fish_seen_subcommand_from simulate' -F
 complete -c streamjob -n '__fish_seen_subcommand_from leg' -F
 complete -c streamjob -n '__fish_seen_subcommand_from leg' -l from -r -d 'File of the savepoint to go on from' -F
 complete -c streamjob -n '__fish_seen_subcommand_from leg' -l stop -r -d 'Cut to stop at; without it the leg goes to the end of the input' -f
+complete -c streamjob -n '__fish_seen_subcommand_from leg' -l stop-file -r -d 'File that stops the leg where it is, once it is there; with --save, and not with --stop' -F
 complete -c streamjob -n '__fish_seen_subcommand_from leg' -l save -r -d 'File to write the savepoint to, if the leg stops' -F
 complete -c streamjob -n '__fish_seen_subcommand_from import' -F
 complete -c streamjob -n '__fish_seen_subcommand_from import' -l names -r -d 'File of the table of names, read where it is there, and written' -F
