@@ -40,8 +40,14 @@ use stream_model::Input;
 use task_setups::Leg;
 use window_state::HashKeys;
 
-/// The jobs of a leg: its tasks as they begin, with a new ring for each edge.
-fn prepared(
+/// The jobs of a leg: its tasks as they begin, with a new ring for each edge of the layout.
+///
+/// The input was read by the plan, the layout is one of the plan, the start one of the input, and the leg goes on from there.
+///
+/// # Errors
+///
+/// `StopRange` where a leg from the start cannot stop so; `Memory`.
+pub fn prepared(
     alloc: Global,
     keys: HashKeys,
     given: Given<'_>,

@@ -11,14 +11,12 @@ ghost use Rattle.task_setups.specs.Legs.{IsLayoutOf, counts_of};
 ghost use Rattle.core_steps.specs.Given.{given_data};
 ghost use Rattle.core_steps.specs.World.{IsSound};
 ghost use Rattle.thread_runner.specs.Edges.{AreJoined, AreLeft, HasEdges, SameDones, in_names, out_names, put_tables, taken_tables};
-ghost use Rattle.thread_runner.specs.Legs.{AreWired, AreWorked, NoFaults};
+ghost use Rattle.thread_runner.specs.Legs.{AreWorked, NoFaults};
 
 use crate::making::{
     FOUR_EIGHT_SHORT, ONE_ONE, ROWS, THREE_AND_THREE, TWO_THREE, USAGE, layout_at, outcome_of,
 };
-use core_steps::laws::{each_leg_is_sound, tasks_begin_new};
 use core_steps::{Finish, Given, finish_of};
-use leg_tasks::tasks;
 use legs::{LegFault, Until};
 use logical_plan::ReadPlan;
 use plan_compiler::Layout;
@@ -35,42 +33,9 @@ use std::time::Clock;
 use stream_input::ReadInput;
 use stream_model::Input;
 use task_setups::Leg;
-use thread_runner::laws::{
-    jobs_are_wired, layouts_have_edges, workers_are_at_end, workers_hand_back_rings,
-};
-use thread_runner::{Done, Job, OpenGate, has_fault, jobs_of, run_all, settle_all, tasks_of, wire};
+use thread_runner::laws::{layouts_have_edges, workers_are_at_end, workers_hand_back_rings};
+use thread_runner::{Done, OpenGate, has_fault, prepared, run_all, settle_all, tasks_of};
 use window_state::HashKeys;
-
-/// The jobs of a leg's tasks, with a ring for each edge.
-fn wired(
-    alloc: Global,
-    keys: HashKeys,
-    given: Given<'_>,
-    leg: &Leg<'_>,
-) -> Result<Vec<Job>, LegFault>
-    requires laid_out { IsLayoutOf given.plan.now given.layout.now }
-    requires belongs { BelongsTo given.plan.now given.input.now }
-    requires starts { IsStartIn given.plan.now given.input.now given.start.now }
-    requires number { leg.now.number ≡ given.start.now.number }
-    requires same { leg.now.saves.now ≡ given.saves.now }
-    requires saves { CanSaveAt given.input.now.sources (offsets_of given.start.now) (counts_of given.saves.now) (until_in leg.now.until) }
-    ensures stops { OnOk result (CanGo given.entry.input.now.sources (offsets_of given.entry.start.now) (until_in leg.now.until)) }
-    ensures sound { OnOk result (IsSound (given_data given.entry (until_in leg.now.until))) }
-    ensures wired { IfOk result (λ jobs. AreWired (given_data given.entry (until_in leg.now.until)) jobs.items) }
-{
-    let _sound = each_leg_is_sound();
-    let _new = tasks_begin_new();
-    let _edges = layouts_have_edges();
-    let _wired = jobs_are_wired();
-    let plan = given.plan;
-    let input = given.input;
-    let _columns = plan.columns();
-    let _sources = input.sources();
-    let tasks = tasks(alloc, keys, plan, input, given.start, given.layout, leg)?;
-    let mut jobs = jobs_of(alloc, tasks)?;
-    wire(alloc, given.layout, jobs.as_mut_slice())?;
-    Ok(jobs)
-}
 
 /// What workers hand back, with all edges settled, and how many messages lie on them.
 fn settled(layout: &Layout, dones: Vec<Done>) -> (Vec<Done>, u64)
@@ -122,7 +87,7 @@ fn run_wired<R: AllocGlobal + Threads + Wait + Clock + Sync>(
     ensures worked { IfOk result (λ dones. IfSome dones (λ v. AreWorked (given_data given.entry (until_in leg.now.until)) v.items)) }
     ensures fine { IfOk result (λ dones. IfSome dones (λ v. NoFaults v.items)) }
 {
-    let jobs = wired(rt.alloc(), keys, given, leg)?;
+    let jobs = prepared(rt.alloc(), keys, given, leg)?;
     let failed = AtomicBool::new(false);
     let dones = run_all(rt, rt.alloc(), given.input, jobs, &OpenGate, None, &failed)?;
     if has_fault(dones.as_slice()) {
@@ -182,7 +147,7 @@ fn check_failed<R: AllocGlobal + Abort + Threads + Wait + Clock + Sync>(
     requires same { leg.now.saves.now ≡ given.saves.now }
     requires saves { CanSaveAt given.input.now.sources (offsets_of given.start.now) (counts_of given.saves.now) (until_in leg.now.until) }
 {
-    let jobs = wired(rt.alloc(), keys, given, leg)?;
+    let jobs = prepared(rt.alloc(), keys, given, leg)?;
     let failed = AtomicBool::new(true);
     let dones = run_all(rt, rt.alloc(), given.input, jobs, &OpenGate, None, &failed)?;
     check_early(rt, dones.as_slice(), tasks);

@@ -1,6 +1,6 @@
 use Rattle.legs.specs.Stops.{until_in}
 use Rattle.core_steps.specs.Given.{given_data}
-use Rattle.thread_tests.proofs.Jobs.{finds_all}
+use Rattle.thread_runner.proofs.LegLemmas.{finds_all}
 use Rattle.thread_tests.proofs.wiring.run_wired.Goals as goal
 
 pub run_all-requires-after_bounds : goal.run_all-requires-after_bounds
