@@ -6,9 +6,8 @@ ghost use Rattle.stream_model.specs.InputData.{BelongsTo};
 
 use crate::files::{file, word};
 use crate::telling::{answered, begins, refused};
-use crate::texts::{text_of_end, text_of_finish};
-use core_steps::Finish;
-use job_legs::{LegsEnd, run_legs, run_legs_by};
+use crate::texts::Told;
+use job_legs::{run_legs, run_legs_by};
 use job_texts::{JobFault, read_cut};
 use layout_rules::Scale;
 use leg_lists::{read_choices, read_legs};
@@ -25,31 +24,14 @@ use stream_model::Input;
 use thread_runner::{OpenGate, run_leg};
 use window_state::HashKeys;
 
-/// Says what came of a leg, and tells whether it has answered.
-fn told<R: Print + AllocGlobal>(
-    rt: &R,
-    finish: Result<Finish, LegFault>,
-) -> Result<bool, JobFault> {
-    match finish {
-        Ok(finish) => {
-            answered(rt, text_of_finish(rt.alloc(), finish)?.as_str())?;
-            Ok(true)
-        }
-        Err(fault) => {
-            refused(rt, &fault)?;
-            Ok(false)
-        }
-    }
-}
-
 /// Says what came of legs, and tells whether they have answered.
-fn told_of_legs<R: Print + AllocGlobal>(
+fn told<R: Print + AllocGlobal, T: Told>(
     rt: &R,
-    end: Result<LegsEnd, LegFault>,
+    answer: Result<T, LegFault>,
 ) -> Result<bool, JobFault> {
-    match end {
+    match answer {
         Ok(end) => {
-            answered(rt, text_of_end(rt.alloc(), &end)?.as_str())?;
+            answered(rt, end.text(rt.alloc())?.as_str())?;
             Ok(true)
         }
         Err(fault) => {
@@ -160,7 +142,7 @@ fn run_legs_by_once<R: Print + AllocGlobal>(
     let legs = read_legs(alloc, plan, text)?;
     begins(rt, "run_legs_by")?;
     let end = run_legs_by(alloc, keys, plan, input, legs, choices);
-    told_of_legs(rt, end)
+    told(rt, end)
 }
 
 /// Runs the legs of a list in one thread, by choices.
@@ -193,7 +175,7 @@ fn run_legs_once<R: Print + Threads + Wait + Clock + Sync + AllocGlobal>(
     let legs = read_legs(alloc, plan, text)?;
     begins(rt, "run_legs")?;
     let end = run_legs(rt, alloc, keys, plan, input, legs, &OpenGate);
-    told_of_legs(rt, end)
+    told(rt, end)
 }
 
 /// Runs the legs of a list with a thread for each of their tasks.

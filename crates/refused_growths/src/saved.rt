@@ -9,7 +9,6 @@ ghost use Rattle.redistribute.specs.Begins.{IsStartIn};
 
 use crate::files::file;
 use crate::telling::{answered, begins, refused};
-use crate::texts::text_of_bytes;
 use gather::gather;
 use gather::laws::spread_are_parts;
 use job_texts::{JobFault, text_of_savepoint};
@@ -49,7 +48,7 @@ pub(crate) fn encode_calls<R: Print + AllocGlobal>(
     for _ in 0..2 {
         begins(rt, "encode")?;
         match encode(alloc, savepoint) {
-            Ok(bytes) => return answered(rt, text_of_bytes(alloc, &bytes)?.as_str()),
+            Ok(bytes) => return answered(rt, hex::encode(alloc, &bytes)?.as_str()),
             Err(_) => refused(rt, &JobFault::Memory)?,
         }
     }

@@ -5,16 +5,6 @@ use job_legs::LegsEnd;
 use job_texts::{sort_rows, text_of_rows, text_of_savepoint};
 use plan_model::Row;
 use std::alloc::{AllocError, Global};
-use std::fmt::Write;
-
-/// Bytes, two digits each.
-pub(crate) fn text_of_bytes(alloc: Global, bytes: &[u8]) -> Result<String, AllocError> {
-    let mut text = String::new(alloc);
-    for byte in bytes {
-        write!(text, "{byte:02x}")?;
-    }
-    Ok(text)
-}
 
 fn text_of_sorted(alloc: Global, rows: Vec<Row>) -> Result<String, AllocError> {
     let mut rows = rows;
@@ -22,15 +12,30 @@ fn text_of_sorted(alloc: Global, rows: Vec<Row>) -> Result<String, AllocError> {
     text_of_rows(alloc, rows.as_slice())
 }
 
+/// What legs come to, as a text.
+pub(crate) trait Told {
+    fn text(self, alloc: Global) -> Result<String, AllocError>;
+}
+
 /// The rows of a leg, in the order of start and key, and what the savepoint holds that it left where it stopped.
-pub(crate) fn text_of_finish(alloc: Global, finish: Finish) -> Result<String, AllocError> {
-    match finish {
-        Finish::Ended(rows) => text_of_sorted(alloc, rows.into_vec()),
-        Finish::Stopped(rows, savepoint) => {
-            let mut text = text_of_sorted(alloc, rows.into_vec())?;
-            text.push_str(text_of_savepoint(alloc, savepoint.contents())?.as_str())?;
-            Ok(text)
+impl Told for Finish {
+    fn text(self, alloc: Global) -> Result<String, AllocError> {
+        match self {
+            Finish::Ended(rows) => text_of_sorted(alloc, rows.into_vec()),
+            Finish::Stopped(rows, savepoint) => {
+                let mut text = text_of_sorted(alloc, rows.into_vec())?;
+                text.push_str(text_of_savepoint(alloc, savepoint.contents())?.as_str())?;
+                Ok(text)
+            }
         }
+    }
+}
+
+/// The rows of legs, and the bytes of the savepoint that the last of them left where it stopped.
+impl Told for LegsEnd {
+    fn text(self, alloc: Global) -> Result<String, AllocError> {
+        let rows = text_of_rows(alloc, self.rows.as_slice())?;
+        text_of_saved(alloc, rows.as_str(), &self.savepoint)
     }
 }
 
@@ -42,15 +47,9 @@ pub(crate) fn text_of_saved(
 ) -> Result<String, AllocError> {
     let mut text = String::from_str(alloc, rows)?;
     if let Some(bytes) = savepoint {
-        text.push_str(text_of_bytes(alloc, bytes)?.as_str())?;
+        text.push_str(hex::encode(alloc, bytes)?.as_str())?;
     }
     Ok(text)
-}
-
-/// The rows of legs, and the bytes of the savepoint that the last of them left where it stopped.
-pub(crate) fn text_of_end(alloc: Global, end: &LegsEnd) -> Result<String, AllocError> {
-    let rows = text_of_rows(alloc, end.rows.as_slice())?;
-    text_of_saved(alloc, rows.as_str(), &end.savepoint)
 }
 
 /// Rows that have fired, and what stands in the panes then.

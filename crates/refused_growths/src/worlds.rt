@@ -7,7 +7,7 @@ ghost use Rattle.stream_model.specs.InputData.{BelongsTo};
 ghost use Rattle.task_setups.specs.Legs.{IsLayoutOf};
 
 use crate::telling::{answered, begins, left, refused};
-use crate::texts::text_of_finish;
+use crate::texts::Told;
 use core_steps::{Given, World};
 use dataflow_laws::Step;
 use job_texts::{JobFault, read_cut};
@@ -117,7 +117,7 @@ fn apply_once<R: Print + AllocGlobal>(
         return Ok(false);
     }
     if let Some(finish) = world.finish(alloc)? {
-        answered(rt, text_of_finish(alloc, finish)?.as_str())?;
+        answered(rt, finish.text(alloc)?.as_str())?;
     }
     Ok(true)
 }
