@@ -18,6 +18,7 @@ use Rattle.byte_fields.specs.Fields.{is_i64}
 use Rattle.aggregates.specs.Kinds.{AccData, IsAcc, kind_of, merge_by, merge_all, is_number, are_numbers, padded}
 use Rattle.aggregates.specs.Inside.{acc_view, IsInside}
 use Rattle.aggregates.specs.Fields.{length-front}
+use Rattle.byte_fields.proofs.Exact.{both, and_true}
 
 -- ---- fields
 
@@ -55,13 +56,6 @@ pub is_inside : (count n : ℕ) (ks all_ks : List Kind) (zs all_zs : List ℤ) �
 is_inside count n ks all_ks zs all_zs e f h k le sound = subst IsInside (sym (λ i. fields_of count n (e i) (f i))) (made count n ks zs h k le sound)
 
 -- ---- numbers
-
-both : (a b : Bool) → (a && b) ≡ true → (a ≡ true) × (b ≡ true)
-both true b h = (refl, h)
-both false b h = absurd cc
-
-from_both : (a b : Bool) → a ≡ true → b ≡ true → (a && b) ≡ true
-from_both a b h k = rw (h, k) refl
 
 pub length-numbers : (count : ℕ) (ks : List Kind) (zs : List ℤ) → are_numbers count ks zs ≡ true → length zs ≡ length ks
 length-numbers count [] [] h = refl
@@ -105,7 +99,7 @@ merged_numbers m n (kind ∷ ks) (x ∷ xs) [] h k = absurd cc
 merged_numbers m n (kind ∷ ks) (x ∷ xs) (y ∷ ys) h k =
     let a = both (is_number m kind x) (are_numbers m ks xs) h in
     let b = both (is_number n kind y) (are_numbers n ks ys) k in
-    from_both _ _ (merged_number m n kind x y a.0 b.0) (merged_numbers m n ks xs ys a.1 b.1)
+    and_true _ _ (merged_number m n kind x y a.0 b.0) (merged_numbers m n ks xs ys a.1 b.1)
 
 -- merging by aggregates is merging by their kinds
 pub merge_numbers-kinds : (aggregates : List Aggregate) (xs ys : List ℤ) → merge_numbers aggregates xs ys ≡ merge_all (map kind_of aggregates) xs ys
@@ -126,7 +120,7 @@ one_number (aggregate.Greatest c) r h = h
 pub one_numbers : (aggregates : List Aggregate) (r : Record) → All (λ a. is_i64 (number_of a r []) ≡ true) aggregates → are_numbers 1 (map kind_of aggregates) (map (λ a. number_of a r []) aggregates) ≡ true
 one_numbers [] r h = refl
 one_numbers (a ∷ aggregates) r h =
-    from_both _ _ (one_number a r (All-head (λ b. is_i64 (number_of b r []) ≡ true) a aggregates h)) (one_numbers aggregates r (All-tail (λ b. is_i64 (number_of b r []) ≡ true) a aggregates h))
+    and_true _ _ (one_number a r (All-head (λ b. is_i64 (number_of b r []) ≡ true) a aggregates h)) (one_numbers aggregates r (All-tail (λ b. is_i64 (number_of b r []) ≡ true) a aggregates h))
 
 -- ---- one record
 

@@ -1,15 +1,12 @@
 -- A message taken from its ring.
-use Rattle.std.proofs.Common.{◌≡◌, ℕ, ◌<◌, Bool, true, false, List, [], ◌∷◌, ◌++◌, reverse, get_or, refl, sym, ap, subst, ◌∙◌, inl, inr, arith}
+use Rattle.std.proofs.Common.{◌≡◌, ℕ, Bool, true, false, List, [], ◌∷◌, ◌++◌, reverse, get_or, refl, sym, ap, subst, ◌∙◌, inl, inr, arith}
 use Rattle.std.specs.Prelude.{Result, Ok, Err}
 use Rattle.std.proofs.lemmas.Bool.{cases_eq, eq-eqb, ne_eqb, false≢true}
 use Rattle.std.proofs.lemmas.Grind.{reverse_onto}
-use Rattle.plan_model.specs.PlanData.{PlanData}
 use Rattle.dataflow_model.specs.declared.message.Message.{Message}
 use Rattle.dataflow_model.specs.declared.message.Message.TheVariants as message
 use Rattle.std.specs.List.{list_any}
-use Rattle.dataflow_model.specs.Role.{is_source}
 use Rattle.dataflow_model.proofs.Facts.{no_source}
-use Rattle.dataflow_model.specs.AbstractTask.{AbstractTask}
 use Rattle.dataflow_model.specs.State.{State}
 use Rattle.dataflow_model.specs.Steps.{Take, CanTake, Takes, LocalStep}
 use Rattle.dataflow_laws.specs.declared.step.Step.TheVariants as step
@@ -30,9 +27,7 @@ use Rattle.core_steps.specs.RingSteps.{IsTakeable}
 use Rattle.core_steps.proofs.States.{state_set}
 use Rattle.core_steps.proofs.Worlds.{Goes, after, placed_at, going_at, state_of, within, reached_now, goes_made, goes_failed}
 use Rattle.core_steps.proofs.Changes.{held_changes, room_stays, world_changes}
-
-pub can_take : (p : PlanData) (k : AbstractTask) (d : TaskData) (i : ℕ) → Stands p k d → IsReady d i → CanTake k d.state i
-can_take p k d i st r = record { taker = ap is_source (sym st.role) ∙ r.taker; idle = r.idle; input = subst (λ n. i < n) st.inputs r.input; free = r.free }
+use Rattle.task_steps.proofs.Standing.{can_take}
 
 -- a ring with the message that was taken from it is what it was
 given_back : (old new : RingsData) (s t : ℕ) (q : Queue) (lost : List Message) → ChangesQueue s t q old new → held old s t ≡ reverse q.messages ++ lost → (x y : ℕ) → held old x y ≡ with_ring s t (held new s t ++ lost) (held new) x y

@@ -1,18 +1,15 @@
 -- A mask narrowed by one filter after another, and what it keeps.
-use Rattle.std.proofs.Common.{◌≡◌, ℕ, ◌+◌, ◌<◌, Bool, true, false, cond, ◌&&◌, List, [], ◌∷◌, ◌++◌, map, take, drop, length, get_or, replicate, refl, sym, ap, ◌∙◌, arith}
+use Rattle.std.proofs.Common.{◌≡◌, ℕ, ◌+◌, ◌<◌, Bool, true, false, ◌&&◌, List, [], ◌∷◌, ◌++◌, map, take, length, get_or, replicate, refl, sym, ap, ◌∙◌}
 use Rattle.std.proofs.lemmas.List.{take_more}
 use Rattle.plain_data.specs.Record.{Record, at, column_of}
 use Rattle.lane_kernels.specs.Compare.{holds, narrowed}
 use Rattle.plan_model.specs.declared.spec.FilterSpec.{FilterSpec}
 use Rattle.plan_model.specs.Windows.{passes}
+use Rattle.plan_model.proofs.Facts.{and_true}
 
 and_assoc : (a b c : Bool) → (a && (b && c)) ≡ ((a && b) && c)
 and_assoc true b c = refl
 and_assoc false b c = refl
-
-and_true : (a : Bool) → (a && true) ≡ a
-and_true true = refl
-and_true false = refl
 
 -- one filter more
 passes_push : (fs : List FilterSpec) (f : FilterSpec) (r : Record) → passes (fs ++ f ∷ []) r ≡ (passes fs r && holds f.cmp (at f.column r) f.value)

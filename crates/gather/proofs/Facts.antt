@@ -2,4 +2,4 @@
 pub use Rattle.gather.proofs.Partitions.{any_from, all_from, found_good}
 pub use Rattle.gather.proofs.Spelled.{IsEntryOk, counted_entry, or_true, weaken}
 pub use Rattle.gather.proofs.Whole.{CanBeSaved, can_be_saved}
-pub use Rattle.gather.proofs.Windows.{sorted, filtered}
+pub use Rattle.gather.proofs.Windows.{sorted, filtered, t_both, less}

@@ -5,7 +5,7 @@ use Rattle.std.specs.List.{AllByRecursion, filter, flat_map, range_with_len}
 use Rattle.std.specs.List.Sorted.{IsStrictlySortedBy}
 use Rattle.std.specs.Ordering.{is_lt}
 use Rattle.std.specs.declared.cmp.Ordering.{Ordering}
-use Rattle.std.specs.declared.cmp.Ordering.TheVariants.{Less, Equal}
+use Rattle.std.specs.declared.cmp.Ordering.TheVariants.{Less, Equal, Greater}
 use Rattle.std.specs.FinMap.{FinMap, from_entries, entries, entries_sorted, get-entries, get-from_entries}
 use Rattle.std.specs.FinMap.Entries.{is_sorted, below_all, where_key, is_sorted-where_key, find-where_key, same_entries}
 use Rattle.plan_model.specs.declared.spec.Pane.{Pane}
@@ -32,6 +32,15 @@ module _ {K X : Type 0} (R : K → K → Ordering) where
   unfolding IsStrictlySortedBy
   sorted [] h = tt
   sorted (e ∷ es) h = and_t (below_all R e.0 es) (is_sorted R es) (below e.0 es h.0) (sorted es h.1)
+
+pub t_both : (a b : Bool) → T (a && b) → T a × T b
+t_both true b h = (tt, h)
+t_both false b h = absurd h
+
+pub less : (o : Ordering) → T (is_lt o) → o ≡ Less
+less Less h = refl
+less Equal h = absurd h
+less Greater h = absurd h
 
 -- a map's entries that pass a test of their panes
 pub filtered : (p : Pane → Bool) (all : List (Pane × Aggregated)) → T (is_sorted pane_cmp (where_key pane_cmp p all)) → where_key pane_cmp p (entries (from_entries {R = pane_cmp} all)) ≡ where_key pane_cmp p all

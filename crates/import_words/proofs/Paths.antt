@@ -5,6 +5,7 @@ use Rattle.std.proofs.lemmas.Slice.Eq.{bytes_eq-Decides}
 use Rattle.std.specs.Borrow.{Bor}
 use Rattle.std.specs.List.{list_any}
 use Rattle.import_words.specs.Files.{before, Without, is_left}
+use Rattle.plan_model.proofs.Facts.{or_false}
 
 -- the first name is what is left, or a further one is the path
 abbrev pub has_path : List ℕ → Option (Bor (List ℕ)) → List (List ℕ) → Bool
@@ -28,10 +29,6 @@ left_behind (Some text) front (Some left) name h = subst (λ (t : List ℕ). byt
 left_behind (Some text) front None name h = other_front text.now front name h
 left_behind None front (Some left) name h = absurd h
 left_behind None front None name h = refl
-
-or_false : (b : Bool) → (b || false) ≡ b
-or_false true = refl
-or_false false = refl
 
 at_front : (left : Option (Bor (List ℕ))) (front : List ℕ) (behind : Option (Bor (List ℕ))) → Without left front behind → is_left left front ≡ is_left behind []
 at_front left front behind h = subst (λ (name : List ℕ). is_left left name ≡ is_left behind []) (append-nil front) (left_behind left front behind [] h)

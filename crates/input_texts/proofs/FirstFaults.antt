@@ -28,14 +28,9 @@ use Rattle.input_texts.specs.Said.{entry_of, input_of, partitions_under}
 use Rattle.input_texts.specs.Document.{is_source, AreSeen}
 use Rattle.input_texts.specs.Seen.{SourceSeen, source_seen}
 use Rattle.input_texts.proofs.Sources.{all_weaker}
+use Rattle.std.specs.Cmp.{both_ways}
 
 -- ---- tests of each member, and of what stands under each source's name
-
-equal_from : (a b : Bool) → (a ≡ true → b ≡ true) → (b ≡ true → a ≡ true) → a ≡ b
-equal_from true true f g = refl
-equal_from true false f g = sym (f refl)
-equal_from false true f g = g refl
-equal_from false false f g = refl
 
 either : (a b : Bool) → b ≡ true → (a || b) ≡ true
 either true b h = refl
@@ -102,7 +97,7 @@ module _ (q : List (List EntryText) → Bool) where
   unfolding has_sources
   every_is plan text ordered named =
       let parts = and_parts (list_all (λ m. is_source plan m.0) text) (list_all (λ s. list_any (λ m. bytes_eq m.0 s.uid) text) plan.sources) named in
-      equal_from (list_all (λ m. q m.1) text) (list_all (λ s. q (partitions_under s.uid text)) plan.sources)
+      both_ways (list_all (λ m. q m.1) text) (list_all (λ s. q (partitions_under s.uid text)) plan.sources)
       (λ all. all_weaker (λ (s : SourceSpec). list_any (λ m. bytes_eq m.0 s.uid) text) (λ (s : SourceSpec). q (partitions_under s.uid text)) (λ s any. one_under text s.uid all any) plan.sources parts.1)
       (λ all. each_own plan text ordered parts.0 (λ uid known any. of_source text plan.sources uid all known))
 

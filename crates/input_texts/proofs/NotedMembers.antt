@@ -25,6 +25,7 @@ use Rattle.input_texts.proofs.Sources.{distinct_sources}
 use Rattle.input_texts.proofs.OrderedMembers.{ordered_put, named_put, got_after}
 use Rattle.input_texts.proofs.Replaced.{all_kept, one_replaced}
 use Rattle.input_texts.proofs.UnknownNames.{unknown_kept, one_more_unknown}
+use Rattle.plan_model.proofs.Facts.{and_false}
 
 -- ---- names, of which one is taken out and put in again
 
@@ -94,17 +95,13 @@ module _ {A : Type 0} where
 
 -- ---- no member yet
 
-never : (b : Bool) → (b && false) ≡ false
-never true = refl
-never false = refl
-
 pub none_noted : (plan : PlanData) (document : Document) → document.slots.items ≡ map (λ (s : SourceSpec). None) plan.sources → (names_in document.names) ≡ [] → document.is_planned ≡ true → document.are_more ≡ false → (most : ℕ) → IsNoted plan most no_members document
 none_noted plan document slots names planned none_left most = record {
   ordered = refl;
   filled = slots;
   planned = planned;
   named = λ k h. absurd (let none : list_any (bytes_eq k) (names_in document.names) ≡ false = ap (list_any (bytes_eq k)) names in cc);
-  told = λ all k h. absurd (let none = never (not (is_source plan k)) in cc);
+  told = λ all k h. absurd (let none = and_false (not (is_source plan k)) in cc);
   many = λ more. absurd (cc);
 }
 
@@ -174,10 +171,10 @@ turned false true h = refl
 turned false false h = absurd (cc)
 
 own_out : (is_malformed : Bool) (k : List ℕ) (before : Bool) → cond (bytes_eq k k) (is_malformed && false) before ≡ false
-own_out is_malformed k before = rw ((bytes_eq-Decides k k).1 refl) (never is_malformed)
+own_out is_malformed k before = rw ((bytes_eq-Decides k k).1 refl) (and_false is_malformed)
 
 other_in : (is_malformed b before : Bool) → cond b (is_malformed && false) before ≡ true → before ≡ true
-other_in is_malformed true before h = absurd (let none = never is_malformed in cc)
+other_in is_malformed true before h = absurd (let none = and_false is_malformed in cc)
 other_in is_malformed false before h = h
 
 module _ (plan : PlanData) (most : ℕ) (ms : Members) (old new : Document) (k : List ℕ) (d : Data) (source : Option SourceSeen) (i : IsNoted plan most ms old) (says : source ≡ slot_of plan d) where

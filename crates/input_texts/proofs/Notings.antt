@@ -23,14 +23,7 @@ use Rattle.plain_data.specs.Times.{lowest}
 use Rattle.input_texts.specs.Said.{number_of, record_of}
 use Rattle.input_texts.specs.Seen.{RowSeen, Notes, all_met, joined, met_by_row, row_seen, rows_seen, with_row, of_rows}
 use Rattle.input_texts.proofs.Pairs.{and_then_parts, same_some}
-
-and_true : (b : Bool) → (b && true) ≡ b
-and_true true = refl
-and_true false = refl
-
-or_false : (b : Bool) → (b || false) ≡ b
-or_false true = refl
-or_false false = refl
+use Rattle.plan_model.proofs.Facts.{and_true, or_false}
 
 pub all_more : {X : Type 0} (p : X → Bool) (xs : List X) (x : X) → list_all p (xs ++ x ∷ []) ≡ (list_all p xs && p x)
 all_more p xs x = list_all-append p xs (x ∷ []) ∙ ap (λ b. list_all p xs && b) (and_true (p x))

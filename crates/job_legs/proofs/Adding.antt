@@ -1,15 +1,15 @@
 -- The rows of legs add up.
-use Rattle.std.proofs.Common.{◌≡◌, ◌∙◌, Bool, true, false, List, [], ◌∷◌, ◌++◌, map, Option, Some, None, if◌then◌else◌, refl, sym, ap}
+use Rattle.std.proofs.Common.{◌≡◌, ◌∙◌, Bool, true, false, [], ◌++◌, Option, Some, None, if◌then◌else◌, refl, sym, ap}
 use Rattle.std.specs.Option.{option_and_then, option_to_list}
 use Rattle.std.proofs.lemmas.List.Elements.{filter-append}
 use Rattle.plan_model.specs.Rows.{is_due, kept_row, row_is_at}
 use Rattle.plan_model.specs.declared.spec.Row.{Row}
-use Rattle.stream_model.specs.declared.entry.Entry.{Entry}
-use Rattle.stream_model.specs.Watermarks.{empty_cut, merged_watermark, records_before, records_before_in}
+use Rattle.stream_model.specs.Watermarks.{empty_cut, merged_watermark}
 use Rattle.stream_model.specs.PlanRows.{plan_aggregate, plan_rows, due_rows}
 use Rattle.stream_model.specs.Laws.{DueIsSettled, DueRowsStay}
 use Rattle.input_flow.proofs.Facts.{empty_is_cut}
 use Rattle.job_legs.specs.Laws.{EachRowAddsUp, NothingDueAtFirst, RowsAddUp}
+use Rattle.stream_model.proofs.Facts.{empty_records}
 
 joined : (due : Bool) (row later : Option Row) → (due ≡ true → (r : Row) → row ≡ Some r → later ≡ Some r) → (row ≡ None → later ≡ None)
     → option_to_list (if due then row else None) ++ option_to_list (if due then None else later) ≡ option_to_list later
@@ -29,14 +29,6 @@ each_row_adds_up stay p i b c q input earlier cut =
 
 pub rows_add_up : EachRowAddsUp → RowsAddUp
 rows_add_up add p i b c before between input earlier cut due later q = filter-append (row_is_at q) before between ∙ (λ k. due q k ++ later q k) ∙ add p i b c q input earlier cut
-
-empty_source : (ps : List (List Entry)) → records_before_in ps (map (λ p. 0) ps) ≡ []
-empty_source [] = refl
-empty_source (p ∷ ps) = empty_source ps
-
-empty_records : (ss : List (List (List Entry))) → records_before ss (empty_cut ss) ≡ []
-empty_records [] = refl
-empty_records (s ∷ ss) = rw (empty_source s, empty_records ss) refl
 
 -- where a test decides, only what it gives where it holds
 if_due : {X : Type 0} (b : Bool) (x : Option X) → (b ≡ true → x ≡ None) → (let none : Option X = None in (if b then x else none) ≡ none)

@@ -1,5 +1,5 @@
 -- What the tasks of a layout leave are parts that can be put together.
-use Rattle.std.proofs.Common.{◌≡◌, ℕ, zero, suc, ◌<◌, ◌≤◌, List, [], ◌∷◌, Bool, true, false, cond, ◌&&◌, T, length, map, get_or, Some, Ordering, Less, Equal, Greater, refl, sym, ap, subst, ◌∙◌, arith}
+use Rattle.std.proofs.Common.{◌≡◌, ℕ, zero, suc, ◌<◌, ◌≤◌, List, [], ◌∷◌, cond, T, length, map, get_or, Some, Ordering, Less, Equal, Greater, refl, sym, ap, subst, ◌∙◌, arith}
 use Rattle.std.specs.Prelude.{slice_index, slice_get}
 use Rattle.std.specs.FinMap.{entries, entries_sorted, empty, get, get-entries, find}
 use Rattle.std.specs.FinMap.Entries.{is_sorted, below_all}
@@ -37,17 +37,9 @@ use Rattle.gather.specs.Saved.{is_in_group}
 use Rattle.gather.specs.Parts.{ArePanes, IsPartOf, AreParts}
 use Rattle.task_steps.specs.TaskData.{TaskData}
 use Rattle.leg_tasks.specs.Leaving.{start_left, starts_left, part_at, parts_left, part_left, all_left, HaveStates, CanSave}
+use Rattle.gather.proofs.Facts.{t_both, less}
 
 -- ---- a map's entries, in their order
-
-less : (r : Ordering) → T (is_lt r) → r ≡ Less
-less Less h = refl
-less Equal h = absurd h
-less Greater h = absurd h
-
-t_both : (a b : Bool) → T (a && b) → T a × T b
-t_both true b h = (tt, h)
-t_both false b h = absurd h
 
 above : (x : Pane) (es : List (Pane × Aggregated)) → T (below_all pane_cmp x es) → AllByRecursion (λ y. pane_cmp x y ≡ Less) (map (λ e. e.0) es)
 above x [] h = tt

@@ -6,7 +6,7 @@ use Rattle.std.specs.Cmp.Lexicographic.{nat_list_eq_equiv}
 use Rattle.std.proofs.lemmas.List.{map-append, take-append-drop}
 use Rattle.std.proofs.lemmas.List.Folds.{list_any-append}
 use Rattle.plan_model.specs.Uids.{are_distinct}
-use Rattle.plan_model.proofs.Facts.{front_more}
+use Rattle.plan_model.proofs.Facts.{front_more, and_false}
 
 pub list_any_map : {A B : Type 0} (test : B → Bool) (f : A → B) (xs : List A) → list_any test (map f xs) ≡ list_any (λ x. test (f x)) xs
 list_any_map test f [] = refl
@@ -36,10 +36,6 @@ are_distinct_push (y ∷ ys) x h new =
     let other : bytes_eq y x ≡ false = turned y x ∙ apart.0 in
     rw (list_any-append (bytes_eq y) ys (x ∷ []), here.0, other) (are_distinct_push ys x here.1 apart.1)
 
-and_right : (a : Bool) → (a && false) ≡ false
-and_right true = refl
-and_right false = refl
-
 or_right : (a b : Bool) → (a || (true || b)) ≡ true
 or_right true b = refl
 or_right false b = refl
@@ -52,7 +48,7 @@ are_distinct_again (y ∷ ys) x more h =
       | inl same ↦
           let other : bytes_eq y x ≡ true = turned y x ∙ same in
           rw (list_any-append (bytes_eq y) ys (x ∷ more), other, or_right) refl
-      | inr later ↦ rw (are_distinct_again ys x more later.1) (and_right _)
+      | inr later ↦ rw (are_distinct_again ys x more later.1) (and_false _)
     ]
 
 -- what adding x gives, where it was new

@@ -1,5 +1,5 @@
 -- Tests of the parts of a list.
-use Rattle.std.proofs.Common.{◌≡◌, Bool, true, false, ◌&&◌, List, ◌∷◌, refl}
+use Rattle.std.proofs.Common.{◌≡◌, Bool, true, ◌&&◌, List, ◌∷◌}
 use Rattle.std.specs.List.{list_all}
 use Rattle.std.proofs.lemmas.List.Folds.{list_all-map, list_all-append}
 use Rattle.logical_plan.specs.declared.text.SourceText.{SourceText}
@@ -8,10 +8,7 @@ use Rattle.logical_plan.specs.declared.text.PlanText.{PlanText}
 use Rattle.plan_model.specs.Uids.{is_uid}
 use Rattle.byte_fields.proofs.Exact.{both}
 use Rattle.logical_plan.specs.Requirements.{has_uids}
-
-and_true : (a : Bool) → (a && true) ≡ a
-and_true true = refl
-and_true false = refl
+use Rattle.plan_model.proofs.Facts.{and_true}
 
 -- the test of all uids, part by part
 pub all_uids : (p : PlanText) → has_uids p ≡ ((list_all (λ (s : SourceText). is_uid s.uid) p.sources && list_all (λ (f : FilterText). is_uid f.uid) p.filters) && is_uid p.window.uid)

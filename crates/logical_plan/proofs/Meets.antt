@@ -24,6 +24,7 @@ use Rattle.logical_plan.specs.declared.text.PlanText.{PlanText}
 use Rattle.plan_model.specs.PlanData.{IsPlan, IsWindow, has_column, uids}
 use Rattle.logical_plan.specs.Requirements.{is_aggregate_of, text_uids, requirements, has_columns, has_column_indices, has_max, has_sources, has_partitions, has_uids, has_distinct_uids, has_filters, has_size, has_slide, has_offset, has_panes, has_aggregates}
 use Rattle.logical_plan.specs.Answer.{source_data, filter_data, aggregate_data, having_data, plan_data}
+use Rattle.byte_fields.proofs.Exact.{both}
 
 -- what the requirements say, one by one
 pub record Meets (t : PlanText) : Type 0 where
@@ -46,10 +47,6 @@ pub record Meets (t : PlanText) : Type 0 where
   pub panes : int_le t.window.size (pos 256 *ℤ t.window.slide) ≡ true
   pub aggregates : is_nat_within 1 8 (length t.window.aggregates) ≡ true
   pub places : list_all (λ h. is_place (pos (length t.window.aggregates)) h.aggregate) t.window.having ≡ true
-
-pub both : (a b : Bool) → (a && b) ≡ true → (a ≡ true) × (b ≡ true)
-both true b h = (refl, h)
-both false b h = absurd cc
 
 pub meets : (t : PlanText) → first_unmet requirements t ≡ None → Meets t
 unfolding requirements has_columns has_column_indices has_max has_sources has_partitions has_uids has_distinct_uids has_filters has_size has_slide has_offset has_panes has_aggregates

@@ -5,5 +5,5 @@ pub use Rattle.plan_model.proofs.Counts.{count_or, count_at, count_merge}
 pub use Rattle.plan_model.proofs.Lists.{front_more}
 pub use Rattle.plan_model.proofs.PaneMaps.{pane_cmp_total, pane_cmp-IsAntisymmetric}
 pub use Rattle.plan_model.proofs.PaneTotals.{aggregate_at-append, aggregate_at-same, merge-one}
-pub use Rattle.plan_model.proofs.Starts.{is_reached, reached_more, reached_once, reached_none, reached_all, lifted, natural, remainder}
+pub use Rattle.plan_model.proofs.Starts.{is_reached, reached_more, reached_once, reached_none, reached_all, lifted, natural, remainder, pos_same, and_false, and_true, or_false}
 pub use Rattle.plan_model.proofs.UidField.{uid_exact, uid_fits}

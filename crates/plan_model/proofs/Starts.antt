@@ -46,7 +46,7 @@ adds_nothing r q n h k e =
 rem_zero : (r j n : ℕ) → 0 < n → r < n → j % n ≡ (r + j) % n → r ≡ 0
 rem_zero r j n h k e = adds_nothing r (j % n) n k (mod-lt j h) (add-mod-mod r j n ∙ sym e)
 
-pos_same : (a b : ℕ) → pos a ≡ pos b → a ≡ b
+pub pos_same : (a b : ℕ) → pos a ≡ pos b → a ≡ b
 pos_same a b e = cc
 
 -- a window begins j before the time just where j has the remainder of the time
@@ -86,11 +86,11 @@ before_or_after s t = by_lt_z t s (λ h. inr h) (λ h.
     let e : t -ℤ s ≡ pos far.0 = far.1 in
     inl (far.0, omega (arith, ints, e)))
 
-and_false : (b : Bool) → (b && false) ≡ false
+pub and_false : (b : Bool) → (b && false) ≡ false
 and_false true = refl
 and_false false = refl
 
-and_true : (b : Bool) → (b && true) ≡ b
+pub and_true : (b : Bool) → (b && true) ≡ b
 and_true true = refl
 and_true false = refl
 
@@ -128,7 +128,7 @@ is_reached w t b s = (is_start w s && is_within w s t) && int_lt (t -ℤ pos b) 
 after_test : (t : ℤ) (b j : ℕ) → int_lt (t -ℤ pos b) (t -ℤ pos j) ≡ nat_lt j b
 after_test t b j = grind (arith, ints)
 
-or_false : (b : Bool) → (b || false) ≡ b
+pub or_false : (b : Bool) → (b || false) ≡ b
 or_false true = refl
 or_false false = refl
 

@@ -1,5 +1,5 @@
 -- The windows of a time are those whose start is the offset plus a whole number of slides.
-use Rattle.std.proofs.Common.{◌≡◌, ℕ, suc, ℤ, pos, negsuc, ◌+ℤ◌, ◌-ℤ◌, ◌*ℤ◌, ◌+◌, ◌-◌, ◌*◌, ◌/◌, ◌%◌, ◌<◌, ◌<ℤ◌, ◌≤ℤ◌, Bool, true, false, ◌&&◌, refl, sym, ap, ◌∙◌, inl, inr, arith}
+use Rattle.std.proofs.Common.{◌≡◌, ℕ, suc, ℤ, pos, negsuc, ◌+ℤ◌, ◌-ℤ◌, ◌*ℤ◌, ◌+◌, ◌-◌, ◌*◌, ◌/◌, ◌%◌, ◌<◌, ◌<ℤ◌, ◌≤ℤ◌, true, refl, sym, ap, ◌∙◌, inl, inr, arith}
 use Rattle.std.specs.Int.{int_rem_euclid}
 use Rattle.std.specs.Int.RustNames.{int_le, int_lt}
 use Rattle.std.specs.Ordering.{int_eq}
@@ -10,10 +10,8 @@ use Rattle.std.proofs.Math.IntN.{pos-*ℤ-pos, negsuc-*ℤ-pos}
 use Rattle.plan_model.specs.declared.spec.WindowSpec.{WindowSpec}
 use Rattle.plan_model.specs.Windows.{is_start, is_within, IsStartOf}
 use Rattle.plan_model.specs.Laws.{WindowsAreThose}
-use Rattle.plan_model.proofs.Starts.{lifted}
-
-pos_same : (a b : ℕ) → pos a ≡ pos b → a ≡ b
-pos_same a b e = cc
+use Rattle.plan_model.proofs.Starts.{lifted, pos_same}
+use Rattle.byte_fields.proofs.Exact.{both, and_true}
 
 -- the difference of two multiples is a multiple
 less_some : (q j n : ℕ) → (k : ℤ) × (k *ℤ pos n ≡ pos (q * n) -ℤ pos (j * n))
@@ -89,13 +87,6 @@ is_start-to w s h is =
     let found : (k : ℤ) × (s -ℤ w.offset ≡ k *ℤ pos n.0) = has_multiple (s -ℤ w.offset) n.0 n.1 none in
     (found.0, back_again s w.offset (found.0 *ℤ w.slide) (found.1 ∙ ap (λ d. found.0 *ℤ d) (sym slide)))
 
-both : (a b : Bool) → (a && b) ≡ true → (a ≡ true) × (b ≡ true)
-both true b h = (refl, h)
-both false b h = absurd cc
-
-from_both : (a b : Bool) → a ≡ true → b ≡ true → (a && b) ≡ true
-from_both a b h k = rw (h, k) refl
-
 le_from_test : (a b : ℤ) → int_le a b ≡ true → a ≤ℤ b
 le_from_test a b h = grind (arith, ints)
 
@@ -115,6 +106,6 @@ windows_are_those w t s h = (
       let times = both (int_le s t) (int_lt t (s +ℤ w.size)) parts.1 in
       (is_start-to w s h parts.0, le_from_test s t times.0, lt_from_test t (s +ℤ w.size) times.1),
   λ is.
-      from_both (is_start w s) (is_within w s t) (is_start-from w s h is.0)
-      (from_both (int_le s t) (int_lt t (s +ℤ w.size)) (test_from_le s t is.1) (test_from_lt t (s +ℤ w.size) is.2)),
+      and_true (is_start w s) (is_within w s t) (is_start-from w s h is.0)
+      (and_true (int_le s t) (int_lt t (s +ℤ w.size)) (test_from_le s t is.1) (test_from_lt t (s +ℤ w.size) is.2)),
 )

@@ -21,7 +21,7 @@ use Rattle.plan_model.specs.Rows.{keeps}
 use Rattle.plan_record.specs.PlanRecord.{ascending, cmp_code, filter_condition, having_condition, condition_cmp, RecordParts, parts_of, record_field, plan_record}
 use Rattle.plan_record.specs.Alike.{EqualRecords}
 use Rattle.byte_fields.proofs.Exact.{one_value}
-use Rattle.plan_model.proofs.Facts.{lifted, natural}
+use Rattle.plan_model.proofs.Facts.{lifted, natural, pos_same}
 use Rattle.plan_record.proofs.RecordExact.{plan_record_exact, parts_fit}
 use Rattle.plan_record.proofs.Members.{all_ascending, any_ascending, conditions_apart, uids_apart}
 
@@ -36,9 +36,6 @@ shifted z k n h =
     let one : (z +ℤ pos (k * n)) +ℤ pos (j * n) ≡ pos (m + k * n) = omega (arith, ints, e) in
     let two : z +ℤ pos ((k + j) * n) ≡ pos (m + k * n) = omega (arith, ints, e) in
     int_rem_euclid_is (z +ℤ pos (k * n)) (pos n) n j (m + k * n) h refl one ∙ sym (int_rem_euclid_is z (pos n) n (k + j) (m + k * n) h refl two)
-
-pos_same : (a b : ℕ) → pos a ≡ pos b → a ≡ b
-pos_same a b e = cc
 
 same_distance : (s o u : ℤ) (n : ℕ) → 0 < n → int_rem_euclid o (pos n) ≡ int_rem_euclid u (pos n) → int_rem_euclid (s -ℤ o) (pos n) ≡ int_rem_euclid (s -ℤ u) (pos n)
 same_distance s o u n h same =

@@ -15,10 +15,7 @@ use Rattle.plan_scale.specs.declared.text.OperatorText.{OperatorText}
 use Rattle.plan_scale.specs.declared.text.ScaleText.{ScaleText}
 use Rattle.plan_scale.specs.Said.{one_subtask, operator_under}
 use Rattle.plan_scale.specs.Requirements.{has_all_uids, has_parallelism}
-
-and_true : (a : Bool) → (a && true) ≡ a
-and_true true = refl
-and_true false = refl
+use Rattle.plan_model.proofs.Facts.{and_true}
 
 -- each uid of the plan is given, part by part
 pub all_uids : (plan : PlanData) (text : ScaleText) → has_all_uids plan text

@@ -14,14 +14,7 @@ use Rattle.layout_rules.specs.Rules.{filter_scale, parallelism_of, may_chain_to,
 use Rattle.layout_rules.proofs.Facts.{tasks_counted}
 use Rattle.plan_scale.specs.Tasks as counted
 use Rattle.plan_scale.specs.Tasks.{only_parallelism, chains_to, filter_tasks}
-
-and_true : (a : Bool) → (a && true) ≡ a
-and_true true = refl
-and_true false = refl
-
-and_false : (a : Bool) → (a && false) ≡ false
-and_false true = refl
-and_false false = refl
+use Rattle.plan_model.proofs.Facts.{and_true, and_false}
 
 -- the parallelism of an operator that a filter may join
 before : PlanData → ScaleData → Operator → Option ℕ

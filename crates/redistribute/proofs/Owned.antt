@@ -15,6 +15,7 @@ use Rattle.layout_rules.specs.Layouts.{owner_of}
 use Rattle.layout_rules.specs.Stages.{parallelism_at, stage_of, groups_of}
 use Rattle.layout_rules.proofs.Facts.{stages_are_bounded, row_at}
 use Rattle.redistribute.specs.Parts.{is_group_of}
+use Rattle.std.specs.Cmp.{both_ways}
 
 pub owners : OwnersHaveRanges
 owners max par i group some fits within few = search rules
@@ -26,12 +27,6 @@ both_are false b e = absurd cc
 both : (a b : Bool) → a ≡ true → b ≡ true → a && b ≡ true
 both true b d e = e
 both false b d e = absurd cc
-
-same_bool : (a b : Bool) → (a ≡ true → b ≡ true) → (b ≡ true → a ≡ true) → a ≡ b
-same_bool true true f g = refl
-same_bool true false f g = sym (f refl)
-same_bool false true f g = g refl
-same_bool false false f g = refl
 
 pub has : (r : GroupRange) (g : ℕ) → is_group_of r g ≡ true → Has r g
 has r g e = let h = both_are (leb r.first g) (leb g r.last) e in (leb-true r.first g h.0, leb-true g r.last h.1)
@@ -58,6 +53,6 @@ owns p c u key ip sc from to =
     let g = key_group p.max key in
     let law = owners p.max n i g wide.some wide.grouped less (mod_below (murmur_hash (hash_code key)) p.max ip.grouped) in
     ap (λ r. is_group_of r g) range
-    ∙ same_bool (is_group_of (group_range p.max n i) g) (eqb (sum_below f w + owner_of p n key) u)
+    ∙ both_ways (is_group_of (group_range p.max n i) g) (eqb (sum_below f w + owner_of p n key) u)
     (λ e. let o : owner_of p n key ≡ i = law.1 (has (group_range p.max n i) g e) in eq-eqb (sum_below f w + owner_of p n key) u (omega (arith, o, place)))
     (λ e. let o : owner_of p n key ≡ i = (let z = eqb-true (sum_below f w + owner_of p n key) u e in omega (arith, z)) in is_had (group_range p.max n i) g (law.0 o))

@@ -22,7 +22,7 @@ use Rattle.plan_model.specs.PlanData.{IsWindow}
 use Rattle.plan_model.specs.Rows.{pane_cmp}
 use Rattle.plan_model.specs.Windows.{is_at, is_start, is_within}
 use Rattle.plan_model.proofs.Facts.{is_reached, natural, pane_cmp_total, reached_all, reached_more, reached_none, remainder}
-use Rattle.restarts.proofs.Grouped.{t_both, less}
+use Rattle.gather.proofs.Facts.{t_both, less}
 
 -- ---- counts of what passes
 

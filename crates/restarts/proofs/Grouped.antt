@@ -1,10 +1,9 @@
 -- What holds of each pane of windows holds of each entry that is saved.
-use Rattle.std.proofs.Common.{◌≡◌, ℕ, zero, suc, ◌<◌, Bool, true, false, cond, ◌&&◌, List, [], ◌∷◌, length, get_or, Option, Some, refl, ap, ◌∙◌, arith}
+use Rattle.std.proofs.Common.{◌≡◌, ℕ, zero, suc, ◌<◌, Bool, true, cond, List, [], ◌∷◌, length, get_or, Option, Some, ap, ◌∙◌, arith}
 use Rattle.std.specs.Prelude.{T}
 use Rattle.std.specs.List.{All, filter, flat_map, list_all, range_with_len}
 use Rattle.std.specs.Ordering.{eq_by_cmp, is_eq, is_lt, ordering_reverse}
-use Rattle.std.specs.declared.cmp.Ordering.{Ordering}
-use Rattle.std.specs.declared.cmp.Ordering.TheVariants.{Less, Equal, Greater}
+use Rattle.std.specs.declared.cmp.Ordering.TheVariants.{Greater}
 use Rattle.std.specs.Cmp.{tied_itself}
 use Rattle.std.specs.FinMap.{FinMap, entries, entries_sorted, find, get, get-entries}
 use Rattle.std.specs.FinMap.Entries.{is_sorted, below_all}
@@ -18,17 +17,9 @@ use Rattle.savepoint_codec.specs.EntriesData.{EntryData}
 use Rattle.savepoint_codec.specs.declared.savepoint.SavedGroup.{SavedGroup}
 use Rattle.restore.specs.Requirements.{every_entry}
 use Rattle.gather.specs.Saved.{entries_in_group, is_in_group, saved_entry, saved_group, saved_groups}
+use Rattle.gather.proofs.Facts.{t_both, less}
 
 -- ---- each entry of a map is found at its pane
-
-pub t_both : (a b : Bool) → T (a && b) → T a × T b
-t_both true b h = (tt, h)
-t_both false b h = absurd h
-
-pub less : (o : Ordering) → T (is_lt o) → o ≡ Less
-less Less h = refl
-less Equal h = absurd h
-less Greater h = absurd h
 
 -- a pane below others is none of them
 passed : (x : Pane) (a : Aggregated) (es : List (Pane × Aggregated)) → T (below_all pane_cmp x es) → (k : ℕ) (d : Pane × Aggregated) → k < length es

@@ -21,14 +21,11 @@ use Rattle.stream_model.specs.Watermarks.{merged_watermark, records_before}
 use Rattle.stream_model.specs.PlanRows.{passing, plan_aggregate, snapshot}
 use Rattle.restore.specs.Requirements.{is_reached}
 use Rattle.restarts.proofs.Records.{few_before, timely_before}
+use Rattle.stream_model.proofs.Facts.{some_only}
 
 else_some : {X : Type 0} (b : Bool) (o : Option X) (x : X) → (if b then None else o) ≡ Some x → (b ≡ false) × (o ≡ Some x)
 else_some true o x e = absurd cc
 else_some false o x e = (refl, e)
-
-then_some : {X : Type 0} (b : Bool) (o : Option X) (x : X) → (if b then o else None) ≡ Some x → (b ≡ true) × (o ≡ Some x)
-then_some true o x e = (refl, e)
-then_some false o x e = absurd cc
 
 first_of : (P : Record → Type 0) (ks : List Aggregate) (rs : List Record) (a : Aggregated) → aggregate_of ks rs ≡ Some a → All P rs → (r : Record) × P r
 first_of P ks [] a e h = absurd cc
@@ -62,7 +59,7 @@ left p i cut q a input belongs e =
     let w = p.window in
     let before = records_before i.sources cut in
     let early = else_some (is_due w (merged_watermark i.sources cut) q.start) (plan_aggregate p before q) a e in
-    let starts = then_some (is_start w q.start) (aggregate_of w.aggregates (records_of w q (passing p before))) a early.1 in
+    let starts = some_only (is_start w q.start) (aggregate_of w.aggregates (records_of w q (passing p before))) a early.1 in
     let one = holder (λ r. IsTime (at w.time r)) p q before a (timely_before p i cut input belongs) starts.1 in
     let inside = (and_parts (int_eq (at w.key one.0) q.key) (is_within w q.start (at w.time one.0)) one.1.0).1 in
     let of_passing : a.count ≤ length (passing p before) = counted_in w (passing p before) q a early.1 in

@@ -104,7 +104,7 @@ end_is_due plan i q sound input belongs =
 
 -- ---- from cut to cut
 
-some_only : {X : Type 0} (b : Bool) (o : Option X) (x : X) → (if b then o else None) ≡ Some x → (b ≡ true) × (o ≡ Some x)
+pub some_only : {X : Type 0} (b : Bool) (o : Option X) (x : X) → (if b then o else None) ≡ Some x → (b ≡ true) × (o ≡ Some x)
 some_only true o x e = (refl, e)
 some_only false o x e = absurd cc
 
@@ -118,7 +118,7 @@ empty_source : (ps : List (List Entry)) → records_before_in ps (map (λ p. 0) 
 empty_source [] = refl
 empty_source (p ∷ ps) = empty_source ps
 
-empty_records : (ss : List (List (List Entry))) → records_before ss (empty_cut ss) ≡ []
+pub empty_records : (ss : List (List (List Entry))) → records_before ss (empty_cut ss) ≡ []
 empty_records [] = refl
 empty_records (s ∷ ss) = rw (empty_source s, empty_records ss) refl
 

@@ -30,6 +30,7 @@ use Rattle.task_steps.specs.Reading.{entries_at, ReadsFrom, IsReadable, IsMine, 
 use Rattle.task_steps.proofs.Lists.{filter_alike}
 use Rattle.task_steps.proofs.Standing.{routed}
 use Rattle.task_steps.proofs.Runnings.{can_run}
+use Rattle.input_flow.proofs.Facts.{records_of_message}
 
 pub can_read : (p : PlanData) (k : AbstractTask) (d : TaskData) (q : ℕ) → Stands p k d → IsReadable d q → CanRead k d.state q
 can_read p k d q st r = record {
@@ -77,10 +78,6 @@ sent_of : (p : PlanData) (k : AbstractTask) (d : TaskData) (c : ℕ) (e : Entry)
 sent_of p k d c (entry.Rows t) st = routed p k d c t st
 sent_of p k d c (entry.Watermark t) st = refl
 
-records_same : (e : Entry) → records_of (message_of e) ≡ records_of_entry e
-records_same (entry.Rows t) = refl
-records_same (entry.Watermark t) = refl
-
 -- the next entry at a source
 pub read_step : (p : PlanData) (k : AbstractTask) (d : TaskData) (number q : ℕ) (i : InputData) (e : Entry) (now : State) → Stands p k d → ReadsFrom k d.setup i → IsMine d number q
     → slice_index d.state.offsets q < length (entries_at d.setup i q) → e ≡ get_or (entries_at d.setup i q) (slice_index d.state.offsets q) e
@@ -99,7 +96,7 @@ read_step p k d number q i e now st from mine inside is made =
     let t : k.brings q n ≡ brings e last = from.brings q n e r.partition inside ∙ ap (λ x. brings x last) (sym is) in
     let cursor : next_cursor k.outputs s.cursor (filter k.keeps (records_of (k.entry q n))) ≡ next_cursor d.setup.outputs s.cursor (filter (passes d.setup.filters) (records_of_entry e)) =
     (λ j. next_cursor (sym st.outputs j) s.cursor (filter k.keeps (records_of (message j))))
-    ∙ ap (λ l. next_cursor d.setup.outputs s.cursor (filter k.keeps l)) (records_same e)
+    ∙ ap (λ l. next_cursor d.setup.outputs s.cursor (filter k.keeps l)) (records_of_message e)
     ∙ ap (next_cursor d.setup.outputs s.cursor) (filter_alike k.keeps (passes d.setup.filters) (records_of_entry e) st.keeps) in
     let pending : route_of p.window.key k s.cursor (k.entry q n) ++ announce k.outputs (rise s.inputs.marks q (k.brings q n)) ≡ sends_of d.setup s.cursor e ++ announce d.setup.outputs (rise s.inputs.marks q (brings e last)) =
     (λ j. route_of p.window.key k s.cursor (message j) ++ announce (sym st.outputs j) (rise s.inputs.marks q (t j)))

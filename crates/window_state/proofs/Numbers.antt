@@ -1,5 +1,5 @@
 -- The words of a place, written and read.
-use Rattle.std.proofs.Common.{◌≡◌, ℕ, ℤ, ◌+◌, ◌*◌, ◌<◌, ◌≤◌, Bool, true, false, ◌&&◌, List, [], ◌∷◌, map, drop, length, get_or, refl, sym, ap, subst, ◌∙◌, arith, FitsSigned, to_z, of_z, set, negsuc, ◌+ℤ◌, ◌^◌, pos}
+use Rattle.std.proofs.Common.{◌≡◌, ℕ, ℤ, ◌+◌, ◌*◌, ◌<◌, ◌≤◌, true, List, [], ◌∷◌, map, drop, length, get_or, refl, sym, ap, subst, ◌∙◌, arith, FitsSigned, to_z, of_z, set, negsuc, ◌+ℤ◌, ◌^◌, pos}
 use Rattle.std.specs.Int.{w64}
 use Rattle.std.proofs.lemmas.Int.{ints, to_z-of_z}
 use Rattle.std.proofs.lemmas.List.{drop_more, length-set, get_or-set_other}
@@ -14,6 +14,7 @@ use Rattle.aggregates.specs.declared.kind.Kind.{Kind}
 use Rattle.aggregates.specs.declared.kind.Kind.TheVariants.{Count, Sum, Least, Greatest}
 use Rattle.aggregates.specs.Kinds.{kind_of, is_number, are_numbers}
 use Rattle.window_state.specs.Words.{width_of, width, stride, word, sum_of, number_at, numbers_at, count_of, acc_in, IsWritten}
+use Rattle.byte_fields.proofs.Exact.{both}
 
 -- the same words below x
 abbrev pub AgreeBelow : ℕ → List ℤ → List ℤ → Type 0
@@ -117,10 +118,6 @@ number-above n k ws vs x y z h low = number-same n k ws vs z z (λ j l. h.above 
 pub numbers_next : (n : ℕ) (k : Kind) (ks : List Kind) (z : ℤ) (zs ws vs : List ℤ) (x : ℕ) → number_at n k ws x ≡ z → AgreeBelow (x + width_of k) ws vs
     → numbers_at n ks vs (x + width_of k) ≡ zs → numbers_at n (k ∷ ks) vs x ≡ z ∷ zs
 numbers_next n k ks z zs ws vs x first agree rest = λ i. (number-below n k ws vs x agree ∙ first) i ∷ rest i
-
-both : (a b : Bool) → (a && b) ≡ true → (a ≡ true) × (b ≡ true)
-both true b h = (refl, h)
-both false b h = absurd cc
 
 -- the first of numbers that so many records can come to, and the others
 pub first_fits : (n : ℕ) (k : Kind) (ks : List Kind) (z : ℤ) (zs : List ℤ) → are_numbers n (k ∷ ks) (z ∷ zs) ≡ true → (is_number n k z ≡ true) × (are_numbers n ks zs ≡ true)

@@ -16,7 +16,7 @@ use Rattle.plan_model.specs.PlanData.{IsWindow}
 use Rattle.plan_model.specs.Windows.{IsTime, is_start, is_at, is_window_of}
 use Rattle.plan_model.specs.Aggregates.{Aggregated, aggregate_of, merge}
 use Rattle.plan_model.specs.Rows.{records_of, aggregate_at, pane_cmp}
-use Rattle.plan_model.proofs.Facts.{merge_assoc}
+use Rattle.plan_model.proofs.Facts.{merge_assoc, pos_same}
 use Rattle.plan_model.proofs.Facts.{count_or, count_at, count_merge}
 use Rattle.plan_model.proofs.Facts.{aggregate_at-append, merge-one}
 use Rattle.plan_model.proofs.Facts.{is_reached, reached_more, reached_once, reached_none, reached_all, remainder}
@@ -169,9 +169,6 @@ positive_is : (z : ℤ) → FitsSigned w64 z → pos 1 ≤ℤ z → z ≡ pos (h
 positive_is z fits h =
     let above : pos 0 ≤ℤ z = omega (arith, ints) in
     sym (ap (λ y. pos (nat_abs y)) (to_z-of_z w64 z fits) ∙ pos-nat_abs z (yes_non_neg above))
-
-pos_same : (a b : ℕ) → pos a ≡ pos b → a ≡ b
-pos_same a b e = cc
 
 at_least_one : (z : ℤ) (n : ℕ) → z ≡ pos n → pos 1 ≤ℤ z → 0 < n
 at_least_one z n e h = omega (arith, ints)
