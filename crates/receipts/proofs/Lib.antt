@@ -1,1 +1,15 @@
-pub mod Zipped
+mod Digits
+mod Plain
+mod Plains
+mod Puts
+mod ReadBack
+mod ReadShapes
+mod Receipts
+mod Records
+mod Shapes
+mod Sources
+mod SourcesBack
+mod Uids
+mod Values
+mod Written
+mod Zipped

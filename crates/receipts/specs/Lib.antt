@@ -1,3 +1,10 @@
+pub mod Checked
+pub mod Compared
+pub mod Counts
+pub mod FaultLine
 pub mod Lines
+pub mod Made
 pub mod Read
+pub mod ReadBack
 pub mod ReceiptText
+pub mod Said

@@ -1,5 +1,5 @@
 -- The lines of entries, of which receipts have the digests: compact JSON, and a line feed.
-use Rattle.std.specs.Prelude.{ℕ, ℤ, List, [], ◌∷◌, ◌++◌, map, codes}
+use Rattle.std.specs.Prelude.{ℕ, ℤ, List, ◌++◌, map, codes}
 use Rattle.std.specs.Fmt.{signed_decimal}
 use Rattle.std.specs.List.{flat_map, join_with_byte, range_with_len}
 use Rattle.plain_data.specs.Record.{Record, at}

@@ -1,5 +1,4 @@
-use Rattle.std.proofs.Common.{◌≡◌, ℕ, ◌≤◌, List, take, length, get_or, refl, ap, ◌∙◌, arith}
-use Rattle.std.specs.List.{AllZip}
+use Rattle.std.proofs.Common.{ℕ, ◌≤◌, List, take, length, get_or, refl, ap, ◌∙◌, arith}
 use Rattle.std.proofs.lemmas.Slice.Zip.{AllZip-long}
 use Rattle.stream_model.specs.declared.entry.Entry.{Entry}
 use Rattle.input_changes.specs.Agreement.{entries_before_in}

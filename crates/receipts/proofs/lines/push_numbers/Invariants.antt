@@ -1,4 +1,4 @@
-use Rattle.std.proofs.Common.{◌≡◌, ℕ, ◌++◌, [], map, take, get_or, string_bytes}
+use Rattle.std.proofs.Common.{◌≡◌, ◌++◌, [], map, take, get_or, string_bytes}
 use Rattle.std.specs.Fmt.{signed_decimal}
 use Rattle.std.specs.List.{join_with_byte, range_with_len}
 use Rattle.plain_data.specs.Record.{at}

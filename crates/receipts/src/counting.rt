@@ -1,0 +1,74 @@
+//! How many records stand before a cut, and how many lines a text has.
+
+ghost use Rattle.std.specs.Prelude.{◌≡◌, ◌+◌, ◌-◌, ◌^◌, min, take, length};
+ghost use Rattle.std.specs.List.{fold, zip};
+ghost use Rattle.stream_model.specs.InputData.{records_in, records_of_entry};
+ghost use Rattle.stream_model.specs.Watermarks.{records_before};
+ghost use Rattle.receipts.specs.Counts as said;
+
+use plain_data::Items;
+use stream_model::{Entry, Partition, Source};
+
+/// The first entries of a partition.
+fn first(entries: &[Entry], count: u64) -> &[Entry]
+    ensures { result.now ≡ take count entries.now }
+{
+    &entries[..count.min(entries.len() as u64) as usize]
+}
+
+fn records_of(entry: &Entry) -> u64
+    ensures { result ≡ length (records_of_entry entry.now) }
+{
+    match entry {
+        Entry::Rows(batch) => batch.len() as u64,
+        Entry::Watermark(_) => 0,
+    }
+}
+
+/// So many records and those of entries, as far as they can be counted.
+fn with_entries(count: u64, entries: &[Entry]) -> u64
+    ensures { result ≡ min (count + length (records_in entries.now)) (2 ^ 64 - 1) }
+{
+    let mut total = count;
+    for entry in entries {
+        total = total.saturating_add(records_of(entry));
+    }
+    total
+}
+
+/// So many records and those before the counts of a source's partitions.
+fn with_source(count: u64, partitions: &[Partition], counts: &[u64]) -> u64
+    ensures { result ≡ fold said.with_partition count (zip partitions.now counts.now) }
+{
+    partitions
+        .iter()
+        .zip(counts)
+        .fold(count, |total, (entries, n)| {
+            with_entries(total, first(entries.as_slice(), *n))
+        })
+}
+
+fn with_sources(count: u64, sources: &[Source], cut: &[Items<u64>]) -> u64
+    ensures { result ≡ fold (λ n x. fold said.with_partition n (zip x.0 x.1)) count (zip sources.now cut.now) }
+{
+    sources
+        .iter()
+        .zip(cut)
+        .fold(count, |total, (partitions, counts)| {
+            with_source(total, partitions.as_slice(), counts.as_slice())
+        })
+}
+
+/// How many records stand before a cut, as far as they can be counted.
+pub(crate) fn count_records(sources: &[Source], cut: &[Items<u64>]) -> u64
+    ensures { result ≡ min (length (records_before sources.now cut.now)) (2 ^ 64 - 1) }
+{
+    with_sources(0, sources, cut)
+}
+
+/// How many line feeds bytes have.
+pub(crate) fn count_lines(bytes: &[u8]) -> u64
+    ensures { result ≡ said.lines_in bytes.now }
+{
+    bytes.iter().filter(|byte| **byte == b'\n').count() as u64
+}
