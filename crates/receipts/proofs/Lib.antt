@@ -1,4 +1,5 @@
 mod Digits
+mod Kept
 mod Plain
 mod Plains
 mod Puts

@@ -2,6 +2,7 @@ pub mod Checked
 pub mod Compared
 pub mod Counts
 pub mod FaultLine
+pub mod Kept
 pub mod Lines
 pub mod Made
 pub mod Read
