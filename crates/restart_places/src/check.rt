@@ -3,7 +3,8 @@
 ghost use Rattle.std.specs.Prelude.{◌≡◌, ◌<◌, length, IfOk, OnOk};
 ghost use Rattle.job_texts.specs.declared.fault.JobFault.TheVariants.{Memory};
 
-use crate::partitions::all_partitions;
+use crate::partitions::records_before;
+use crate::saved::least_watermark;
 use crate::{entries, operators, partitions, plan_parts, stop};
 use job_texts::{JobFault, read_cut};
 use key_groups::MaxParallelism;
@@ -67,10 +68,11 @@ fn check_reached(
     contents: &Contents,
     fault: RestoreFault,
 ) -> Result<(), AllocError> {
-    let reached = all_partitions(plan, input, contents);
     let test = match fault {
-        RestoreFault::ClosedWindow => entries::Test::Open(reached.watermark),
-        _ => entries::Test::Counted(reached.records),
+        RestoreFault::ClosedWindow => {
+            entries::Test::Open(least_watermark(contents.sources.as_slice()))
+        }
+        _ => entries::Test::Counted(records_before(plan, input, contents)),
     };
     entries::check_entries(
         alloc,
@@ -192,6 +194,8 @@ fn sentence_of(fault: JobFault) -> &'static str {
         JobFault::Cut =>
             "this is no cut: it has a count of entries for each partition, with `,` between them, and with `/` between sources, as 2,2/5",
         JobFault::Leg(_) => "no leg can stop at this cut",
+        JobFault::Restore(RestoreFault::PlanChanged) =>
+            "the plan in the savepoint is not the one that its uids and numbers are of: the file was not written by a job, or it was damaged",
         _ => "the job cannot go on from the savepoint",
     }
 }

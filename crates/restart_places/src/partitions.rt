@@ -1,7 +1,6 @@
 //! How far a savepoint has read partitions, beside the entries that an input has of them.
 
-ghost use Rattle.std.specs.Prelude.{◌≡◌, ◌+◌, ◌-◌, ◌^◌, min, take, length};
-ghost use Rattle.stream_model.specs.InputData.{records_of_entry, records_in};
+ghost use Rattle.std.specs.Prelude.{◌≡◌, take};
 ghost use Rattle.stream_model.specs.Watermarks.{partition_watermark};
 
 use crate::saved::saved_under;
@@ -172,55 +171,29 @@ pub(crate) fn check_partitions(
     Ok(())
 }
 
-fn records_of(entry: &Entry) -> u64
-    ensures { result ≡ length (records_of_entry entry.now) }
-{
+fn records_of(entry: &Entry) -> u64 {
     match entry {
         Entry::Rows(batch) => batch.len() as u64,
         Entry::Watermark(_) => 0,
     }
 }
 
-/// So many records and those of entries, as far as they can be counted.
-fn with_entries(count: u64, entries: &[Entry]) -> u64
-    ensures { result ≡ min (count + length (records_in entries.now)) (2 ^ 64 - 1) }
-{
+/// So many records and those of the entries of a source that were read, as far as they can be counted.
+fn with_source(count: u64, saved: &[SavedPartition], partitions: &[Partition]) -> u64 {
     let mut total = count;
-    for entry in entries {
-        total = total.saturating_add(records_of(entry));
+    for (saved, entries) in saved.iter().zip(partitions) {
+        let read = first(entries.as_slice(), saved.offset).iter();
+        total = read.map(records_of).fold(total, u64::saturating_add);
     }
     total
 }
 
-/// How far partitions were read: their least watermark, and how many records they have before it.
-#[derive(Clone, Copy)]
-pub(crate) struct Reached {
-    pub(crate) watermark: i64,
-    pub(crate) records: u64,
-}
-
-fn with_source(reached: Reached, saved: &[SavedPartition], partitions: &[Partition]) -> Reached {
-    let mut reached = reached;
-    for (saved, entries) in saved.iter().zip(partitions) {
-        let entries = entries.as_slice();
-        let watermark = watermark_at(entries, saved.offset);
-        reached = Reached {
-            watermark: reached.watermark.min(watermark),
-            records: with_entries(reached.records, first(entries, saved.offset)),
-        };
-    }
-    reached
-}
-
-/// How far all partitions were read.
-pub(crate) fn all_partitions(plan: &Plan, input: &Input, contents: &Contents) -> Reached {
-    let mut reached = Reached {
-        watermark: i64::MAX,
-        records: 0,
-    };
+/// How many records the input has before a savepoint's cut, as far as they can be counted.
+pub(crate) fn records_before(plan: &Plan, input: &Input, contents: &Contents) -> u64 {
+    let mut total = 0;
     for (spec, partitions) in plan.sources().iter().zip(input.sources()) {
         let saved = saved_under(contents.sources.as_slice(), spec.uid.as_str());
-        reached = with_source(reached, saved, partitions.as_slice());
+        total = with_source(total, saved, partitions.as_slice());
     }
-    reached
+    total
 }

@@ -39,6 +39,17 @@ pub(crate) fn is_saved(sources: &[SavedSource], uid: &str) -> bool
     sources.iter().any(|source| source.uid.as_str() == uid)
 }
 
+fn source_watermark(source: &SavedSource) -> i64 {
+    let watermarks = source.partitions.as_slice().iter().map(|p| p.watermark);
+    watermarks.fold(i64::MAX, |least, watermark| least.min(watermark))
+}
+
+/// The least watermark of the partitions of sources.
+pub(crate) fn least_watermark(sources: &[SavedSource]) -> i64 {
+    let watermarks = sources.iter().map(source_watermark);
+    watermarks.fold(i64::MAX, |least, watermark| least.min(watermark))
+}
+
 /// Whether there are places enough.
 pub(crate) fn is_full(found: &Findings) -> bool {
     found.places().len() >= MOST_PLACES
