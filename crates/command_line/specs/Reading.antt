@@ -4,6 +4,7 @@ use Rattle.clap.specs.Words.{first_value}
 use Rattle.clap.specs.Matches.{matched_of, one_text, raw_values}
 use Rattle.clap.specs.declared.parser.matches.Found.{Found}
 use Rattle.import_command.specs.declared.words.ImportWords.{ImportWords}
+use Rattle.commands.specs.declared.check_words.CheckWords.{CheckWords}
 use Rattle.commands.specs.declared.command.Command.{Command}
 use Rattle.commands.specs.declared.command.Command.TheVariants.{Run, Simulate, Leg, Cuts, Layout, Check, Import, Show, Group, Explain, Version}
 
@@ -18,7 +19,7 @@ name_of (Simulate _ _ _ _) = codes "simulate"
 name_of (Leg _ _ _ _ _ _ _) = codes "leg"
 name_of (Cuts _ _ _ _) = codes "cuts"
 name_of (Layout _ _) = codes "layout"
-name_of (Check _ _ _) = codes "check"
+name_of (Check _) = codes "check"
 name_of (Import _ _) = codes "import"
 name_of (Show _) = codes "show"
 name_of (Group _ _ _) = codes "group"
@@ -45,6 +46,13 @@ or_else (Some word) other = Some word
 abbrev pub scale_word : Found → Option (List ℕ)
 scale_word words = or_else (first_value words (codes "SCALE")) (first_value words (codes "scale"))
 
+-- the words of a check, each by its name
+abbrev pub HasCheckWords : Found → CheckWords → Type 0
+HasCheckWords words said =
+    (said.plan.now ≡ word words (codes "PLAN")) × (option_map (λ w. w.now) said.input ≡ first_value words (codes "INPUT")) × (option_map (λ w. w.now) said.scale ≡ scale_word words)
+    × (option_map (λ w. w.now) said.from ≡ first_value words (codes "from")) × (option_map (λ w. w.now) said.stop ≡ first_value words (codes "stop"))
+    × (option_map (λ w. w.now) said.save ≡ first_value words (codes "save"))
+
 -- an option that is there or not is there, or is not
 pub record IsFlag (words : Found) (name : List ℕ) (is_there : Bool) : Type 0 where
   pub absent : one_text words name ≡ None → is_there ≡ false
@@ -65,7 +73,7 @@ HasWords words (Leg plan input scale from stop stop_file save) =
 HasWords words (Cuts plan input until stays_open) =
     (plan.now ≡ word words (codes "PLAN")) × (input.now ≡ word words (codes "INPUT")) × (option_map (λ w. w.now) until ≡ first_value words (codes "until")) × IsFlag words (codes "open") stays_open
 HasWords words (Layout plan scale) = (plan.now ≡ word words (codes "PLAN")) × (scale.now ≡ word words (codes "SCALE"))
-HasWords words (Check plan input scale) = (plan.now ≡ word words (codes "PLAN")) × (option_map (λ w. w.now) input ≡ first_value words (codes "INPUT")) × (option_map (λ w. w.now) scale ≡ scale_word words)
+HasWords words (Check said) = HasCheckWords words said
 HasWords words (Import plan said) = (plan.now ≡ word words (codes "PLAN")) × HasImportWords words said
 HasWords words (Show savepoint) = savepoint.now ≡ word words (codes "SAVEPOINT")
 HasWords words (Group key max par) = (key.now ≡ word words (codes "KEY")) × (max.now ≡ word words (codes "MAX")) × (par.now ≡ word words (codes "PAR"))

@@ -48,8 +48,12 @@ abbrev pub layout_shape : Shape
 layout_shape = command_shape (codes "layout") (codes "PLAN" ∷ codes "SCALE" ∷ [])
 
 -- a plan, an input and a scale that may be left out, and an option
+abbrev pub check_files_shape : Shape
+check_files_shape = record (new_shape (codes "check")) { rules = required_rule (codes "PLAN") ∷ new_rule (codes "INPUT") ∷ new_rule (codes "SCALE") ∷ option_rule (codes "scale") ∷ [] }
+
+-- and three options of a leg
 abbrev pub check_shape : Shape
-check_shape = record (new_shape (codes "check")) { rules = required_rule (codes "PLAN") ∷ new_rule (codes "INPUT") ∷ new_rule (codes "SCALE") ∷ option_rule (codes "scale") ∷ [] }
+check_shape = record check_files_shape { rules = check_files_shape.rules ++ option_rule (codes "from") ∷ option_rule (codes "stop") ∷ option_rule (codes "save") ∷ [] }
 
 -- the plan, the input, the columns and the sources of an import, and its four options
 abbrev pub import_files_shape : Shape

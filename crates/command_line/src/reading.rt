@@ -2,10 +2,10 @@
 
 ghost use Rattle.std.specs.Prelude.{◌≡◌, option_map};
 ghost use Rattle.clap.specs.Words.{found_of, subcommand_name_of};
-ghost use Rattle.command_line.specs.Reading.{word, scale_word, HasImportWords, IsFound, IsRead};
+ghost use Rattle.command_line.specs.Reading.{word, scale_word, HasCheckWords, HasImportWords, IsFound, IsRead};
 
 use clap::ArgMatches;
-use commands::Command;
+use commands::{CheckWords, Command};
 use import_command::ImportWords;
 
 fn named<'a>(words: &ArgMatches<'a>, name: &str) -> &'a str
@@ -39,6 +39,20 @@ fn scale_word<'m>(words: &'m ArgMatches<'_>) -> Option<&'m str>
     }
 }
 
+/// The words of a check.
+fn check_words<'m>(words: &'m ArgMatches<'_>) -> CheckWords<'m>
+    ensures { HasCheckWords (found_of words.now) result }
+{
+    CheckWords {
+        plan: named(words, "PLAN"),
+        input: words.get_str("INPUT"),
+        scale: scale_word(words),
+        from: words.get_str("from"),
+        stop: words.get_str("stop"),
+        save: words.get_str("save"),
+    }
+}
+
 /// The command that a name and the words after it say, if the name is one of a command.
 fn command_in<'m>(name: &str, words: &'m ArgMatches<'_>) -> Option<Command<'m>>
     ensures { IsRead name.now (found_of words.now) result }
@@ -51,9 +65,7 @@ fn command_in<'m>(name: &str, words: &'m ArgMatches<'_>) -> Option<Command<'m>>
     }
     if name == "check" {
         return Some(Command::Check {
-            plan: named(words, "PLAN"),
-            input: words.get_str("INPUT"),
-            scale: scale_word(words),
+            words: check_words(words),
         });
     }
     match name {

@@ -3,7 +3,7 @@
 ghost use Rattle.std.specs.Prelude.{◌≡◌, IfOk};
 ghost use Rattle.clap.specs.Words.{app_of, new_rule};
 ghost use Rattle.clap.specs.Simple.{new_shape};
-ghost use Rattle.command_line.specs.Words.{AddsRule, IsCommand, required_rule, option_rule, flag_rule, several_rule, run_shape, simulate_shape, leg_files_shape, leg_shape, cuts_shape, layout_shape, check_shape, import_files_shape, import_names_shape, import_shape, show_shape, group_shape, explain_shape, version_shape, top, jobs, texts, views, program};
+ghost use Rattle.command_line.specs.Words.{AddsRule, IsCommand, required_rule, option_rule, flag_rule, several_rule, run_shape, simulate_shape, leg_files_shape, leg_shape, cuts_shape, layout_shape, check_files_shape, check_shape, import_files_shape, import_names_shape, import_shape, show_shape, group_shape, explain_shape, version_shape, top, jobs, texts, views, program};
 
 use clap::{Arg, ArgAction, Command};
 use std::alloc::{AllocError, Global};
@@ -270,11 +270,15 @@ and their fault before the sentence. Of each file it then warns, up to 20 times,
 members that stand twice, of which the last counts, of watermarks that are below one before them, and of
 partitions whose watermarks never rise.
 
+With --from it prints why no leg can go on from that savepoint over this input, `FILE: the reason` for
+each place, and with --stop why none can stop at that cut, `--stop CUT: the reason`. Nothing is run.
+
 Example: streamjob check plan.json input.json scale.json
 Page: docs/FORMATS.md, under Plan, Input and Scale";
 
-fn check_words<'a>(alloc: Global) -> Result<Command<'a>, AllocError>
-    ensures { IfOk result (λ c. IsCommand check_shape c) }
+/// The files of a check.
+fn check_files<'a>(alloc: Global) -> Result<Command<'a>, AllocError>
+    ensures { IfOk result (λ c. IsCommand check_files_shape c) }
 {
     let about = "Print the places at which a plan, an input or a scale is refused";
     let command = named(alloc, "check", about, CHECK);
@@ -287,6 +291,34 @@ fn check_words<'a>(alloc: Global) -> Result<Command<'a>, AllocError>
         "scale",
         "SCALE",
         "JSON file of the scale, where no word names it",
+    )
+}
+
+/// The same with the options of a leg.
+fn check_words<'a>(alloc: Global) -> Result<Command<'a>, AllocError>
+    ensures { IfOk result (λ c. IsCommand check_shape c) }
+{
+    let command = check_files(alloc)?;
+    let command = option(
+        alloc,
+        command,
+        "from",
+        "FILE",
+        "File of the savepoint that a leg is to go on from; with INPUT",
+    )?;
+    let command = option(
+        alloc,
+        command,
+        "stop",
+        "CUT",
+        "Cut that it is to stop at; with INPUT",
+    )?;
+    option(
+        alloc,
+        command,
+        "save",
+        "FILE",
+        "File that its savepoint is to be written to; nothing is written",
     )
 }
 

@@ -1,3 +1,4 @@
+mod AsLeg
 mod Given
 mod Named
 mod Plans

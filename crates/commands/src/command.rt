@@ -1,5 +1,6 @@
 //! The commands, with their words.
 
+use crate::check_words::CheckWords;
 use import_command::ImportWords;
 
 /// What the program is to do.
@@ -41,11 +42,9 @@ pub enum Command<'a> {
         plan: &'a str,
         scale: &'a str,
     },
-    /// Print the places at which a plan is refused, or an input or a scale of it.
+    /// Print the places at which a plan is refused, or an input or a scale of it, or a leg over them.
     Check {
-        plan: &'a str,
-        input: Option<&'a str>,
-        scale: Option<&'a str>,
+        words: CheckWords<'a>,
     },
     /// Write an input of a plan from CSV or NDJSON files.
     Import {

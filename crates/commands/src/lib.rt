@@ -2,6 +2,7 @@
 #![tactic(auto)]
 
 mod actions;
+mod check_words;
 mod checking;
 mod command;
 mod fault;
@@ -13,6 +14,7 @@ mod performing;
 mod saving;
 mod stop_file;
 
+pub use check_words::CheckWords;
 pub use command::Command;
 pub use fault::{CommandFault, told};
 pub use performing::performed;

@@ -69,7 +69,7 @@ pub fn performed<
             stays_open,
         } => after_job(cuts(rt, plan, input, *until, *stays_open)),
         Command::Layout { plan, scale } => after_job(layout(rt, plan, scale)),
-        Command::Check { plan, input, scale } => after_job(check(rt, plan, *input, *scale)),
+        Command::Check { words } => after_job(check(rt, words)),
         Command::Import { plan, words } => import(rt, plan, words),
         Command::Show { savepoint } => after_job(show(rt, savepoint)),
         Command::Group { key, max, par } => after_job(group(rt, key, max, par)),

@@ -5,6 +5,7 @@ ghost use Rattle.logical_plan.specs.Answer.{Gives, plan_of_bytes};
 ghost use Rattle.logical_plan.specs.Answer.{is_memory as is_plan_memory};
 ghost use Rattle.plan_scale.specs.Answer.{scale_of_bytes};
 ghost use Rattle.plan_scale.specs.Answer.{is_memory as is_scale_memory};
+ghost use Rattle.stream_model.specs.InputData.{BelongsTo};
 ghost use Rattle.input_texts.specs.Answer.{input_of_bytes};
 ghost use Rattle.input_texts.specs.Answer.{is_memory as is_input_memory};
 ghost use Rattle.fault_places.specs.Answer.{AnswersCheck};
@@ -193,7 +194,7 @@ pub fn check_scale<W: Write>(
     }
 }
 
-/// The same of an input of the plan.
+/// The input that the bytes are, of a plan. Of what is right or not it writes as [`check_plan`] does.
 ///
 /// # Errors
 ///
@@ -204,12 +205,13 @@ pub fn check_input<W: Write>(
     input: &[u8],
     file: &str,
     out: &mut W,
-) -> Result<(), InputFault>
-    ensures answers { AnswersCheck is_input_memory (input_of_bytes plan.now input.now) result }
+) -> Result<Input, InputFault>
+    ensures answers { Gives is_input_memory (λ input. input) result (input_of_bytes plan.now input.now) }
+    ensures belongs { IfOk result (λ input. BelongsTo plan.now input) }
     ensures quiet { OnOk result (W.contents out.new ≡ W.contents out.old) }
 {
     match Input::read(alloc, plan, input) {
-        Ok(_) => Ok(()),
+        Ok(found) => Ok(found),
         Err(fault) => {
             tell(alloc, input, file, Refused::Input(plan, fault), out);
             Err(fault)
