@@ -32,7 +32,8 @@ A word of `group` is no number in its range: KEY is a hyphen or none and 1 to 19
 digits, from 1 to 32768; PAR has 1 to 5 digits, from 1 to 64 and at most MAX. A `+`, a space, a point or an empty word
 is none. `import` says it of `--bound`, digits alone, below 2^64, and of `--rows`, from 1 to 4096, with the word. `run`
 says it of `--parallelism` where it is not 1 to 5 digits, and beside a list of legs, each of which has its own scale;
-`cuts` of `--until` where it is neither a number as KEY is nor a time in ISO 8601, and beside `--open`.
+`cuts` of `--until` where it is neither a number as KEY is nor a time in ISO 8601, and beside `--open`; `check` of
+`--from` and `--stop` where no INPUT is named.
 
 ```console
 $ streamjob group 7 128 65
@@ -43,7 +44,7 @@ $ streamjob import plan.json new.json at,key calls=calls.csv --rows 5000
 C2 Number --rows: "5000" is no whole number from 1 to 4096
 ```
 
-Take a number in the range.
+Take a number in the range. For `check` name the input, too.
 "#,
     ),
     (
@@ -300,7 +301,7 @@ The plan's `maxParallelism` is not the savepoint's: the key groups would be othe
  "window": {"uid": "usage", "size": 10, "aggregates": [{"fn": "count"}]}}
 ```
 
-Write the number of `streamjob show savepoint` after `max` into the plan. It cannot be changed while a job goes on.
+Write the number that `check --from` tells into the plan. It cannot be changed while a job goes on.
 "#,
     ),
     (
@@ -318,7 +319,8 @@ The savepoint has a source, or a window, whose uid is none of the plan's.
 {"ring": 16, "operators": {"calls": {"parallelism": 1}, "hourly": {"parallelism": 2}}}
 ```
 
-Give the operators of the plan, the input and the scale the uids that `streamjob show savepoint` prints.
+Give the operators of the plan, the input and the scale the uids that `streamjob show savepoint` prints; `check --from`
+tells which differ.
 "#,
     ),
     (
@@ -341,7 +343,8 @@ The plan has a source that the savepoint has not.
 {"ring": 16, "operators": {"calls": {"parallelism": 1}, "mails": {"parallelism": 1}, "usage": {"parallelism": 2}}}
 ```
 
-A source cannot be added while a job goes on. Begin from nothing, or run the new source as a job of its own.
+A source cannot be added while a job goes on; `check --from` tells which were. Begin from nothing, or run the new source
+as a job of its own.
 "#,
     ),
     (
@@ -357,7 +360,8 @@ not.
  "window": {"uid": "usage", "size": 20, "aggregates": [{"fn": "count"}]}}
 ```
 
-Go on with the plan that the job began with. A new plan begins from nothing.
+Go on with the plan that the job began with. A new plan begins from nothing. `check --from` tells each number of the
+window and the columns that is another, with both values, and which of the lists of conditions and aggregates are.
 "#,
     ),
     (
@@ -391,6 +395,7 @@ The savepoint has read more entries of a partition than the input has.
 
 Go on with the same input, or with one that has changed behind the cut alone: the entries that were read have to be
 there as they were. An input of what is new alone is refused, and so is one that was imported with more `--rows`.
+`check --from` tells the partitions, and how many entries were read of each.
 "#,
     ),
     (
@@ -405,9 +410,9 @@ one, or entries were added to a partition that had been read to its end.
 ```
 
 Go on with the input that was read, or one that has changed behind the cut alone, imported with the same `--rows` and
-`--bound`: others say other entries and watermarks. `streamjob show savepoint` prints each offset and watermark; that of
-a partition which was read to its end is 2^63 - 1. A job that is to go on with more entries later stops before its
-input's end: an entry before the end of each partition that is to get more.
+`--bound`: others say other entries and watermarks. `check --from` tells each partition with both watermarks, and
+whether it had been read to its end or the input was cut short. A job that is to go on with more entries later stops
+before its input's end: an entry before the end of each partition that is to get more.
 "#,
     ),
     (
@@ -421,7 +426,8 @@ $ printf '\x72' | dd of=savepoint bs=1 seek=92 conv=notrunc status=none && strea
 Q8 WrongGroup
 ```
 
-The file was not written by a job, or it was damaged: take a whole copy.
+The file was not written by a job, or it was damaged: take a whole copy. `check --from` tells up to 20 such entries,
+with their windows and keys, here and in the next two sections.
 "#,
     ),
     (
@@ -480,7 +486,8 @@ $ streamjob leg plan.json input.json scale.json --from savepoint --stop 0
 L1 StopRange
 ```
 
-`streamjob show savepoint` prints what was read of each partition. Without `--stop` a leg goes to the end of the input.
+`streamjob check plan.json input.json --from savepoint --stop 0` tells which count is wrong, and why. Without `--stop` a
+leg goes to the end of the input.
 In a list of legs the `stop` of a leg is such a cut, and is below that of a leg before it where it counts fewer entries
 of a partition.
 "#,
