@@ -4,6 +4,10 @@
 #[cfg(test)]
 mod inputs;
 #[cfg(test)]
+mod receipt_checks;
+#[cfg(test)]
+mod receipt_readings;
+#[cfg(test)]
 mod receipt_texts;
 #[cfg(test)]
 mod refused;
