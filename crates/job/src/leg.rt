@@ -31,9 +31,13 @@ use stream_model::Input;
 use thread_runner::{Gate, Stop, run_leg};
 use window_state::HashKeys;
 
-/// Where a leg begins: at the savepoint that bytes spell, or from nothing.
+/// Where a leg begins: at the savepoint that `from` has the bytes of, or from nothing at the front of the input.
+///
+/// # Errors
+///
+/// The savepoint's fault; `Restore` where the job cannot go on from it in this input; `Memory`.
 #[tactic(auto, unfolding(crate::specs::Leg::start_said))]
-pub(crate) fn start_of(
+pub fn start_of(
     alloc: Global,
     plan: &Plan,
     input: &Input,

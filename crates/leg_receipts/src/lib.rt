@@ -3,7 +3,6 @@
 
 mod cuts;
 mod making;
-mod places;
 mod since;
 
 pub use making::{Told, leg_receipt};

@@ -9,7 +9,7 @@ ghost use Rattle.leg_receipts.specs.Places.{Finds, place, place_by, place_said, 
 ghost use Rattle.leg_receipts.specs.Made.{told_at, told_of};
 
 use crate::cuts::{cut_of, end_of};
-use crate::places::start_of;
+use job::start_of;
 use job_texts::JobFault;
 use legs::Cut;
 use logical_plan::ReadPlan;

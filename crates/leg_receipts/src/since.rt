@@ -9,7 +9,7 @@ ghost use Rattle.leg_receipts.specs.Places.{Finds, place_by, place_said, place_w
 ghost use Rattle.leg_receipts.specs.Since.{ByReceipt, IsBySince};
 
 use crate::cuts::cut_of;
-use crate::places::start_of;
+use job::start_of;
 use job_texts::JobFault;
 use logical_plan::ReadPlan;
 use plan_model::Plan;

@@ -26,10 +26,10 @@ pub fn counted_bytes(bytes: &[u8]) -> Counted
 /// # Errors
 ///
 /// [`ReceiptFault::Plan`] where it is not.
-pub fn check_plan(told: Counted, record_: &[u8]) -> Result<(), ReceiptFault>
-    ensures { result ≡ said.plan_checked told record_.now }
+pub fn check_plan(told: Counted, bytes: &[u8]) -> Result<(), ReceiptFault>
+    ensures { result ≡ said.plan_checked told bytes.now }
 {
-    if counted_bytes(record_) != told {
+    if counted_bytes(bytes) != told {
         return Err(ReceiptFault::Plan);
     }
     Ok(())
