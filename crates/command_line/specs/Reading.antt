@@ -4,7 +4,9 @@ use Rattle.clap.specs.Words.{first_value}
 use Rattle.clap.specs.Matches.{matched_of, one_text, raw_values}
 use Rattle.clap.specs.declared.parser.matches.Found.{Found}
 use Rattle.import_command.specs.declared.words.ImportWords.{ImportWords}
+use Rattle.leg_command.specs.declared.words.LegWords.{LegWords}
 use Rattle.commands.specs.declared.check_words.CheckWords.{CheckWords}
+use Rattle.commands.specs.declared.run_words.RunWords.{RunWords}
 use Rattle.commands.specs.declared.command.Command.{Command}
 use Rattle.commands.specs.declared.command.Command.TheVariants.{Run, Simulate, Leg, Cuts, Layout, Check, Import, Show, Group, Explain, Version}
 
@@ -14,9 +16,9 @@ word words name = unwrap_or (first_value words name) []
 
 -- the name of a command
 abbrev pub name_of : Command → List ℕ
-name_of (Run _ _ _ _) = codes "run"
+name_of (Run _) = codes "run"
 name_of (Simulate _ _ _ _) = codes "simulate"
-name_of (Leg _ _ _ _ _ _ _) = codes "leg"
+name_of (Leg _) = codes "leg"
 name_of (Cuts _ _ _ _) = codes "cuts"
 name_of (Layout _ _) = codes "layout"
 name_of (Check _) = codes "check"
@@ -53,6 +55,22 @@ HasCheckWords words said =
     × (option_map (λ w. w.now) said.from ≡ first_value words (codes "from")) × (option_map (λ w. w.now) said.stop ≡ first_value words (codes "stop"))
     × (option_map (λ w. w.now) said.save ≡ first_value words (codes "save"))
 
+-- the words of a run, each by its name
+abbrev pub HasRunWords : Found → RunWords → Type 0
+HasRunWords words said =
+    (said.plan.now ≡ word words (codes "PLAN")) × (said.input.now ≡ word words (codes "INPUT")) × (option_map (λ w. w.now) said.legs ≡ first_value words (codes "LEGS"))
+    × (option_map (λ w. w.now) said.parallelism ≡ first_value words (codes "parallelism"))
+    × (option_map (λ w. w.now) said.receipt ≡ first_value words (codes "receipt")) × (option_map (λ w. w.now) said.names ≡ first_value words (codes "names"))
+
+-- the words of a leg, each by its name
+abbrev pub HasLegWords : Found → LegWords → Type 0
+HasLegWords words said =
+    (said.plan.now ≡ word words (codes "PLAN")) × (said.input.now ≡ word words (codes "INPUT")) × (said.scale.now ≡ word words (codes "SCALE"))
+    × (option_map (λ w. w.now) said.from ≡ first_value words (codes "from")) × (option_map (λ w. w.now) said.stop ≡ first_value words (codes "stop"))
+    × (option_map (λ w. w.now) said.stop_file ≡ first_value words (codes "stop-file")) × (option_map (λ w. w.now) said.save ≡ first_value words (codes "save"))
+    × (option_map (λ w. w.now) said.since ≡ first_value words (codes "since")) × (option_map (λ w. w.now) said.receipt ≡ first_value words (codes "receipt"))
+    × (option_map (λ w. w.now) said.names ≡ first_value words (codes "names"))
+
 -- an option that is there or not is there, or is not
 pub record IsFlag (words : Found) (name : List ℕ) (is_there : Bool) : Type 0 where
   pub absent : one_text words name ≡ None → is_there ≡ false
@@ -61,15 +79,10 @@ pub record IsFlag (words : Found) (name : List ℕ) (is_there : Bool) : Type 0 w
 
 -- the words of a command, each by its name
 abbrev pub HasWords : Found → Command → Type 0
-HasWords words (Run plan input legs parallelism) =
-    (plan.now ≡ word words (codes "PLAN")) × (input.now ≡ word words (codes "INPUT")) × (option_map (λ w. w.now) legs ≡ first_value words (codes "LEGS"))
-    × (option_map (λ w. w.now) parallelism ≡ first_value words (codes "parallelism"))
+HasWords words (Run said) = HasRunWords words said
 HasWords words (Simulate plan input legs choices) =
     (plan.now ≡ word words (codes "PLAN")) × (input.now ≡ word words (codes "INPUT")) × (legs.now ≡ word words (codes "LEGS")) × (choices.now ≡ word words (codes "CHOICES"))
-HasWords words (Leg plan input scale from stop stop_file save) =
-    (plan.now ≡ word words (codes "PLAN")) × (input.now ≡ word words (codes "INPUT")) × (scale.now ≡ word words (codes "SCALE"))
-    × (option_map (λ w. w.now) from ≡ first_value words (codes "from")) × (option_map (λ w. w.now) stop ≡ first_value words (codes "stop"))
-    × (option_map (λ w. w.now) stop_file ≡ first_value words (codes "stop-file")) × (option_map (λ w. w.now) save ≡ first_value words (codes "save"))
+HasWords words (Leg said) = HasLegWords words said
 HasWords words (Cuts plan input until stays_open) =
     (plan.now ≡ word words (codes "PLAN")) × (input.now ≡ word words (codes "INPUT")) × (option_map (λ w. w.now) until ≡ first_value words (codes "until")) × IsFlag words (codes "open") stays_open
 HasWords words (Layout plan scale) = (plan.now ≡ word words (codes "PLAN")) × (scale.now ≡ word words (codes "SCALE"))

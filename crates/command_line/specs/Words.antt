@@ -28,7 +28,7 @@ command_shape name words = record (new_shape name) { rules = map required_rule w
 
 -- a run's files, of which one may be left out, and an option
 abbrev pub run_shape : Shape
-run_shape = record (new_shape (codes "run")) { rules = required_rule (codes "PLAN") ∷ required_rule (codes "INPUT") ∷ new_rule (codes "LEGS") ∷ option_rule (codes "parallelism") ∷ [] }
+run_shape = record (new_shape (codes "run")) { rules = required_rule (codes "PLAN") ∷ required_rule (codes "INPUT") ∷ new_rule (codes "LEGS") ∷ option_rule (codes "parallelism") ∷ option_rule (codes "receipt") ∷ option_rule (codes "names") ∷ [] }
 
 abbrev pub simulate_shape : Shape
 simulate_shape = command_shape (codes "simulate") (codes "PLAN" ∷ codes "INPUT" ∷ codes "LEGS" ∷ codes "CHOICES" ∷ [])
@@ -36,9 +36,13 @@ simulate_shape = command_shape (codes "simulate") (codes "PLAN" ∷ codes "INPUT
 abbrev pub leg_files_shape : Shape
 leg_files_shape = command_shape (codes "leg") (codes "PLAN" ∷ codes "INPUT" ∷ codes "SCALE" ∷ [])
 
--- a leg's files, and its four options
+-- a leg's files, and how it begins and stops
+abbrev pub leg_stops_shape : Shape
+leg_stops_shape = record leg_files_shape { rules = leg_files_shape.rules ++ option_rule (codes "from") ∷ option_rule (codes "stop") ∷ option_rule (codes "stop-file") ∷ option_rule (codes "save") ∷ [] }
+
+-- and its receipts
 abbrev pub leg_shape : Shape
-leg_shape = record leg_files_shape { rules = leg_files_shape.rules ++ option_rule (codes "from") ∷ option_rule (codes "stop") ∷ option_rule (codes "stop-file") ∷ option_rule (codes "save") ∷ [] }
+leg_shape = record leg_stops_shape { rules = leg_stops_shape.rules ++ option_rule (codes "since") ∷ option_rule (codes "receipt") ∷ option_rule (codes "names") ∷ [] }
 
 -- a plan and an input, and two options
 abbrev pub cuts_shape : Shape

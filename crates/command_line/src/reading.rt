@@ -2,11 +2,12 @@
 
 ghost use Rattle.std.specs.Prelude.{◌≡◌, option_map};
 ghost use Rattle.clap.specs.Words.{found_of, subcommand_name_of};
-ghost use Rattle.command_line.specs.Reading.{word, scale_word, HasCheckWords, HasImportWords, IsFound, IsRead};
+ghost use Rattle.command_line.specs.Reading.{word, scale_word, HasCheckWords, HasImportWords, HasLegWords, HasRunWords, IsFound, IsRead};
 
 use clap::ArgMatches;
-use commands::{CheckWords, Command};
+use commands::{CheckWords, Command, RunWords};
 use import_command::ImportWords;
+use leg_command::LegWords;
 
 fn named<'a>(words: &ArgMatches<'a>, name: &str) -> &'a str
     ensures { result.now ≡ word (found_of words.now) name.now }
@@ -53,6 +54,38 @@ fn check_words<'m>(words: &'m ArgMatches<'_>) -> CheckWords<'m>
     }
 }
 
+/// The words of a run.
+fn run_words<'m>(words: &'m ArgMatches<'_>) -> RunWords<'m>
+    ensures { HasRunWords (found_of words.now) result }
+{
+    RunWords {
+        plan: named(words, "PLAN"),
+        input: named(words, "INPUT"),
+        legs: words.get_str("LEGS"),
+        parallelism: words.get_str("parallelism"),
+        receipt: words.get_str("receipt"),
+        names: words.get_str("names"),
+    }
+}
+
+/// The words of a leg.
+fn leg_words<'m>(words: &'m ArgMatches<'_>) -> LegWords<'m>
+    ensures { HasLegWords (found_of words.now) result }
+{
+    LegWords {
+        plan: named(words, "PLAN"),
+        input: named(words, "INPUT"),
+        scale: named(words, "SCALE"),
+        from: words.get_str("from"),
+        stop: words.get_str("stop"),
+        stop_file: words.get_str("stop-file"),
+        save: words.get_str("save"),
+        since: words.get_str("since"),
+        receipt: words.get_str("receipt"),
+        names: words.get_str("names"),
+    }
+}
+
 /// The command that a name and the words after it say, if the name is one of a command.
 fn command_in<'m>(name: &str, words: &'m ArgMatches<'_>) -> Option<Command<'m>>
     ensures { IsRead name.now (found_of words.now) result }
@@ -70,10 +103,7 @@ fn command_in<'m>(name: &str, words: &'m ArgMatches<'_>) -> Option<Command<'m>>
     }
     match name {
         "run" => Some(Command::Run {
-            plan: named(words, "PLAN"),
-            input: named(words, "INPUT"),
-            legs: words.get_str("LEGS"),
-            parallelism: words.get_str("parallelism"),
+            words: run_words(words),
         }),
         "simulate" => Some(Command::Simulate {
             plan: named(words, "PLAN"),
@@ -82,13 +112,7 @@ fn command_in<'m>(name: &str, words: &'m ArgMatches<'_>) -> Option<Command<'m>>
             choices: named(words, "CHOICES"),
         }),
         "leg" => Some(Command::Leg {
-            plan: named(words, "PLAN"),
-            input: named(words, "INPUT"),
-            scale: named(words, "SCALE"),
-            from: words.get_str("from"),
-            stop: words.get_str("stop"),
-            stop_file: words.get_str("stop-file"),
-            save: words.get_str("save"),
+            words: leg_words(words),
         }),
         "cuts" => Some(Command::Cuts {
             plan: named(words, "PLAN"),

@@ -3,7 +3,7 @@
 ghost use Rattle.std.specs.Prelude.{◌≡◌, IfOk};
 ghost use Rattle.clap.specs.Words.{app_of, new_rule};
 ghost use Rattle.clap.specs.Simple.{new_shape};
-ghost use Rattle.command_line.specs.Words.{AddsRule, IsCommand, required_rule, option_rule, flag_rule, several_rule, run_shape, simulate_shape, leg_files_shape, leg_shape, cuts_shape, layout_shape, check_files_shape, check_shape, import_files_shape, import_names_shape, import_shape, show_shape, group_shape, explain_shape, version_shape, top, jobs, texts, views, program};
+ghost use Rattle.command_line.specs.Words.{AddsRule, IsCommand, required_rule, option_rule, flag_rule, several_rule, run_shape, simulate_shape, leg_files_shape, leg_stops_shape, leg_shape, cuts_shape, layout_shape, check_files_shape, check_shape, import_files_shape, import_names_shape, import_shape, show_shape, group_shape, explain_shape, version_shape, top, jobs, texts, views, program};
 
 use clap::{Arg, ArgAction, Command};
 use std::alloc::{AllocError, Global};
@@ -91,6 +91,11 @@ const LEGS: &str = "JSON file of the legs: for each its scale, and where it stop
 const PARALLELISM: &str =
     "How many subtasks each operator has, 1 to 64 (1); a source no more than partitions; not with LEGS";
 
+const RUN_RECEIPT: &str =
+    "File to write the receipt to, which tells of what was read and printed; not with LEGS";
+
+const NAMES: &str = "File of the table of names, of which the receipt tells too";
+
 const RUN: &str = "\
 Each row is a line `START END KEY NUMBER ..`: a window of time from START up to END, a key,
 and what the plan's aggregates give for the key's records in the window. Rows come in the
@@ -127,7 +132,9 @@ fn run_words<'a>(alloc: Global) -> Result<Command<'a>, AllocError>
     let command = required(alloc, command, "PLAN", PLAN)?;
     let command = required(alloc, command, "INPUT", INPUT)?;
     let command = optional(alloc, command, "LEGS", LEGS)?;
-    option(alloc, command, "parallelism", "N", PARALLELISM)
+    let command = option(alloc, command, "parallelism", "N", PARALLELISM)?;
+    let command = option(alloc, command, "receipt", "FILE", RUN_RECEIPT)?;
+    option(alloc, command, "names", "FILE", NAMES)
 }
 
 const CHOICES: &str =
@@ -158,7 +165,9 @@ end of the input. It prints the rows, as `run` does, whose windows become due on
 that stops leaves a savepoint, which is written before the rows are printed. CUT has how many
 entries lie before it in each partition, with commas between the partitions of a source and
 slashes between sources. With --stop-file it stops where it has come once that file is there, which
-it looks for ten times a second; one that was at the end by then leaves no savepoint.
+it looks for ten times a second; one that was at the end by then leaves no savepoint. A receipt has
+digests of the plan, of the entries before the cut, of the rows and of the table of names; with --since
+a leg goes on only where plan, entries and names are those of the receipt.
 
 Example: streamjob leg plan.json input.json scale.json --stop 2,2/5 --save savepoint
 Page: docs/FORMATS.md, under Scale, Cut and Stop file";
@@ -178,8 +187,9 @@ fn leg_files<'a>(alloc: Global) -> Result<Command<'a>, AllocError>
     required(alloc, command, "SCALE", SCALE)
 }
 
-fn leg_words<'a>(alloc: Global) -> Result<Command<'a>, AllocError>
-    ensures { IfOk result (λ c. IsCommand leg_shape c) }
+/// The same with how it begins and stops.
+fn leg_stops<'a>(alloc: Global) -> Result<Command<'a>, AllocError>
+    ensures { IfOk result (λ c. IsCommand leg_stops_shape c) }
 {
     let command = leg_files(alloc)?;
     let command = option(
@@ -209,6 +219,34 @@ fn leg_words<'a>(alloc: Global) -> Result<Command<'a>, AllocError>
         "save",
         "FILE",
         "File to write the savepoint to, if the leg stops",
+    )
+}
+
+/// The same with its receipts.
+fn leg_words<'a>(alloc: Global) -> Result<Command<'a>, AllocError>
+    ensures { IfOk result (λ c. IsCommand leg_shape c) }
+{
+    let command = leg_stops(alloc)?;
+    let command = option(
+        alloc,
+        command,
+        "since",
+        "FILE",
+        "Receipt of the leg that left the savepoint: what it tells of has to be as it was; with --from",
+    )?;
+    let command = option(
+        alloc,
+        command,
+        "receipt",
+        "FILE",
+        "File to write the receipt to, which tells of what was read before the cut, and printed",
+    )?;
+    option(
+        alloc,
+        command,
+        "names",
+        "FILE",
+        "File of the table of names, of which receipts tell too",
     )
 }
 

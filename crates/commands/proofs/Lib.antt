@@ -1,4 +1,3 @@
 mod AsLeg
-mod Given
 mod Named
 mod Plans

@@ -13,7 +13,7 @@ use Rattle.logical_plan.specs.declared.fault.PlanFault.{PlanFault}
 use Rattle.input_texts.specs.Answer.{input_of_bytes}
 use Rattle.plan_scale.specs.Answer as scales
 use Rattle.fault_places.specs.Answer as places
-use Rattle.commands.specs.Answers.{CannotRead}
+use Rattle.command_files.specs.Files.{CannotRead}
 use Rattle.commands.specs.declared.check_words.CheckWords.{CheckWords}
 
 -- what checking one text answers, where there is one: Ok where it meets what is asked, else its first fault, unless memory ran out

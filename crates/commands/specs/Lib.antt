@@ -1,5 +1,6 @@
 pub mod Answers
-pub mod Outcome
-pub mod Status
 pub mod Checking
 pub mod Importing
+pub mod Outcome
+pub mod Running
+pub mod Status

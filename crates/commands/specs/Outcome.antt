@@ -1,21 +1,31 @@
 -- What comes of a command.
-use Rattle.std.specs.Prelude.{◌≡◌, Result, Ok, Err, IfErr, is_some, option_map}
+use Rattle.std.specs.Prelude.{◌≡◌, Result, Ok, Err, IfErr, option_map}
 use Rattle.job_texts.specs.declared.fault.JobFault.{JobFault}
 use Rattle.job_texts.specs.declared.fault.JobFault.TheVariants.{Write as WriteFault}
 use Rattle.user_texts.specs.declared.writing.TextFault.{TextFault}
 use Rattle.user_texts.specs.declared.writing.TextFault.TheVariants as text
-use Rattle.commands.specs.Answers.{AnswersRun, AnswersSimulate, AnswersLeg, AnswersCuts, AnswersLayout, AnswersShow, AnswersGroup, AnswersExplain}
+use Rattle.leg_command.specs.Answers.{AnswersLeg}
+use Rattle.leg_command.specs.declared.fault.LegRefusal.{LegRefusal}
+use Rattle.leg_command.specs.declared.fault.LegRefusal.TheVariants as refusal
+use Rattle.commands.specs.Running.{AnswersRun}
+use Rattle.commands.specs.Answers.{AnswersSimulate, AnswersCuts, AnswersLayout, AnswersShow, AnswersGroup, AnswersExplain}
 use Rattle.commands.specs.Checking.{AnswersCheck}
 use Rattle.commands.specs.Importing.{AnswersImport}
 use Rattle.commands.specs.declared.command.Command.{Command}
 use Rattle.commands.specs.declared.command.Command.TheVariants.{Run, Simulate, Leg, Cuts, Layout, Check, Import, Show, Group, Explain, Version}
 use Rattle.commands.specs.declared.fault.CommandFault.{CommandFault}
-use Rattle.commands.specs.declared.fault.CommandFault.TheVariants.{Job, NoPage}
+use Rattle.commands.specs.declared.fault.CommandFault.TheVariants.{Job, Receipt, NoPage}
 
 -- what comes of a command on a job
 abbrev pub after_command : Result (Unit {0}) JobFault → Result (Unit {0}) CommandFault
 after_command (Ok _) = Ok tt
 after_command (Err fault) = Err (Job fault)
+
+-- what comes of the command `leg`
+abbrev pub after_leg : Result (Unit {0}) LegRefusal → Result (Unit {0}) CommandFault
+after_leg (Ok _) = Ok tt
+after_leg (Err (refusal.Job fault)) = Err (Job fault)
+after_leg (Err (refusal.Receipt fault)) = Err (Receipt fault)
 
 -- what comes of a command on a text of the program's own
 abbrev pub after_text : Result (Unit {0}) TextFault → Result (Unit {0}) CommandFault
@@ -32,9 +42,9 @@ AnswersVersion result = IfErr result (λ fault. fault ≡ text.Write)
 
 -- the outcome is that of the command, on the files that it names
 abbrev pub Performs : Command → Result (Unit {0}) CommandFault → Type 0
-Performs (Run plan input legs parallelism) result = Comes after_command (AnswersRun (is_some legs) (option_map (λ word. word.now) parallelism)) result
+Performs (Run words) result = Comes after_command (AnswersRun words) result
 Performs (Simulate plan input legs choices) result = Comes after_command AnswersSimulate result
-Performs (Leg plan input scale from stop stop_file save) result = Comes after_command (AnswersLeg (is_some from) (option_map (λ word. word.now) stop) (is_some stop_file) (is_some save)) result
+Performs (Leg words) result = Comes after_leg (AnswersLeg words) result
 Performs (Cuts plan input until stays_open) result = Comes after_command (AnswersCuts (option_map (λ word. word.now) until) stays_open) result
 Performs (Layout plan scale) result = Comes after_command AnswersLayout result
 Performs (Check words) result = Comes after_command (AnswersCheck words) result

@@ -1,15 +1,18 @@
 //! What each command does.
 
-ghost use Rattle.std.specs.Prelude.{◌≡◌, false, is_some, None, option_map, Some, IfErr};
-ghost use Rattle.commands.specs.Answers.{AnswersRun, AnswersSimulate, IsQuestion, AnswersCuts, AnswersLayout, AnswersShow, AnswersGroup, AnswersExplain};
+ghost use Rattle.std.specs.Prelude.{◌≡◌, is_some, None, option_map, Some, IfErr};
+ghost use Rattle.commands.specs.Running.{AnswersRows, AnswersRun, AnswersTold};
+ghost use Rattle.commands.specs.Answers.{AnswersSimulate, IsQuestion, AnswersCuts, AnswersLayout, AnswersShow, AnswersGroup, AnswersExplain};
 
-use crate::files::{file, optional_file};
 use crate::installed::commit;
+use crate::run_words::RunWords;
+use command_files::{file, optional_file};
 use job::{
     CutQuestion, HashKeys, JobFault, OpenGate, job_cuts, job_group, job_layout, job_run,
     job_run_parallel, job_show, job_simulate,
 };
-use std::io::{Write, writer};
+use leg_command::{RunFiles, run_with_receipt};
+use std::io::writer;
 use std::random::RandomSource;
 use std::rt::Files;
 use std::sync::Wait;
@@ -20,15 +23,13 @@ use user_texts::{TextFault, write_version};
 /// Prints the rows of a plan on an input, in legs where a list of them is named.
 fn run_in_legs<R: Files + Print + RandomSource + Threads + Wait + Clock + Sync + AllocGlobal>(
     rt: &R,
-    plan: &str,
-    input: &str,
-    legs: Option<&str>,
+    words: &RunWords<'_>,
 ) -> Result<(), JobFault>
-    ensures { AnswersRun (is_some legs.entry) None result }
+    ensures { AnswersRows (is_some words.now.legs) None result }
 {
-    let plan = file(rt, plan)?;
-    let input = file(rt, input)?;
-    let list = optional_file(rt, legs)?;
+    let plan = file(rt, words.plan)?;
+    let input = file(rt, words.input)?;
+    let list = optional_file(rt, words.legs)?;
     let Ok(keys) = HashKeys::random(rt) else {
         return Err(JobFault::Read);
     };
@@ -48,14 +49,13 @@ fn run_in_legs<R: Files + Print + RandomSource + Threads + Wait + Clock + Sync +
 /// Prints the rows of a plan on an input, run in as many subtasks as a word spells.
 fn run_parallel<R: Files + Print + RandomSource + Threads + Wait + Clock + Sync + AllocGlobal>(
     rt: &R,
-    plan: &str,
-    input: &str,
+    words: &RunWords<'_>,
     parallelism: &str,
 ) -> Result<(), JobFault>
-    ensures { AnswersRun false (Some parallelism.now) result }
+    ensures { AnswersRows (is_some words.now.legs) (Some parallelism.now) result }
 {
-    let plan = file(rt, plan)?;
-    let input = file(rt, input)?;
+    let plan = file(rt, words.plan)?;
+    let input = file(rt, words.input)?;
     let Ok(keys) = HashKeys::random(rt) else {
         return Err(JobFault::Read);
     };
@@ -73,25 +73,55 @@ fn run_parallel<R: Files + Print + RandomSource + Threads + Wait + Clock + Sync 
 }
 
 /// Prints the rows of a plan on an input, in legs where a list of them is named, or in so many subtasks.
+fn run_rows<R: Files + Print + RandomSource + Threads + Wait + Clock + Sync + AllocGlobal>(
+    rt: &R,
+    words: &RunWords<'_>,
+) -> Result<(), JobFault>
+    ensures { AnswersRows (is_some words.now.legs) (option_map (λ word. word.now) words.now.parallelism) result }
+{
+    match words.parallelism {
+        None => run_in_legs(rt, words),
+        Some(parallelism) => run_parallel(rt, words, parallelism),
+    }
+}
+
+/// The same, once the receipt of the run is written, where there is to be one.
+fn run_told<R: Files + Print + RandomSource + Threads + Wait + Clock + Sync + AllocGlobal>(
+    rt: &R,
+    words: &RunWords<'_>,
+) -> Result<(), JobFault>
+    ensures { AnswersTold (is_some words.now.receipt) words.now result }
+{
+    let Some(receipt) = words.receipt else {
+        return run_rows(rt, words);
+    };
+    let files = RunFiles {
+        plan: words.plan,
+        input: words.input,
+        receipt,
+        names: words.names,
+    };
+    run_with_receipt(rt, &files, words.parallelism)
+}
+
+/// Prints the rows of a plan on an input, in legs where a list of them is named, or in so many subtasks, and leaves a receipt where a
+/// file is named for it.
 ///
 /// # Errors
 ///
-/// `Number` where both are named, since each leg has a scale of its own; `Read` where a file cannot be read; else the fault of
-/// `job_run`, or of `job_run_parallel`.
+/// `Number` where words do not go together: a parallelism or a receipt beside a list of legs, or a table of names without a
+/// receipt; `Read` where a file cannot be read; else the fault of `job_run`, or of `job_run_parallel`; `Write` where the receipt cannot
+/// be written.
 pub fn run<R: Files + Print + RandomSource + Threads + Wait + Clock + Sync + AllocGlobal>(
     rt: &R,
-    plan: &str,
-    input: &str,
-    legs: Option<&str>,
-    parallelism: Option<&str>,
+    words: &RunWords<'_>,
 ) -> Result<(), JobFault>
-    ensures { AnswersRun (is_some legs.entry) (option_map (λ word. word.now) parallelism.entry) result }
+    ensures { AnswersRun words.now result }
 {
-    match (legs, parallelism) {
-        (legs, None) => run_in_legs(rt, plan, input, legs),
-        (None, Some(parallelism)) => run_parallel(rt, plan, input, parallelism),
-        (Some(_), Some(_)) => Err(JobFault::Number),
+    if words.are_wrong() {
+        return Err(JobFault::Number);
     }
+    run_told(rt, words)
 }
 
 /// Prints the rows of a plan on an input in legs, by an order of steps that choices pick.
@@ -117,17 +147,6 @@ pub fn simulate<R: Files + Print + RandomSource + AllocGlobal>(
     };
     let mut out = writer(rt);
     job_simulate(rt.alloc(), keys, &plan, input, &legs, &choices, &mut out)
-}
-
-/// Prints bytes.
-pub fn print<R: Print>(rt: &R, bytes: &[u8]) -> Result<(), JobFault>
-    ensures { IfErr result (λ fault. fault ≡ JobFault.Write) }
-{
-    let mut out = writer(rt);
-    if out.write_all(bytes).is_err() || out.flush().is_err() {
-        return Err(JobFault::Write);
-    }
-    Ok(())
 }
 
 /// What is asked of an input: of its partitions, or of the first cut for a time, or of the last that leaves it open.
@@ -217,7 +236,7 @@ pub fn group<R: Print + AllocGlobal>(
 pub fn explain<R: Print + AllocGlobal>(rt: &R, code: &str) -> Result<(), TextFault>
     ensures { AnswersExplain code.now result }
 {
-    user_texts::explain(code, &mut writer(rt))
+    fault_pages::explain(code, &mut writer(rt))
 }
 
 /// Prints the version of the program and its toolchain, and the commit that it is of, where it is installed.

@@ -11,7 +11,7 @@ ghost use Rattle.job.specs.Start.{BeginsLeg};
 ghost use Rattle.commands.specs.Checking.{AnswersCheck, ChecksPart, ChecksParts, ChecksTexts, begins_by, begins_on};
 
 use crate::check_words::{CheckWords, warn_of_words};
-use crate::files::file;
+use command_files::file;
 use fault_places::{check_input, check_plan, check_scale};
 use job::{JobFault, job_start};
 use plan_model::Plan;

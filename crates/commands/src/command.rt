@@ -1,17 +1,16 @@
 //! The commands, with their words.
 
 use crate::check_words::CheckWords;
+use crate::run_words::RunWords;
 use import_command::ImportWords;
+use leg_command::LegWords;
 
 /// What the program is to do.
 #[derive(Drop)]
 pub enum Command<'a> {
     /// Print the rows of a plan on an input, in legs where a list of them is named, or in so many subtasks.
     Run {
-        plan: &'a str,
-        input: &'a str,
-        legs: Option<&'a str>,
-        parallelism: Option<&'a str>,
+        words: RunWords<'a>,
     },
     /// Print the rows of a plan on an input in legs, by an order of steps that choices pick.
     Simulate {
@@ -22,13 +21,7 @@ pub enum Command<'a> {
     },
     /// Print the rows of one leg of a job.
     Leg {
-        plan: &'a str,
-        input: &'a str,
-        scale: &'a str,
-        from: Option<&'a str>,
-        stop: Option<&'a str>,
-        stop_file: Option<&'a str>,
-        save: Option<&'a str>,
+        words: LegWords<'a>,
     },
     /// Print how far the partitions of an input go, or the first cut for a time, or the last that leaves the input open.
     Cuts {

@@ -3,11 +3,14 @@
 ghost use Rattle.std.specs.Prelude.{◌≡◌};
 ghost use Rattle.import_words.specs.Status.{status as import_status};
 ghost use Rattle.job_texts.specs.FaultText as fault_text;
-ghost use Rattle.commands.specs.Outcome.{after_command, after_text};
+ghost use Rattle.receipts.specs.FaultLine.{receipt_status};
+ghost use Rattle.commands.specs.Outcome.{after_command, after_leg, after_text};
 ghost use Rattle.commands.specs.Status as statuses;
 
 use import_words::ImportFault;
 use job::{JobFault, status_of};
+use leg_command::LegRefusal;
+use receipts::ReceiptFault;
 use user_texts::TextFault;
 
 /// Why a command is not done.
@@ -15,6 +18,8 @@ use user_texts::TextFault;
 pub enum CommandFault {
     /// The job has no answer.
     Job(JobFault),
+    /// A leg does not go on by a receipt.
+    Receipt(ReceiptFault),
     /// An input is not written.
     Import(ImportFault),
     /// No refusal has the code that was to be explained.
@@ -28,6 +33,17 @@ pub fn after_job(answer: Result<(), JobFault>) -> Result<(), CommandFault>
     match answer {
         Ok(()) => Ok(()),
         Err(fault) => Err(CommandFault::Job(fault)),
+    }
+}
+
+/// What comes of the command `leg`.
+pub fn after_leg(answer: Result<(), LegRefusal>) -> Result<(), CommandFault>
+    ensures { result ≡ after_leg answer }
+{
+    match answer {
+        Ok(()) => Ok(()),
+        Err(LegRefusal::Job(fault)) => Err(CommandFault::Job(fault)),
+        Err(LegRefusal::Receipt(fault)) => Err(CommandFault::Receipt(fault)),
     }
 }
 
@@ -48,6 +64,14 @@ fn failed<R: Eprint>(rt: &R, fault: &JobFault) -> u8
 {
     let _ = rt.eprintln(fault);
     status_of(fault)
+}
+
+/// Says why a leg does not go on by a receipt, which needs no memory.
+fn not_gone_on<R: Eprint>(rt: &R, fault: &ReceiptFault) -> u8
+    ensures { result ≡ receipt_status fault.now }
+{
+    let _ = rt.eprintln(fault);
+    receipts::status_of(fault)
 }
 
 /// Says why an input is not written, which needs no memory.
@@ -72,6 +96,7 @@ pub fn told<R: Eprint>(rt: &R, fault: &CommandFault) -> u8
 {
     match fault {
         CommandFault::Job(fault) => failed(rt, fault),
+        CommandFault::Receipt(fault) => not_gone_on(rt, fault),
         CommandFault::Import(fault) => not_imported(rt, fault),
         CommandFault::NoPage => no_page(rt),
     }

@@ -4,7 +4,7 @@ ghost use Rattle.std.specs.Prelude.{◌≡◌};
 ghost use Rattle.commands.specs.Importing.{AnswersImport, ReadsPlan, ReadsText, after_import};
 
 use crate::fault::CommandFault;
-use crate::files::file;
+use command_files::file;
 use import_command::ImportWords;
 use import_words::ImportFault;
 use job::JobFault;

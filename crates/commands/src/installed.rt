@@ -1,7 +1,7 @@
 //! The commit that an installed program is of. For each call of the system a path is copied onto the stack, so functions that
 //! make one have frames of their own.
 
-use crate::files::file;
+use command_files::file;
 use std::fs;
 use std::rt::Files;
 

@@ -6,15 +6,13 @@ mod check_words;
 mod checking;
 mod command;
 mod fault;
-mod files;
 mod importing;
 mod installed;
-mod one_leg;
 mod performing;
-mod saving;
-mod stop_file;
+mod run_words;
 
 pub use check_words::CheckWords;
 pub use command::Command;
 pub use fault::{CommandFault, told};
 pub use performing::performed;
+pub use run_words::RunWords;

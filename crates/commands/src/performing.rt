@@ -5,9 +5,9 @@ ghost use Rattle.commands.specs.Outcome.{Performs};
 use crate::actions::{cuts, explain, group, layout, run, show, simulate, version};
 use crate::checking::check;
 use crate::command::Command;
-use crate::fault::{CommandFault, after_job, after_page};
+use crate::fault::{CommandFault, after_job, after_leg, after_page};
 use crate::importing::import;
-use crate::one_leg::{LegFiles, leg};
+use leg_command::leg;
 use std::random::RandomSource;
 use std::rt::Files;
 use std::sync::Wait;
@@ -32,36 +32,14 @@ pub fn performed<
     ensures { Performs command.now result }
 {
     match command {
-        Command::Run {
-            plan,
-            input,
-            legs,
-            parallelism,
-        } => after_job(run(rt, plan, input, *legs, *parallelism)),
+        Command::Run { words } => after_job(run(rt, words)),
         Command::Simulate {
             plan,
             input,
             legs,
             choices,
         } => after_job(simulate(rt, plan, input, legs, choices)),
-        Command::Leg {
-            plan,
-            input,
-            scale,
-            from,
-            stop,
-            stop_file,
-            save,
-        } => {
-            let files = LegFiles {
-                plan,
-                input,
-                scale,
-                from: *from,
-                save: *save,
-            };
-            after_job(leg(rt, &files, *stop, *stop_file))
-        }
+        Command::Leg { words } => after_leg(leg(rt, words)),
         Command::Cuts {
             plan,
             input,

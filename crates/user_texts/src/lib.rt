@@ -1,12 +1,8 @@
-//! What the program says of itself: its version, and the page of each fault.
+//! What the program says of its version, and how a text is written.
 #![tactic(auto)]
 
-mod other_pages;
-mod page;
-mod text_pages;
 mod version;
 mod writing;
 
-pub use page::{FaultPage, explain};
 pub use version::{LONGEST_COMMIT, VERSION, write_version};
-pub use writing::TextFault;
+pub use writing::{TextFault, write_text};

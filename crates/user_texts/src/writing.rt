@@ -14,8 +14,12 @@ pub enum TextFault {
     Write,
 }
 
-/// Writes a text whole.
-pub(crate) fn write_text<W: Write>(out: &mut W, text: &str) -> Result<(), TextFault>
+/// Writes a text whole, and flushes what it is written to.
+///
+/// # Errors
+///
+/// `Write` where the writer refuses it.
+pub fn write_text<W: Write>(out: &mut W, text: &str) -> Result<(), TextFault>
     ensures { MatchResult result (λ _. Appends (W.contents out.old) (W.contents out.new) text.now) (λ fault. fault ≡ TextFault.Write) }
 {
     if out.write_all(text.as_bytes()).is_err() || out.flush().is_err() {

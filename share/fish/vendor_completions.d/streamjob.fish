@@ -16,12 +16,17 @@ complete -c streamjob -n '__fish_seen_subcommand_from help' -a 'run simulate leg
 complete -c streamjob -s h -l help -d 'Print help'
 complete -c streamjob -n '__fish_seen_subcommand_from run' -F
 complete -c streamjob -n '__fish_seen_subcommand_from run' -l parallelism -r -d 'How many subtasks each operator has, 1 to 64 (1); a source no more than partitions; not with LEGS' -f
+complete -c streamjob -n '__fish_seen_subcommand_from run' -l receipt -r -d 'File to write the receipt to, which tells of what was read and printed; not with LEGS' -F
+complete -c streamjob -n '__fish_seen_subcommand_from run' -l names -r -d 'File of the table of names, of which the receipt tells too' -F
 complete -c streamjob -n '__fish_seen_subcommand_from simulate' -F
 complete -c streamjob -n '__fish_seen_subcommand_from leg' -F
 complete -c streamjob -n '__fish_seen_subcommand_from leg' -l from -r -d 'File of the savepoint to go on from' -F
 complete -c streamjob -n '__fish_seen_subcommand_from leg' -l stop -r -d 'Cut to stop at; without it the leg goes to the end of the input' -f
 complete -c streamjob -n '__fish_seen_subcommand_from leg' -l stop-file -r -d 'File that stops the leg where it is, once it is there; with --save, and not with --stop' -F
 complete -c streamjob -n '__fish_seen_subcommand_from leg' -l save -r -d 'File to write the savepoint to, if the leg stops' -F
+complete -c streamjob -n '__fish_seen_subcommand_from leg' -l since -r -d 'Receipt of the leg that left the savepoint: what it tells of has to be as it was; with --from' -f
+complete -c streamjob -n '__fish_seen_subcommand_from leg' -l receipt -r -d 'File to write the receipt to, which tells of what was read before the cut, and printed' -F
+complete -c streamjob -n '__fish_seen_subcommand_from leg' -l names -r -d 'File of the table of names, of which receipts tell too' -F
 complete -c streamjob -n '__fish_seen_subcommand_from import' -F
 complete -c streamjob -n '__fish_seen_subcommand_from import' -l names -r -d 'File of the table of names, read where it is there, and written' -F
 complete -c streamjob -n '__fish_seen_subcommand_from import' -l bound -r -d 'How far behind the greatest time of earlier entries a record may come; without it there are no watermarks' -f
@@ -37,4 +42,4 @@ complete -c streamjob -n '__fish_seen_subcommand_from check' -l stop -r -d 'Cut 
 complete -c streamjob -n '__fish_seen_subcommand_from check' -l save -r -d 'File that its savepoint is to be written to; nothing is written' -F
 complete -c streamjob -n '__fish_seen_subcommand_from show' -F
 complete -c streamjob -n '__fish_seen_subcommand_from group' -f
-complete -c streamjob -n '__fish_seen_subcommand_from explain' -f -a 'C1 C2 D1 D2 F1 F2 P1 P2 P3 P4 P5 P6 P7 P8 P9 P10 P11 P12 P13 P14 P15 I1 I2 I3 I4 I5 I6 I7 I8 I9 I10 D3 D4 D5 D6 D7 D8 D9 S1 S2 S3 S4 S5 S6 S7 V1 V2 V3 V4 V5 Q1 Q2 Q3 Q4 Q5 Q6 Q7 Q8 Q9 Q11 Q12 L1 L3 L4 L5 L6 L7 memory'
+complete -c streamjob -n '__fish_seen_subcommand_from explain' -f -a 'C1 C2 D1 D2 F1 F2 P1 P2 P3 P4 P5 P6 P7 P8 P9 P10 P11 P12 P13 P14 P15 I1 I2 I3 I4 I5 I6 I7 I8 I9 I10 D3 D4 D5 D6 D7 D8 D9 S1 S2 S3 S4 S5 S6 S7 V1 V2 V3 V4 V5 Q1 Q2 Q3 Q4 Q5 Q6 Q7 Q8 Q9 Q11 Q12 R1 R2 R5 L1 L3 L4 L5 L6 L7 memory'

@@ -1,9 +1,0 @@
-use Rattle.std.proofs.Common.{option_map}
-use Rattle.job.specs.Leg.{IsLegDone, leg_said}
-use Rattle.commands.proofs.Given.{come}
-use Rattle.commands.proofs.one_leg.done_leg.Goals as goal
-
-pub returns : goal.returns
-returns g c =
-    let said = leg_said c.args.plan.now c.args.input.items c.args.scale.now (option_map (λ bytes. bytes.now) c.args.from) (option_map (λ word. word.now) c.args.stop) in
-    come (λ saved. option_map (λ bytes. bytes.items) saved) IsLegDone said c.new-rows.result.items c.job_leg-answer.new.out.items c.new-rows.ensures.items c.job_leg-answer.result c.job_leg-answer.ensures.answers c.given.result c.given.ensures

@@ -1,0 +1,4 @@
+use Rattle.fault_pages.proofs.page.savepoint_page_of.Goals as goal
+
+pub returns : goal.returns
+returns c = c.text_with.ensures

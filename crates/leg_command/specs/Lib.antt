@@ -1,0 +1,3 @@
+pub mod Answers
+pub mod Receipts
+pub mod Runs

@@ -1,0 +1,237 @@
+//! From the words of `leg` to what comes of it.
+
+ghost use Rattle.std.specs.Prelude.{◌≡◌, ◌⊎◌, None, option_map};
+ghost use Rattle.job.specs.Leg.{leg_said};
+ghost use Rattle.command_files.specs.Files.{CannotRead};
+ghost use Rattle.leg_command.specs.Answers.{AnswersLeg, AnswersStop, ComesOfAskedLeg, ComesOfLeg, ComesOfTexts};
+
+use crate::fault::{LegRefusal, after_job};
+use crate::giving::{NewReceipt, given};
+use crate::since::check_before;
+use crate::stop_file::StopFile;
+use crate::stops::{LegStop, stop_of};
+use crate::texts::{LegTexts, read_texts};
+use crate::words::LegWords;
+use job::{HashKeys, OpenGate, job_leg, job_leg_asked};
+use job_texts::JobFault;
+use std::alloc::{AllocError, Global};
+use std::random::RandomSource;
+use std::rt::Files;
+use std::sync::Wait;
+use std::thread::Threads;
+use std::time::Clock;
+
+/// The texts of a leg but for its input, lent, and what it is to leave.
+#[derive(Clone, Copy)]
+struct LegJob<'a> {
+    plan: &'a [u8],
+    scale: &'a [u8],
+    from: Option<&'a [u8]>,
+    /// Where its savepoint goes.
+    save: Option<&'a str>,
+    receipt: Option<NewReceipt<'a>>,
+}
+
+/// Runs the leg that texts tell to the cut of a word, or to the end, and gives what it gives.
+fn done_leg<R: Files + Print + RandomSource + Threads + Wait + Clock + Sync + AllocGlobal>(
+    rt: &R,
+    keys: HashKeys,
+    job: LegJob<'_>,
+    input: Vec<u8>,
+    stop: Option<&str>,
+) -> Result<(), JobFault>
+    ensures { ComesOfLeg (leg_said job.entry.plan.now input.items job.entry.scale.now (option_map (λ bytes. bytes.now) job.entry.from) (option_map (λ word. word.now) stop.entry)) result }
+{
+    let mut rows = Vec::new(rt.alloc());
+    let answer = job_leg(
+        rt,
+        rt.alloc(),
+        keys,
+        job.plan,
+        input,
+        job.scale,
+        job.from,
+        stop,
+        &OpenGate,
+        &mut rows,
+    );
+    given(rt, job.save, job.receipt, answer, &rows)
+}
+
+/// Runs the leg that texts tell till a file is there, or to the end, and gives what it gives.
+fn asked_leg<
+    R: Files<File: Send, Dir: Send>
+        + Print
+        + RandomSource
+        + Threads
+        + Wait
+        + Clock
+        + Sync
+        + AllocGlobal,
+>(
+    rt: &R,
+    keys: HashKeys,
+    job: LegJob<'_>,
+    input: Vec<u8>,
+    file: &StopFile<'_, '_, R>,
+) -> Result<(), JobFault>
+    ensures { ComesOfAskedLeg (leg_said job.entry.plan.now input.items job.entry.scale.now (option_map (λ bytes. bytes.now) job.entry.from) None) result }
+{
+    let asked = file.word()?;
+    let mut rows = Vec::new(rt.alloc());
+    let answer = job_leg_asked(
+        rt,
+        rt.alloc(),
+        keys,
+        job.plan,
+        input,
+        job.scale,
+        job.from,
+        asked,
+        file,
+        &mut rows,
+    );
+    given(rt, job.save, job.receipt, answer, &rows)
+}
+
+/// Runs the leg that texts tell, and gives what it gives.
+fn stopped_leg<
+    R: Files<File: Send, Dir: Send>
+        + Print
+        + RandomSource
+        + Threads
+        + Wait
+        + Clock
+        + Sync
+        + AllocGlobal,
+>(rt: &R, job: LegJob<'_>, input: Vec<u8>, stop: LegStop<'_>) -> Result<(), JobFault>
+    ensures { CannotRead result ⊎ ComesOfTexts stop.entry job.entry.plan.now input.items job.entry.scale.now (option_map (λ bytes. bytes.now) job.entry.from) result }
+{
+    let Ok(keys) = HashKeys::random(rt) else {
+        return Err(JobFault::Read);
+    };
+    match stop {
+        LegStop::At(word) => done_leg(rt, keys, job, input, word),
+        LegStop::Once(path) => {
+            let file = StopFile::new(rt, path)?;
+            asked_leg(rt, keys, job, input, &file)
+        }
+    }
+}
+
+/// A copy of the text of an input, where a receipt is to tell of it.
+fn copied(alloc: Global, receipt: Option<&str>, input: &[u8]) -> Result<Vec<u8>, AllocError> {
+    match receipt {
+        Some(_) => input.to_vec(alloc),
+        None => Ok(Vec::new(alloc)),
+    }
+}
+
+/// The receipt that a leg of texts is to leave, where it has a path.
+fn new_receipt<'a>(
+    path: Option<&'a str>,
+    texts: &'a LegTexts,
+    input: &'a [u8],
+) -> Option<NewReceipt<'a>> {
+    let path = path?;
+    Some(NewReceipt {
+        path,
+        plan: &texts.plan,
+        input,
+        from: texts.from.as_deref(),
+        names: texts.names.as_deref(),
+    })
+}
+
+/// The texts of a leg, lent, and what it is to leave.
+fn job_of<'a>(
+    texts: &'a LegTexts,
+    input: &'a [u8],
+    save: Option<&'a str>,
+    receipt: Option<&'a str>,
+) -> LegJob<'a>
+    ensures plan { result.plan.now ≡ texts.now.plan.items }
+    ensures scale { result.scale.now ≡ texts.now.scale.items }
+    ensures from { option_map (λ bytes. bytes.now) result.from ≡ option_map (λ bytes. bytes.items) texts.now.from }
+{
+    LegJob {
+        plan: &texts.plan,
+        scale: &texts.scale,
+        from: texts.from.as_deref(),
+        save,
+        receipt: new_receipt(receipt, texts, input),
+    }
+}
+
+/// Runs the leg that the texts of files tell, and gives what it gives.
+fn leg_of_texts<
+    R: Files<File: Send, Dir: Send>
+        + Print
+        + RandomSource
+        + Threads
+        + Wait
+        + Clock
+        + Sync
+        + AllocGlobal,
+>(
+    rt: &R,
+    words: &LegWords<'_>,
+    texts: &LegTexts,
+    input: Vec<u8>,
+    stop: LegStop<'_>,
+) -> Result<(), JobFault>
+    ensures { CannotRead result ⊎ ComesOfTexts stop.entry texts.now.plan.items input.items texts.now.scale.items (option_map (λ bytes. bytes.items) texts.now.from) result }
+{
+    let copy = copied(rt.alloc(), words.receipt, &input)?;
+    let job = job_of(texts, &copy, words.save, words.receipt);
+    stopped_leg(rt, job, input, stop)
+}
+
+/// Runs the leg that files tell, unless a receipt tells of others, and gives what it gives.
+fn leg_of_files<
+    R: Files<File: Send, Dir: Send>
+        + Print
+        + RandomSource
+        + Threads
+        + Wait
+        + Clock
+        + Sync
+        + AllocGlobal,
+>(rt: &R, words: &LegWords<'_>, stop: LegStop<'_>) -> Result<(), LegRefusal>
+    ensures { AnswersStop words.now stop.entry result }
+{
+    let (texts, input) = read_texts(rt, words)?;
+    let from = texts.from.as_deref();
+    let since = texts.since.as_deref();
+    let names = texts.names.as_deref();
+    check_before(rt.alloc(), &texts.plan, &input, from, since, names)?;
+    after_job(leg_of_texts(rt, words, &texts, input, stop))
+}
+
+/// Prints the rows of one leg of a job, once the savepoint that it leaves where it stops is written, and its receipt, if files are
+/// named for them. With `since` it goes on only where the plan, the entries before the savepoint's cut and the table of names are
+/// those that the receipt tells of.
+///
+/// # Errors
+///
+/// `Number` where words of receipts do not go with the others; `Cut` where a file is to stop the leg, and so is a cut, or its savepoint
+/// would be lost; `Read` where a file cannot be read; what is not as the receipt tells; else the fault of `job_leg`, or of
+/// `job_leg_asked`; `Write` where the savepoint, the receipt or the rows cannot be written.
+pub fn leg<
+    R: Files<File: Send, Dir: Send>
+        + Print
+        + RandomSource
+        + Threads
+        + Wait
+        + Clock
+        + Sync
+        + AllocGlobal,
+>(rt: &R, words: &LegWords<'_>) -> Result<(), LegRefusal>
+    ensures { AnswersLeg words.now result }
+{
+    if words.are_wrong() {
+        return Err(LegRefusal::Job(JobFault::Number));
+    }
+    let stop = stop_of(words)?;
+    leg_of_files(rt, words, stop)
+}

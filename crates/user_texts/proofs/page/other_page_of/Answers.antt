@@ -1,4 +1,0 @@
-use Rattle.user_texts.proofs.page.other_page_of.Goals as goal
-
-pub returns : goal.returns
-returns c = c.text_with.ensures
