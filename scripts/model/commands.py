@@ -2,6 +2,7 @@
 import collections
 import itertools
 
+from . import receipts
 from .jobs import (
     LEAST, Refusal, SINK, ends_of, leg, level_stages, nothing_of, read_cut, read_input, read_legs, read_plan, read_scale, read_time, require, require_choices, require_stop,
     text_of, watermark_at,
@@ -44,9 +45,15 @@ def run_parallel(files, plan, input_, parallelism):
 
 
 def run_leg(files, plan, input_, scale, *options):
-    """The answer of `leg`, whose options are `--from FILE`, `--stop CUT`, `--save FILE`, and `--stop-file FILE`, which is there from the first or never."""
+    """The answer of `leg`, whose options are `--from FILE`, `--stop CUT`, `--save FILE`, `--stop-file FILE`, which is there from the first or never, and those of receipts,
+    `--since FILE`, `--receipt FILE` and `--names FILE`."""
     options = dict(zip(options[::2], options[1::2]))
+    require("--since" not in options or "--from" in options, "C2 Number")
+    require("--names" not in options or "--since" in options or "--receipt" in options, "C2 Number")
+    require("--receipt" not in options or options["--receipt"] != options.get("--save"), "C2 Number")
     require("--stop-file" not in options or ("--stop" not in options and "--save" in options), "C1 Cut")
+    if "--since" in options:
+        require_receipt(files, plan, input_, options)
     plan = read_plan(files[plan])
     sources = read_input(plan, files[input_])
     read_scale(plan, files[scale])
@@ -60,7 +67,33 @@ def run_leg(files, plan, input_, scale, *options):
     rows, left = leg(plan, sources, start, start.cut if is_asked else cut)
     if "--save" in options and ("--stop" in options or is_asked):
         files[options["--save"]] = encode(savepoint_of(plan, sources, left))
-    return text_of(plan, rows)
+    text = text_of(plan, rows)
+    if "--receipt" in options:
+        files[options["--receipt"]] = receipts.text_of(plan, sources, left.cut, left.number, text, files.get(options.get("--names")))
+    return text
+
+
+def require_receipt(files, plan, input_, options):
+    """Refuses a leg that goes on by a receipt of something else. What the leg refuses of the texts is left to it."""
+    try:
+        read = read_plan(files[plan])
+        sources = read_input(read, files[input_])
+        start = check(read, sources, decode(files[options["--from"]]))
+    except Refusal:
+        return
+    receipts.check(read, sources, start.cut, files[options["--since"]], files.get(options.get("--names")))
+
+
+def run_told(files, plan, input_, *options):
+    """The answer of `run` with `--receipt FILE`, `--parallelism N` and `--names FILE`; without a receipt there are no names."""
+    options = dict(zip(options[::2], options[1::2]))
+    require("--names" not in options or "--receipt" in options, "C2 Number")
+    text = run_parallel(files, plan, input_, options["--parallelism"]) if "--parallelism" in options else run(files, plan, input_)
+    read = read_plan(files[plan])
+    sources = read_input(read, files[input_])
+    if "--receipt" in options:
+        files[options["--receipt"]] = receipts.text_of(read, sources, ends_of(sources), 1, text, files.get(options.get("--names")))
+    return text
 
 
 def show(files, savepoint):
