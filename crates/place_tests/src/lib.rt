@@ -1,7 +1,5 @@
-//! Tests of what `check` tells, and of what it does where nothing can be written.
+//! Tests of what `check` does where nothing can be written.
 #![tactic(auto)]
 
-#[cfg(test)]
-mod beginnings;
 #[cfg(test)]
 mod checks;
