@@ -1,0 +1,4 @@
+pub mod Parses
+pub mod Texts
+pub mod Places
+pub mod Feeds

@@ -1,0 +1,31 @@
+-- Rows, as their lines tell them.
+use Rattle.std.specs.Prelude.{◌≡◌, ◌≢◌, ℕ, ℤ, ◌<◌, ◌≤◌, List, ◌∷◌, length, Option, Some, None, FitsSigned}
+use Rattle.std.specs.Int.{w64, w128}
+use Rattle.std.specs.List.{All}
+use Rattle.plan_model.specs.declared.limits.TheConstants.{MOST_AGGREGATES}
+use Rattle.plan_model.specs.declared.spec.Row.{Row}
+use Rattle.row_lines.specs.Text.{text_of_row}
+use Rattle.row_lines.specs.Numbers.{AreNumbers}
+
+-- what every row meets: a start, an end and a key of 64 bits, and 1 to 8 numbers of 128
+pub record IsRow (row : Row) : Type 0 where
+  pub start : FitsSigned w64 row.start
+  pub end : FitsSigned w64 row.end
+  pub key : FitsSigned w64 row.key
+  pub some : 0 < length row.values
+  pub few : length row.values ≤ MOST_AGGREGATES
+  pub values : All (FitsSigned w128) row.values
+
+-- a row's numbers, in the order of its line
+abbrev pub numbers_in : Row → List ℤ
+numbers_in row = row.start ∷ row.end ∷ row.key ∷ row.values
+
+-- the row of numbers that a row can have, or that no row has them
+abbrev pub GivesRowOf : List ℤ → Option Row → Type 0
+GivesRowOf numbers (Some row) = AreNumbers numbers → IsRow row × (numbers ≡ numbers_in row)
+GivesRowOf numbers None = (row : Row) → IsRow row → numbers ≢ numbers_in row
+
+-- the row whose line is this, without its line feed, or that it is of none
+abbrev pub GivesRow : List ℕ → Option Row → Type 0
+GivesRow line (Some row) = IsRow row × (line ≡ text_of_row row)
+GivesRow line None = (row : Row) → IsRow row → line ≢ text_of_row row

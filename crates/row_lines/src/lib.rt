@@ -1,0 +1,14 @@
+//! The text of rows, read line by line: of each line the row, or that it is none.
+#![tactic(auto)]
+
+mod lines;
+mod number;
+mod row;
+mod rows;
+mod text;
+
+pub use lines::LONGEST_LINE;
+pub use number::number_of;
+pub use row::read_row;
+pub use rows::{RowLines, RowsFault};
+pub use text::{push_decimal, push_head, push_line, push_spaced};

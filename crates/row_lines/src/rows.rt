@@ -1,0 +1,161 @@
+//! The rows of a text, one after the other.
+
+ghost use Rattle.row_lines.specs.Sequences.{IsReadFault};
+
+use crate::lines::{Lines, ReadFault, Step};
+use crate::row::read_row;
+use plan_model::{Pane, Row};
+use std::alloc::{AllocError, Global};
+use std::io::Read;
+
+/// Why there is no next row.
+#[derive(Clone, Copy, Debug, PartialEq, Eq)]
+pub enum RowsFault {
+    /// The text cannot be read.
+    Read,
+    /// The next line is that of no row with so many numbers as the rows before.
+    Line,
+    /// The next row is not behind the one before, by its start and then its key.
+    Order,
+    /// No memory was to be had.
+    Memory,
+}
+
+impl From<AllocError> for RowsFault {
+    ghost use Rattle.std.specs.Prelude.{◌≡◌};
+    ghost use Rattle.row_lines.specs.declared.rows.RowsFault.TheVariants.{Memory};
+
+    ghost from_gives = { λ _ e. e ≡ Memory };
+
+    fn from(_e: AllocError) -> RowsFault {
+        RowsFault::Memory
+    }
+}
+
+/// What comes of a text that cannot be read on.
+fn read_fault(fault: ReadFault) -> RowsFault
+    ensures { IsReadFault result }
+{
+    match fault {
+        ReadFault::Read => RowsFault::Read,
+        ReadFault::Memory => RowsFault::Memory,
+    }
+}
+
+/// The rows of what a reader gives, each behind the one before by start and then key, and all with so many numbers as the first.
+#[derive(Drop)]
+pub struct RowLines<R> {
+    alloc: Global,
+    lines: Lines<R>,
+    width: Option<usize>,
+    last: Option<Pane>,
+    number: u64,
+}
+
+impl<R: Read + Drop> RowLines<R> {
+    ghost use Rattle.std.specs.Prelude.{◌≡◌, None, IfOk};
+    ghost use Rattle.row_lines.specs.Sequences.{rows_left, line_number, width_of, last_of, lines_of, has_width, is_after, IsNext, IsCounted, Takes};
+
+    /// The rows of all that a reader gives. Each has `width` numbers of aggregates, where that is told.
+    ///
+    /// # Errors
+    ///
+    /// Only where memory runs out.
+    pub fn new(alloc: Global, input: R, width: Option<usize>) -> Result<RowLines<R>, AllocError>
+        ensures left { IfOk result (λ rows. rows_left R.remaining rows ≡ R.remaining input) }
+        ensures width { IfOk result (λ rows. width_of rows ≡ width) }
+        ensures last { IfOk result (λ rows. last_of rows ≡ None) }
+        ensures number { IfOk result (λ rows. line_number rows ≡ 0) }
+    {
+        Ok(RowLines {
+            alloc,
+            lines: Lines::new(alloc, input)?,
+            width,
+            last: None,
+            number: 0,
+        })
+    }
+
+    /// The line that was looked at last, counted from 1, or 0.
+    pub fn line_number(&self) -> u64
+        ensures { result ≡ line_number self.now }
+    {
+        self.number
+    }
+
+    /// How many numbers of aggregates each row has, where that is known.
+    pub fn width(&self) -> Option<usize>
+        ensures { result ≡ width_of self.now }
+    {
+        self.width
+    }
+
+    /// Whether a row may have so many numbers.
+    fn has_width(&self, width: usize) -> bool
+        ensures { result ≡ has_width (width_of self.now) width }
+    {
+        match self.width {
+            Some(wanted) => wanted == width,
+            None => true,
+        }
+    }
+
+    /// Whether a row may stand behind the one before.
+    fn is_after(&self, pane: Pane) -> bool
+        ensures { result ≡ is_after (last_of self.now) pane }
+    {
+        match self.last {
+            Some(last) => last < pane,
+            None => true,
+        }
+    }
+
+    /// The row of the line.
+    fn take_row(&mut self) -> Result<Row, RowsFault>
+        ensures takes { Takes self.old self.new result }
+        ensures lines { lines_of self.new ≡ lines_of self.old }
+        ensures number { line_number self.new ≡ line_number self.old }
+    {
+        let Some(row) = read_row(self.alloc, self.lines.line())? else {
+            return Err(RowsFault::Line);
+        };
+        let width = row.values.len();
+        if !self.has_width(width) {
+            return Err(RowsFault::Line);
+        }
+        let pane = Pane {
+            start: row.start,
+            key: row.key,
+        };
+        if !self.is_after(pane) {
+            return Err(RowsFault::Order);
+        }
+        self.width = Some(width);
+        self.last = Some(pane);
+        Ok(row)
+    }
+
+    /// Goes on to the next row, if there is one.
+    ///
+    /// # Errors
+    ///
+    /// `Line`, then `Order`; `Read`; `Memory`.
+    pub fn advance(&mut self) -> Result<Option<Row>, RowsFault>
+        ensures next { IsNext R.remaining self.old self.new result }
+        ensures number { IsCounted self.old self.new result }
+    {
+        match self.lines.advance() {
+            Ok(Step::End) => return Ok(None),
+            Ok(Step::NoLine) => {
+                self.number = self.number.saturating_add(1);
+                return Err(RowsFault::Line);
+            }
+            Ok(Step::Line) => self.number = self.number.saturating_add(1),
+            Err(fault) => return Err(read_fault(fault)),
+        }
+        match self.take_row() {
+            Ok(row) => Ok(Some(row)),
+            Err(fault) => Err(fault),
+        }
+    }
+}
