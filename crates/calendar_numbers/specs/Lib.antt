@@ -1,0 +1,2 @@
+pub mod Calendars
+pub mod Named

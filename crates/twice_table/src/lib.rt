@@ -1,0 +1,6 @@
+//! Texts that were before, each once.
+#![tactic(auto)]
+
+mod table;
+
+pub use table::TextTable;
