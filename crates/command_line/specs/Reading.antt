@@ -5,10 +5,11 @@ use Rattle.clap.specs.Matches.{matched_of, one_text, raw_values}
 use Rattle.clap.specs.declared.parser.matches.Found.{Found}
 use Rattle.import_command.specs.declared.words.ImportWords.{ImportWords}
 use Rattle.leg_command.specs.declared.words.LegWords.{LegWords}
+use Rattle.row_commands.specs.declared.exporting.ExportWords.{ExportWords}
 use Rattle.commands.specs.declared.check_words.CheckWords.{CheckWords}
 use Rattle.commands.specs.declared.run_words.RunWords.{RunWords}
 use Rattle.commands.specs.declared.command.Command.{Command}
-use Rattle.commands.specs.declared.command.Command.TheVariants.{Run, Simulate, Leg, Cuts, Layout, Check, Import, Show, Group, Explain, Version}
+use Rattle.commands.specs.declared.command.Command.TheVariants.{Run, Simulate, Leg, Cuts, Layout, Check, Import, Export, Diff, Show, Group, Explain, Version}
 
 -- the word under a name
 abbrev pub word : Found → List ℕ → List ℕ
@@ -23,6 +24,8 @@ name_of (Cuts _ _ _ _) = codes "cuts"
 name_of (Layout _ _) = codes "layout"
 name_of (Check _) = codes "check"
 name_of (Import _ _) = codes "import"
+name_of (Export _ _) = codes "export"
+name_of (Diff _) = codes "diff"
 name_of (Show _) = codes "show"
 name_of (Group _ _ _) = codes "group"
 name_of (Explain _) = codes "explain"
@@ -32,12 +35,21 @@ name_of Version = codes "version"
 abbrev pub words_under : Found → List ℕ → List (List ℕ)
 words_under words name = unwrap_or (option_map raw_values (matched_of words name)) []
 
+-- an option that is there or not is there, or is not
+pub record IsFlag (words : Found) (name : List ℕ) (is_there : Bool) : Type 0 where
+  pub absent : one_text words name ≡ None → is_there ≡ false
+  pub given : one_text words name ≡ Some (codes "true") → is_there ≡ true
+  pub other : one_text words name ≡ Some (codes "false") → is_there ≡ false
+
 -- the words of an import behind its plan's, each by its name
 abbrev pub HasImportWords : Found → ImportWords → Type 0
 HasImportWords words said =
     (said.input.now ≡ word words (codes "INPUT")) × (said.columns.now ≡ word words (codes "COLUMNS")) × (map (λ w. w.now) said.sources.now ≡ words_under words (codes "SOURCE"))
     × (option_map (λ w. w.now) said.names ≡ first_value words (codes "names")) × (option_map (λ w. w.now) said.bound ≡ first_value words (codes "bound"))
     × (option_map (λ w. w.now) said.late ≡ first_value words (codes "late")) × (option_map (λ w. w.now) said.rows ≡ first_value words (codes "rows"))
+    × (option_map (λ w. w.now) said.bad ≡ first_value words (codes "bad")) × (option_map (λ w. w.now) said.once ≡ first_value words (codes "once"))
+    × (option_map (λ w. w.now) said.twice ≡ first_value words (codes "twice")) × (option_map (λ w. w.now) said.report ≡ first_value words (codes "report"))
+    × (option_map (λ w. w.now) said.zones ≡ first_value words (codes "zones")) × IsFlag words (codes "align") said.is_aligned
 
 -- what stands there, or else something else
 abbrev pub or_else : Option (List ℕ) → Option (List ℕ) → Option (List ℕ)
@@ -71,11 +83,11 @@ HasLegWords words said =
     × (option_map (λ w. w.now) said.since ≡ first_value words (codes "since")) × (option_map (λ w. w.now) said.receipt ≡ first_value words (codes "receipt"))
     × (option_map (λ w. w.now) said.names ≡ first_value words (codes "names"))
 
--- an option that is there or not is there, or is not
-pub record IsFlag (words : Found) (name : List ℕ) (is_there : Bool) : Type 0 where
-  pub absent : one_text words name ≡ None → is_there ≡ false
-  pub given : one_text words name ≡ Some (codes "true") → is_there ≡ true
-  pub other : one_text words name ≡ Some (codes "false") → is_there ≡ false
+-- the words of an export behind its plan's, each by its name
+abbrev pub HasExportWords : Found → ExportWords → Type 0
+HasExportWords words said =
+    (said.rows.now ≡ word words (codes "ROWS")) × (said.columns.now ≡ word words (codes "COLUMNS")) × (option_map (λ w. w.now) said.names ≡ first_value words (codes "names"))
+    × (option_map (λ w. w.now) said.header ≡ first_value words (codes "header"))
 
 -- the words of a command, each by its name
 abbrev pub HasWords : Found → Command → Type 0
@@ -88,6 +100,8 @@ HasWords words (Cuts plan input until stays_open) =
 HasWords words (Layout plan scale) = (plan.now ≡ word words (codes "PLAN")) × (scale.now ≡ word words (codes "SCALE"))
 HasWords words (Check said) = HasCheckWords words said
 HasWords words (Import plan said) = (plan.now ≡ word words (codes "PLAN")) × HasImportWords words said
+HasWords words (Export plan said) = (plan.now ≡ word words (codes "PLAN")) × HasExportWords words said
+HasWords words (Diff said) = (said.old.now ≡ word words (codes "OLD")) × (said.new.now ≡ word words (codes "NEW"))
 HasWords words (Show savepoint) = savepoint.now ≡ word words (codes "SAVEPOINT")
 HasWords words (Group key max par) = (key.now ≡ word words (codes "KEY")) × (max.now ≡ word words (codes "MAX")) × (par.now ≡ word words (codes "PAR"))
 HasWords words (Explain code) = code.now ≡ word words (codes "CODE")
@@ -97,7 +111,7 @@ HasWords words Version = Unit {0}
 abbrev pub is_command : List ℕ → Bool
 is_command name =
     bytes_eq name (codes "run") || (bytes_eq name (codes "simulate") || (bytes_eq name (codes "leg") || (bytes_eq name (codes "cuts") || (bytes_eq name (codes "layout") || (bytes_eq name (codes "check") || (bytes_eq name (codes "import")
-    || (bytes_eq name (codes "show") || (bytes_eq name (codes "group") || (bytes_eq name (codes "explain") || bytes_eq name (codes "version"))))))))))
+    || (bytes_eq name (codes "export") || (bytes_eq name (codes "diff") || (bytes_eq name (codes "show") || (bytes_eq name (codes "group") || (bytes_eq name (codes "explain") || bytes_eq name (codes "version"))))))))))))
 
 -- the command of a name, with the words after it; no other name has one
 abbrev pub IsRead : List ℕ → Found → Option Command → Type 0

@@ -66,8 +66,25 @@ import_files_shape = record (new_shape (codes "import")) { rules = required_rule
 abbrev pub import_names_shape : Shape
 import_names_shape = record import_files_shape { rules = import_files_shape.rules ++ option_rule (codes "names") ∷ option_rule (codes "bound") ∷ [] }
 
+abbrev pub import_late_shape : Shape
+import_late_shape = record import_names_shape { rules = import_names_shape.rules ++ option_rule (codes "late") ∷ option_rule (codes "rows") ∷ flag_rule (codes "align") ∷ [] }
+
+-- and what becomes of records that are no rows
+abbrev pub import_aside_shape : Shape
+import_aside_shape = record import_late_shape { rules = import_late_shape.rules ++ option_rule (codes "bad") ∷ option_rule (codes "once") ∷ option_rule (codes "twice") ∷ [] }
+
 abbrev pub import_shape : Shape
-import_shape = record import_names_shape { rules = import_names_shape.rules ++ option_rule (codes "late") ∷ option_rule (codes "rows") ∷ [] }
+import_shape = record import_aside_shape { rules = import_aside_shape.rules ++ option_rule (codes "report") ∷ option_rule (codes "zones") ∷ [] }
+
+-- the plan, the rows and the columns of an export, and its options
+abbrev pub export_files_shape : Shape
+export_files_shape = command_shape (codes "export") (codes "PLAN" ∷ codes "ROWS" ∷ codes "COLUMNS" ∷ [])
+
+abbrev pub export_shape : Shape
+export_shape = record export_files_shape { rules = export_files_shape.rules ++ option_rule (codes "names") ∷ option_rule (codes "header") ∷ [] }
+
+abbrev pub diff_shape : Shape
+diff_shape = command_shape (codes "diff") (codes "OLD" ∷ codes "NEW" ∷ [])
 
 abbrev pub show_shape : Shape
 show_shape = command_shape (codes "show") (codes "SAVEPOINT" ∷ [])
@@ -85,21 +102,24 @@ version_shape = command_shape (codes "version") []
 abbrev pub top : App
 top = record { top = record (new_shape (codes "streamjob")) { subcommand_required = true }; subs = [] }
 
--- the commands that run a job, with them those on plans and inputs, and those that show what a job is made of
+-- the commands that run a job, with them those on plans and inputs, on texts of rows, and those that show what a job is made of
 abbrev pub jobs : App
 jobs = with_subcommand (with_subcommand (with_subcommand top run_shape) simulate_shape) leg_shape
 
 abbrev pub texts : App
 texts = with_subcommand (with_subcommand (with_subcommand (with_subcommand jobs import_shape) cuts_shape) layout_shape) check_shape
 
-abbrev pub views : App
-views = with_subcommand (with_subcommand texts show_shape) group_shape
+abbrev pub tables : App
+tables = with_subcommand (with_subcommand texts export_shape) diff_shape
 
--- and that is one of eleven
+abbrev pub views : App
+views = with_subcommand (with_subcommand tables show_shape) group_shape
+
+-- and that is one of thirteen
 abbrev pub program : App
 program = record {
   top = record top.top { is_leaf = false };
-  subs = run_shape ∷ simulate_shape ∷ leg_shape ∷ import_shape ∷ cuts_shape ∷ layout_shape ∷ check_shape ∷ show_shape ∷ group_shape ∷ explain_shape ∷ version_shape ∷ [];
+  subs = run_shape ∷ simulate_shape ∷ leg_shape ∷ import_shape ∷ cuts_shape ∷ layout_shape ∷ check_shape ∷ export_shape ∷ diff_shape ∷ show_shape ∷ group_shape ∷ explain_shape ∷ version_shape ∷ [];
 }
 
 -- a command of such a shape, without commands below it

@@ -5,6 +5,7 @@ mod advice;
 mod outcomes;
 mod reading;
 mod statuses;
+mod table_words;
 mod words;
 
 pub use outcomes::{Refusal, outcome};

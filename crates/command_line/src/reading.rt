@@ -2,12 +2,13 @@
 
 ghost use Rattle.std.specs.Prelude.{◌≡◌, option_map};
 ghost use Rattle.clap.specs.Words.{found_of, subcommand_name_of};
-ghost use Rattle.command_line.specs.Reading.{word, scale_word, HasCheckWords, HasImportWords, HasLegWords, HasRunWords, IsFound, IsRead};
+ghost use Rattle.command_line.specs.Reading.{word, scale_word, HasCheckWords, HasExportWords, HasImportWords, HasLegWords, HasRunWords, IsFound, IsRead};
 
 use clap::ArgMatches;
 use commands::{CheckWords, Command, RunWords};
 use import_command::ImportWords;
 use leg_command::LegWords;
+use row_commands::{DiffWords, ExportWords};
 
 fn named<'a>(words: &ArgMatches<'a>, name: &str) -> &'a str
     ensures { result.now ≡ word (found_of words.now) name.now }
@@ -26,6 +27,12 @@ fn import_words<'m>(words: &'m ArgMatches<'_>) -> ImportWords<'m>
         names: words.get_str("names"),
         bound: words.get_str("bound"),
         late: words.get_str("late"),
+        once: words.get_str("once"),
+        twice: words.get_str("twice"),
+        bad: words.get_str("bad"),
+        report: words.get_str("report"),
+        zones: words.get_str("zones"),
+        is_aligned: words.get_flag("align"),
         rows: words.get_str("rows"),
     }
 }
@@ -51,6 +58,18 @@ fn check_words<'m>(words: &'m ArgMatches<'_>) -> CheckWords<'m>
         from: words.get_str("from"),
         stop: words.get_str("stop"),
         save: words.get_str("save"),
+    }
+}
+
+/// The words of an export behind its plan's.
+fn export_words<'m>(words: &'m ArgMatches<'_>) -> ExportWords<'m>
+    ensures { HasExportWords (found_of words.now) result }
+{
+    ExportWords {
+        rows: named(words, "ROWS"),
+        columns: named(words, "COLUMNS"),
+        names: words.get_str("names"),
+        header: words.get_str("header"),
     }
 }
 
@@ -96,6 +115,12 @@ fn command_in<'m>(name: &str, words: &'m ArgMatches<'_>) -> Option<Command<'m>>
             words: import_words(words),
         });
     }
+    if name == "export" {
+        return Some(Command::Export {
+            plan: named(words, "PLAN"),
+            words: export_words(words),
+        });
+    }
     if name == "check" {
         return Some(Command::Check {
             words: check_words(words),
@@ -123,6 +148,12 @@ fn command_in<'m>(name: &str, words: &'m ArgMatches<'_>) -> Option<Command<'m>>
         "layout" => Some(Command::Layout {
             plan: named(words, "PLAN"),
             scale: named(words, "SCALE"),
+        }),
+        "diff" => Some(Command::Diff {
+            words: DiffWords {
+                old: named(words, "OLD"),
+                new: named(words, "NEW"),
+            },
         }),
         "show" => Some(Command::Show {
             savepoint: named(words, "SAVEPOINT"),

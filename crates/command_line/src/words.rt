@@ -3,20 +3,21 @@
 ghost use Rattle.std.specs.Prelude.{◌≡◌, IfOk};
 ghost use Rattle.clap.specs.Words.{app_of, new_rule};
 ghost use Rattle.clap.specs.Simple.{new_shape};
-ghost use Rattle.command_line.specs.Words.{AddsRule, IsCommand, required_rule, option_rule, flag_rule, several_rule, run_shape, simulate_shape, leg_files_shape, leg_stops_shape, leg_shape, cuts_shape, layout_shape, check_files_shape, check_shape, import_files_shape, import_names_shape, import_shape, show_shape, group_shape, explain_shape, version_shape, top, jobs, texts, views, program};
+ghost use Rattle.command_line.specs.Words.{AddsRule, IsCommand, required_rule, option_rule, flag_rule, several_rule, run_shape, simulate_shape, leg_files_shape, leg_stops_shape, leg_shape, cuts_shape, layout_shape, check_files_shape, check_shape, import_files_shape, import_names_shape, import_late_shape, import_aside_shape, import_shape, show_shape, group_shape, explain_shape, version_shape, top, jobs, texts, tables, views, program};
 
+use crate::table_words::{diff_words, export_words};
 use clap::{Arg, ArgAction, Command};
 use std::alloc::{AllocError, Global};
 
 /// A command without words.
-fn named<'a>(alloc: Global, name: &'a str, about: &'a str, help: &'a str) -> Command<'a>
+pub(crate) fn named<'a>(alloc: Global, name: &'a str, about: &'a str, help: &'a str) -> Command<'a>
     ensures { IsCommand (new_shape name.now) result }
 {
     Command::new(alloc, name).about(about).after_help(help)
 }
 
 /// With one word more, that has to be there.
-fn required<'a>(
+pub(crate) fn required<'a>(
     alloc: Global,
     command: Command<'a>,
     name: &'a str,
@@ -53,7 +54,7 @@ fn several<'a>(
 }
 
 /// With one option more, which has a value.
-fn option<'a>(
+pub(crate) fn option<'a>(
     alloc: Global,
     command: Command<'a>,
     name: &'a str,
@@ -79,7 +80,8 @@ fn flag<'a>(
     command.arg(arg.action(ArgAction::SetTrue))
 }
 
-const PLAN: &str = "JSON file of the job: sources, filters, and one window with its aggregates";
+pub(crate) const PLAN: &str =
+    "JSON file of the job: sources, filters, and one window with its aggregates";
 
 const INPUT: &str =
     "JSON file of the records: for each source its partitions, with rows and watermarks";
@@ -365,8 +367,9 @@ Each FILE is CSV with a header, or, where its name ends in .ndjson or .jsonl, a 
 becomes a partition of its source; INPUT is written once all of them are read. COLUMNS has a field of the
 header, or a member of the objects, for each number of a record, in the plan's order, with commas
 between: `bytes` is a whole number; `power:3` a decimal times 1000; `at:ms` a time in ISO 8601 with its
-zone, in milliseconds since 1970; `customer:name` the number of a name in the file of --names;
-`status:ge:500` is 1 where the number is at least 500, else 0, and `fuel:eq:diesel` where the text is that.
+zone, in milliseconds since 1970, and `at:day:Europe/Berlin` the day there, or month, year, hour, weekday;
+`customer:name` the number of a name in the file of --names; `status:ge:500` is 1 where the number is at
+least 500, else 0, and `fuel:eq:diesel` where the text is that.
 
 Example: streamjob import plan.json input.json time:ms,customer:name,bytes --names names.csv api=0.csv,1.csv
 Page: docs/FORMATS.md, under Import";
@@ -414,8 +417,9 @@ fn import_names<'a>(alloc: Global) -> Result<Command<'a>, AllocError>
     )
 }
 
-fn import_words<'a>(alloc: Global) -> Result<Command<'a>, AllocError>
-    ensures { IfOk result (λ c. IsCommand import_shape c) }
+/// The same with those of late records and of entries.
+fn import_late<'a>(alloc: Global) -> Result<Command<'a>, AllocError>
+    ensures { IfOk result (λ c. IsCommand import_late_shape c) }
 {
     let command = import_names(alloc)?;
     let command = option(
@@ -425,12 +429,66 @@ fn import_words<'a>(alloc: Global) -> Result<Command<'a>, AllocError>
         "FILE",
         "File to write late records to; without it the first is refused",
     )?;
-    option(
+    let command = option(
         alloc,
         command,
         "rows",
         "N",
         "Most rows of an entry, 1 to 4096 (4096); watermarks stand between entries, so 1 looks at each record",
+    )?;
+    flag(
+        alloc,
+        command,
+        "align",
+        "Round watermarks down to the ends of windows: a record is late where its windows are closed",
+    )
+}
+
+/// The same with those of records that are no rows.
+fn import_aside<'a>(alloc: Global) -> Result<Command<'a>, AllocError>
+    ensures { IfOk result (λ c. IsCommand import_aside_shape c) }
+{
+    let command = import_late(alloc)?;
+    let command = option(
+        alloc,
+        command,
+        "bad",
+        "FILE",
+        "File to write records to that give no row; without it the first of them are told, and nothing is written",
+    )?;
+    let command = option(
+        alloc,
+        command,
+        "once",
+        "FIELDS",
+        "Fields with commas between: of records that are the same in them the first counts",
+    )?;
+    option(
+        alloc,
+        command,
+        "twice",
+        "FILE",
+        "File to write the others of those to; without it the first is refused",
+    )
+}
+
+fn import_words<'a>(alloc: Global) -> Result<Command<'a>, AllocError>
+    ensures { IfOk result (λ c. IsCommand import_shape c) }
+{
+    let command = import_aside(alloc)?;
+    let command = option(
+        alloc,
+        command,
+        "report",
+        "FILE",
+        "File to write to how many records of each file went where",
+    )?;
+    option(
+        alloc,
+        command,
+        "zones",
+        "FOLDER",
+        "Folder of the time zones (/usr/share/zoneinfo)",
     )
 }
 
@@ -533,11 +591,20 @@ fn with_texts<'a>(alloc: Global) -> Result<Command<'a>, AllocError>
         .subcommand(check_words(alloc)?)
 }
 
+/// The same with the commands on texts of rows.
+fn with_tables<'a>(alloc: Global) -> Result<Command<'a>, AllocError>
+    ensures { IfOk result (λ c. app_of c ≡ tables) }
+{
+    with_texts(alloc)?
+        .subcommand(export_words(alloc)?)?
+        .subcommand(diff_words(alloc)?)
+}
+
 /// The same with those that show a savepoint and a key's group.
 fn with_views<'a>(alloc: Global) -> Result<Command<'a>, AllocError>
     ensures { IfOk result (λ c. app_of c ≡ views) }
 {
-    with_texts(alloc)?
+    with_tables(alloc)?
         .subcommand(show_words(alloc)?)?
         .subcommand(group_words(alloc)?)
 }

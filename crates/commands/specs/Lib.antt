@@ -4,3 +4,4 @@ pub mod Importing
 pub mod Outcome
 pub mod Running
 pub mod Status
+pub mod Tables

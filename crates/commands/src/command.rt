@@ -4,6 +4,7 @@ use crate::check_words::CheckWords;
 use crate::run_words::RunWords;
 use import_command::ImportWords;
 use leg_command::LegWords;
+use row_commands::{DiffWords, ExportWords};
 
 /// What the program is to do.
 #[derive(Drop)]
@@ -43,6 +44,15 @@ pub enum Command<'a> {
     Import {
         plan: &'a str,
         words: ImportWords<'a>,
+    },
+    /// Print the rows of a plan as a table, by the columns that they were imported from.
+    Export {
+        plan: &'a str,
+        words: ExportWords<'a>,
+    },
+    /// Print what changed between two texts of rows.
+    Diff {
+        words: DiffWords<'a>,
     },
     /// Print what a savepoint holds.
     Show {

@@ -4,6 +4,7 @@ ghost use Rattle.std.specs.Prelude.{◌≡◌};
 ghost use Rattle.import_words.specs.Status.{status as import_status};
 ghost use Rattle.job_texts.specs.FaultText as fault_text;
 ghost use Rattle.receipts.specs.FaultLine.{receipt_status};
+ghost use Rattle.row_commands.specs.Refusals.{status as rows_status};
 ghost use Rattle.commands.specs.Outcome.{after_command, after_leg, after_text};
 ghost use Rattle.commands.specs.Status as statuses;
 
@@ -11,6 +12,7 @@ use import_words::ImportFault;
 use job::{JobFault, status_of};
 use leg_command::LegRefusal;
 use receipts::ReceiptFault;
+use row_commands::RowsRefusal;
 use user_texts::TextFault;
 
 /// Why a command is not done.
@@ -22,6 +24,8 @@ pub enum CommandFault {
     Receipt(ReceiptFault),
     /// An input is not written.
     Import(ImportFault),
+    /// A text of rows is not shown.
+    Rows(RowsRefusal),
     /// No refusal has the code that was to be explained.
     NoPage,
 }
@@ -82,6 +86,14 @@ fn not_imported<R: Eprint>(rt: &R, fault: &ImportFault) -> u8
     import_words::status_of(fault)
 }
 
+/// Says why a text of rows is not shown, which needs no memory.
+fn not_shown<R: Eprint>(rt: &R, fault: &RowsRefusal) -> u8
+    ensures { result ≡ rows_status fault.now }
+{
+    let _ = rt.eprintln(fault);
+    row_commands::status_of(fault)
+}
+
 /// Says that a code is none.
 fn no_page<R: Eprint>(rt: &R) -> u8
     ensures { result ≡ 2 }
@@ -98,6 +110,7 @@ pub fn told<R: Eprint>(rt: &R, fault: &CommandFault) -> u8
         CommandFault::Job(fault) => failed(rt, fault),
         CommandFault::Receipt(fault) => not_gone_on(rt, fault),
         CommandFault::Import(fault) => not_imported(rt, fault),
+        CommandFault::Rows(fault) => not_shown(rt, fault),
         CommandFault::NoPage => no_page(rt),
     }
 }

@@ -25,7 +25,7 @@ fn plan_of(alloc: Global, text: &[u8]) -> Result<Plan, JobFault>
 }
 
 /// The plan in the file at a path.
-fn plan_at<R: Files + AllocGlobal>(rt: &R, path: &str) -> Result<Plan, JobFault>
+pub(crate) fn plan_at<R: Files + AllocGlobal>(rt: &R, path: &str) -> Result<Plan, JobFault>
     ensures { ReadsPlan result }
 {
     let bytes = file(rt, path)?;

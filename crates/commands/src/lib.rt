@@ -10,6 +10,7 @@ mod importing;
 mod installed;
 mod performing;
 mod run_words;
+mod tables;
 
 pub use check_words::CheckWords;
 pub use command::Command;

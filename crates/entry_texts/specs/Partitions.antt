@@ -1,6 +1,7 @@
 -- The text of a partition, row by row. Rows are listed from the last one back.
 use Rattle.std.specs.Prelude.{◌≡◌, ℕ, ℤ, Bool, true, false, List, [], ◌∷◌, ◌++◌, Option, Some, None, Result, Ok, Err, string_bytes}
 use Rattle.import_entries.specs.declared.rule.EntryRule.{EntryRule}
+use Rattle.import_entries.specs.declared.rule.Bound.{Bound}
 use Rattle.import_entries.specs.Entries.{progress_of, place_fault, place_said}
 use Rattle.entry_texts.specs.EntryTexts.{row_text, lead_text, end_text}
 use Rattle.entry_texts.specs.declared.partition.PartitionText.{PartitionText}
@@ -22,15 +23,15 @@ abbrev pub is_none : List Row → Bool
 is_none [] = true
 is_none (row ∷ before) = false
 
--- each row behind what its place asks for, by how many rows an entry has and the bound
-abbrev pub rows_text : ℕ → Option ℕ → List Row → List ℕ
-rows_text n bound [] = []
-rows_text n bound (row ∷ before) = rows_text n bound before ++ (lead_text (is_none before) (place_said n bound (times_of before)) ++ row_text row.first row.others)
+-- each row behind what its place asks for, by how many rows an entry has and which watermarks there are
+abbrev pub rows_text : ℕ → Option Bound → List Row → List ℕ
+rows_text n marks [] = []
+rows_text n marks (row ∷ before) = rows_text n marks before ++ (lead_text (is_none before) (place_said n marks (times_of before)) ++ row_text row.first row.others)
 
 -- no row is late, and no time is out of range
-abbrev pub AreTimely : ℕ → Option ℕ → List Row → Type 0
-AreTimely n bound [] = Unit {0}
-AreTimely n bound (row ∷ before) = (place_fault n bound (times_of before) row.time ≡ None) × AreTimely n bound before
+abbrev pub AreTimely : ℕ → Option Bound → List Row → Type 0
+AreTimely n marks [] = Unit {0}
+AreTimely n marks (row ∷ before) = (place_fault n marks (times_of before) row.time ≡ None) × AreTimely n marks before
 
 abbrev pub rule_of : PartitionText → EntryRule
 rule_of p = p.rule

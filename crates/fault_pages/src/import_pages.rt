@@ -3,17 +3,19 @@
 use crate::page::FaultPage;
 
 /// The pages of the faults of an import, and of rows, in the order of docs/FAULTS.md.
-pub const IMPORT_PAGES: [FaultPage<'static>; 9] = [
+pub const IMPORT_PAGES: [FaultPage<'static>; 13] = [
     (
         "D1",
         r#"D1 Columns (status 2)
 
-The word COLUMNS of `import` says no columns, has another number of them than the plan, or has a column of names without
-`--names`.
+The word COLUMNS of `import` says no columns, has another number of them than the plan, names a zone that the system
+does not have, or has a column of names without `--names`; or `--once` names a field that no column is of.
 
 ```console
 $ streamjob import plan.json new.json at:sec,key calls=calls.csv
-D1 Columns "at:sec": a field's name stands alone, or with a number of decimal places, ms, name, or a comparison as ge:500 behind a colon
+D1 Columns "at:sec": a field's name stands alone, or with a number of decimal places, ms, us, ns, name, a comparison as ge:500, or day, month, year, hour or weekday and a zone as day:Europe/Berlin behind a colon
+$ streamjob import plan.json new.json at:day:Europe/Berln,key calls=calls.csv
+D1 Columns "at": the system has no zone "Europe/Berln"
 $ streamjob import plan.json new.json at,key,bytes calls=calls.csv
 D1 Columns there are 3, and the plan has 2
 $ streamjob import plan.json new.json at,user:name calls=calls.csv
@@ -139,11 +141,13 @@ $ streamjob import plan.json new.json at,key calls=calls.csv
 D5 Value calls.csv:3: key: "2.389" has more than 0 decimal places
 $ streamjob import plan.json new.json at:ms,key calls=calls.csv
 D5 Value calls.csv:2: at: "5" is no time with a zone, as 2026-03-01T12:00:00.5Z
+D5 Value calls.csv:3: at: "6" is no time with a zone, as 2026-03-01T12:00:00.5Z
 $ streamjob import plan.json new.json at,key calls=calls.ndjson
 D5 Value calls.ndjson:1: key: null, a list or an object is no string, number, true or false
 ```
 
-Ask for more places (`key:3`), or mend the field. A time in ISO 8601 is asked for by `at:ms`, a text as a number of a
+Ask for more places (`key:3`), or mend the field. A time in ISO 8601 is asked for by `at:ms`, a finer one by `at:us` or
+`at:ns`, a text as a number of a
 table by `key:name`, and whether a field is just some text by `key:eq:TEXT`. [Import](FORMATS.md#import) has the form of
 each kind.
 "#,
@@ -246,7 +250,106 @@ D9 Object cut.jsonl:1: the line is no JSON object
 
 Each line is one object: a list of them is split by `jq -c '.[]'`, and an object over several lines is joined by
 `jq -c .`. Spell the column as the member, in the same case; give a member that may be absent a value of its own before,
-as by `jq -c '.key = (.key // 0)'`.
+as by `jq -c '.key = (.key // 0)'`. By `--bad FILE` such lines are written to a file of their own.
+"#,
+    ),
+    (
+        "D10",
+        r#"D10 Twice (status 3)
+
+With `--once` a record has the same texts in its fields as one before it in a file of the same source.
+
+```csv calls.csv
+at,key
+10,1
+11,2
+10,1
+```
+
+```console
+$ streamjob import plan.json new.json at,key calls=calls.csv --once at,key
+D10 Twice calls.csv:4: the record of calls.csv:2 is the same in the fields of --once
+```
+
+If it was delivered twice, have such records written to a file of their own by `--twice FILE`: the first counts. Else
+name more fields, until no two records that both count are the same in all of them.
+"#,
+    ),
+    (
+        "T1",
+        r#"T1 Rows (status 3)
+
+A line is no row as `run` prints it: START, END, KEY and 1 to 8 numbers with single spaces between, each without a plus
+or a zero before it, ended by a line feed; or it has another number of numbers than the rows before it, or for `export`
+than the plan has aggregates. START, END and KEY have 64 bits, and the others 128.
+
+```text rows.txt
+0 10 7 2
+10 20 07 1
+```
+
+```text wide.txt
+0 10 7 2 5
+```
+
+```console
+$ streamjob diff rows.txt rows.txt
+T1 Rows rows.txt:2: a row is START END KEY NUMBER .., whole numbers with single spaces between, as many as in the first
+$ streamjob export plan.json wide.txt at,key --header no
+T1 Rows wide.txt:1: a row is START END KEY NUMBER .., whole numbers with single spaces between, as many as in the first
+$ printf '0 10 7 2' | streamjob diff wide.txt /dev/stdin
+T1 Rows /dev/stdin:1: a row is START END KEY NUMBER .., whole numbers with single spaces between, as many as in the first
+```
+
+Give the text as `run` printed it; for `diff` both of one plan.
+"#,
+    ),
+    (
+        "T2",
+        r#"T2 Order (status 3)
+
+A row is not behind the one before it, by START and then KEY, or is at the same.
+
+```text rows.txt
+0 10 8 1
+0 10 7 2
+```
+
+```console
+$ streamjob diff rows.txt rows.txt
+T2 Order rows.txt:2: the row is not behind the one before it, by its start and then its key
+```
+
+Sort the rows, as by `sort -n -k1,1 -k3,3`; a start and key that stand there twice are those of several runs.
+"#,
+    ),
+    (
+        "T3",
+        r#"T3 Cell (status 3)
+
+The table of names has no name of a number that is to be shown as one, or a time in milliseconds is in no year from 1 to
+9999.
+
+```csv names.csv
+1,hooli
+```
+
+```text rows.txt
+0 10 7 2
+```
+
+```text late.txt
+4611686018427387900 4611686018427387910 7 2
+```
+
+```console
+$ streamjob export plan.json rows.txt at:ms,user:name --names names.csv --header no
+T3 Cell rows.txt:1: user: the table of names has no name of this number
+$ streamjob export plan.json late.txt at:ms,key --header no
+T3 Cell late.txt:1: start: the time is in no year from 1 to 9999
+```
+
+Give the COLUMNS and the table of names that the input was imported with.
 "#,
     ),
 ];

@@ -3,7 +3,7 @@
 use crate::page::FaultPage;
 
 /// The pages of all other faults, in the order of docs/FAULTS.md.
-pub const OTHER_PAGES: [FaultPage<'static>; 11] = [
+pub const OTHER_PAGES: [FaultPage<'static>; 12] = [
     (
         "C1",
         r#"C1 Cut (status 2)
@@ -46,6 +46,21 @@ C2 Number --rows: "5000" is no whole number from 1 to 4096
 ```
 
 Take a number in the range. For `check` name the input, too. A receipt goes beside a savepoint, in a file of its own.
+"#,
+    ),
+    (
+        "C3",
+        r#"C3 Options (status 2)
+
+Words of `import` do not go together: `--twice` has a file for records that are there twice, and none is without
+`--once`.
+
+```console
+$ streamjob import plan.json new.json at,key calls=calls.csv --twice twice.csv
+C3 Options --twice stands without --once
+```
+
+Name by `--once` the fields in which such records are the same.
 "#,
     ),
     (

@@ -11,38 +11,43 @@ use Rattle.field_values.specs.Digits.{are_digits}
 use Rattle.field_values.specs.Decimals.{scaled_said}
 use Rattle.import_columns.specs.declared.fault.ColumnFault.{ColumnFault}
 use Rattle.import_columns.specs.declared.fault.ColumnFault.TheVariants.{Form, Places, Bound}
-use Rattle.import_columns.specs.declared.kind.ValueKind.{ValueKind}
-use Rattle.import_columns.specs.declared.kind.ValueKind.TheVariants as value
-use Rattle.import_columns.specs.declared.kind.ColumnKind.{ColumnKind}
-use Rattle.import_columns.specs.declared.kind.ColumnKind.TheVariants as column
-use Rattle.import_columns.specs.declared.column.Column.{Column}
+use Rattle.instant_texts.specs.declared.unit.FineUnit.{FineUnit}
+use Rattle.instant_texts.specs.declared.unit.FineUnit.TheVariants.{Microseconds, Nanoseconds}
+use Rattle.calendar_numbers.specs.declared.part.CalendarPart.{CalendarPart}
+use Rattle.calendar_numbers.specs.declared.part.CalendarPart.TheVariants.{Day, Month, Year, Hour, Weekday}
+use Rattle.import_columns.specs.declared.word.WordKind.{WordKind}
+use Rattle.import_columns.specs.declared.word.WordKind.TheVariants as word
+use Rattle.import_columns.specs.declared.word.ColumnWord.{ColumnWord}
 
--- how a text becomes a number, without where the words lie in memory
+-- how a text becomes a number, without where the words lie in memory, and with the name of a zone in place of the zone
 pub data Kind : Type 0 where
   Scaled : ℕ → Kind
   Milliseconds : Kind
+  Fine : FineUnit → Kind
+  Calendar : CalendarPart → List ℕ → Kind
   Compared : Cmp → ℤ → Kind
+  CalendarCompared : CalendarPart → List ℕ → Cmp → ℤ → Kind
   Same : List ℕ → Kind
   Other : List ℕ → Kind
   Name : Kind
 
-abbrev pub view_value : ValueKind → Kind
-view_value (value.Scaled places) = Scaled places
-view_value value.Milliseconds = Milliseconds
-view_value (value.Compared cmp bound) = Compared cmp bound
-view_value (value.Same text) = Same text.now
-view_value (value.Other text) = Other text.now
-
-abbrev pub view_kind : ColumnKind → Kind
-view_kind (column.Value kind) = view_value kind
-view_kind column.Name = Name
+abbrev pub view_kind : WordKind → Kind
+view_kind (word.Scaled places) = Scaled places
+view_kind word.Milliseconds = Milliseconds
+view_kind (word.Fine unit) = Fine unit
+view_kind (word.Calendar part zone) = Calendar part zone.now
+view_kind (word.Compared cmp bound) = Compared cmp bound
+view_kind (word.CalendarCompared part zone cmp bound) = CalendarCompared part zone.now cmp bound
+view_kind (word.Same text) = Same text.now
+view_kind (word.Other text) = Other text.now
+view_kind word.Name = Name
 
 -- a field and what is done with its text
 pub record Said : Type 0 where
   pub field : List ℕ
   pub kind : Kind
 
-abbrev pub view_column : Column → Said
+abbrev pub view_column : ColumnWord → Said
 view_column c = record { field = c.field.now; kind = view_kind c.kind }
 
 -- what a function answered, seen by view, is what was said
@@ -86,12 +91,46 @@ places_said digits =
     else Err Form
 
 abbrev pub word_said : List ℕ → Result Kind ColumnFault
-word_said how = if bytes_eq how (codes "ms") then Ok Milliseconds else if bytes_eq how (codes "name") then Ok Name else places_said how
+word_said how =
+    if bytes_eq how (codes "ms") then Ok Milliseconds
+    else if bytes_eq how (codes "us") then Ok (Fine Microseconds) else if bytes_eq how (codes "ns") then Ok (Fine Nanoseconds)
+    else if bytes_eq how (codes "name") then Ok Name else places_said how
 
--- what stands behind the field's name and a colon: a comparison, or one word
+abbrev pub part_said : List ℕ → Option CalendarPart
+part_said name =
+    if bytes_eq name (codes "day") then Some Day else if bytes_eq name (codes "month") then Some Month
+    else if bytes_eq name (codes "year") then Some Year else if bytes_eq name (codes "hour") then Some Hour
+    else if bytes_eq name (codes "weekday") then Some Weekday else None
+
+-- a comparison of a number of the calendar with a whole number
+abbrev pub calendar_bound_from : CalendarPart → List ℕ → Cmp → Result ℤ FieldFault → Result Kind ColumnFault
+calendar_bound_from part zone cmp (Ok bound) = Ok (CalendarCompared part zone cmp bound)
+calendar_bound_from part zone cmp (Err NoNumber) = Err Form
+calendar_bound_from part zone cmp (Err fault) = Err (Bound fault)
+
+abbrev pub calendar_bound : CalendarPart → List ℕ → Option Cmp → Result ℤ FieldFault → Result Kind ColumnFault
+calendar_bound part zone None bound = Err Form
+calendar_bound part zone (Some cmp) bound = calendar_bound_from part zone cmp bound
+
+-- what stands behind the zone: a comparison, a colon and its bound
+abbrev pub calendar_compared : CalendarPart → List ℕ → List ℕ → Result Kind ColumnFault
+calendar_compared part zone how =
+    if has_colon how then calendar_bound part zone (comparison_said (before_first is_colon how)) (scaled_said 0 (after_first is_colon how)) else Err Form
+
+-- a zone alone, or one with a comparison behind a colon
+abbrev pub calendar_said : CalendarPart → List ℕ → Result Kind ColumnFault
+calendar_said part rest =
+    if has_colon rest then calendar_compared part (before_first is_colon rest) (after_first is_colon rest) else Ok (Calendar part rest)
+
+-- what stands before and behind a colon: a part of the calendar and a zone, or else a comparison and its bound
+abbrev pub parted_from : Option CalendarPart → List ℕ → List ℕ → Result Kind ColumnFault
+parted_from (Some part) name rest = calendar_said part rest
+parted_from None name rest = compared_from (comparison_said name) rest
+
+-- what stands behind the field's name and a colon: words with colons between, or one word
 unfoldable pub how_said : List ℕ → Result Kind ColumnFault
 how_said how =
-    if has_colon how then compared_from (comparison_said (before_first is_colon how)) (after_first is_colon how) else word_said how
+    if has_colon how then parted_from (part_said (before_first is_colon how)) (before_first is_colon how) (after_first is_colon how) else word_said how
 
 abbrev pub of_field : List ℕ → Result Kind ColumnFault → Result Said ColumnFault
 of_field field (Ok kind) = Ok (record { field = field; kind = kind })

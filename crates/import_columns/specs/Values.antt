@@ -1,12 +1,18 @@
 -- The number that a text is.
-use Rattle.std.specs.Prelude.{ℤ, pos, Bool, not, bytes_eq, List, ℕ, Result, Ok, Err, if◌then◌else◌}
+use Rattle.std.specs.Prelude.{◌≡◌, ℤ, pos, Bool, not, bytes_eq, List, ℕ, Result, Ok, Err, if◌then◌else◌}
 use Rattle.lane_kernels.specs.declared.Cmp.{Cmp}
 use Rattle.lane_kernels.specs.Compare.{holds}
+use Rattle.jiff_core.specs.Timestamp.{IsTimestampNanos}
+use Rattle.jiff_tz.specs.declared.timezone.TimeZone.{TimeZone}
 use Rattle.field_values.specs.declared.fault.FieldFault.{FieldFault}
-use Rattle.field_values.specs.Decimals.{scaled_said}
+use Rattle.field_values.specs.declared.fault.FieldFault.TheVariants.{NoSuchTime}
 use Rattle.field_values.specs.Instants.{milliseconds_said}
+use Rattle.decimal_texts.specs.Exact.{exact_said}
+use Rattle.instant_texts.specs.Instants.{unit_digits, instant_said}
+use Rattle.calendar_numbers.specs.Calendars.{nanos_of, IsCalendarNumber}
+use Rattle.calendar_numbers.specs.declared.part.CalendarPart.{CalendarPart}
 use Rattle.import_columns.specs.declared.kind.ValueKind.{ValueKind}
-use Rattle.import_columns.specs.declared.kind.ValueKind.TheVariants.{Scaled, Milliseconds, Compared, Same, Other}
+use Rattle.import_columns.specs.declared.kind.ValueKind.TheVariants.{Scaled, Milliseconds, Fine, Calendar, Compared, CalendarCompared, Same, Other}
 
 -- 1 for what holds, and else 0
 abbrev pub bit : Bool → ℤ
@@ -16,10 +22,29 @@ abbrev pub compared_value : Cmp → ℤ → Result ℤ FieldFault → Result ℤ
 compared_value cmp bound (Ok number) = Ok (bit (holds cmp number bound))
 compared_value cmp bound (Err fault) = Err fault
 
+-- the number of the calendar at an instant, where it has a civil date in each zone
+abbrev pub IsPart : CalendarPart → TimeZone → ℤ → Result ℤ FieldFault → Type 0
+IsPart part zone milliseconds (Ok number) = IsCalendarNumber part zone milliseconds number
+IsPart part zone milliseconds (Err fault) = (fault ≡ NoSuchTime) × (¬ IsTimestampNanos (nanos_of milliseconds))
+
+-- the same of an instant that a text says, or the first fault of the text
+abbrev pub IsPartAt : CalendarPart → TimeZone → Result ℤ FieldFault → Result ℤ FieldFault → Type 0
+IsPartAt part zone (Ok milliseconds) answer = IsPart part zone milliseconds answer
+IsPartAt part zone (Err fault) answer = answer ≡ Err fault
+
+-- its comparison with a bound
+pub record IsComparedPart (part : CalendarPart) (zone : TimeZone) (cmp : Cmp) (bound : ℤ) (text : List ℕ) (answer : Result ℤ FieldFault) : Type 0 where
+  pub number : Result ℤ FieldFault
+  pub counted : IsPartAt part zone (milliseconds_said text) number
+  pub compared : answer ≡ compared_value cmp bound number
+
 -- the number that the text is, or the first fault
-unfoldable pub value_said : ValueKind → List ℕ → Result ℤ FieldFault
-value_said (Scaled places) text = scaled_said places text
-value_said Milliseconds text = milliseconds_said text
-value_said (Compared cmp bound) text = compared_value cmp bound (scaled_said 0 text)
-value_said (Same wanted) text = Ok (bit (bytes_eq text wanted.now))
-value_said (Other wanted) text = Ok (bit (not (bytes_eq text wanted.now)))
+abbrev pub IsValueOf : ValueKind → List ℕ → Result ℤ FieldFault → Type 0
+IsValueOf (Scaled places) text answer = answer ≡ exact_said places text
+IsValueOf Milliseconds text answer = answer ≡ milliseconds_said text
+IsValueOf (Fine unit) text answer = answer ≡ instant_said (unit_digits unit) text
+IsValueOf (Calendar part zone) text answer = IsPartAt part zone (milliseconds_said text) answer
+IsValueOf (Compared cmp bound) text answer = answer ≡ compared_value cmp bound (exact_said 0 text)
+IsValueOf (CalendarCompared part zone cmp bound) text answer = IsComparedPart part zone cmp bound text answer
+IsValueOf (Same wanted) text answer = answer ≡ Ok (bit (bytes_eq text wanted.now))
+IsValueOf (Other wanted) text answer = answer ≡ Ok (bit (not (bytes_eq text wanted.now)))

@@ -1,6 +1,9 @@
 //! What is done with the text of a field.
 
+use calendar_numbers::CalendarPart;
 use field_values::Places;
+use instant_texts::FineUnit;
+use jiff_tz::TimeZone;
 use lane_kernels::Cmp;
 
 /// How the text of a field becomes a number by itself.
@@ -10,8 +13,14 @@ pub enum ValueKind<'w> {
     Scaled(Places),
     /// A time in ISO 8601 with its zone, in milliseconds since 1970.
     Milliseconds,
+    /// The same in a finer unit.
+    Fine(FineUnit),
+    /// The same time by the calendar and the clocks of a zone.
+    Calendar(CalendarPart, TimeZone<'w>),
     /// 1 where the whole number compares so with the bound, else 0.
     Compared(Cmp, i64),
+    /// 1 where the number of the calendar compares so with the bound, else 0.
+    CalendarCompared(CalendarPart, TimeZone<'w>, Cmp, i64),
     /// 1 where the text is just this, else 0.
     Same(&'w str),
     /// 0 where the text is just this, else 1.

@@ -4,11 +4,15 @@
 mod column;
 mod fault;
 mod kind;
+mod placing;
 mod reading;
 mod value;
+mod word;
 
 pub use column::Column;
 pub use fault::ColumnFault;
 pub use kind::{ColumnKind, ValueKind};
-pub use reading::read_column;
+pub use placing::{place_column, zone_of};
+pub use reading::column_word;
 pub use value::value_of;
+pub use word::{ColumnWord, WordKind};

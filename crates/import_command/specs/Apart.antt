@@ -1,5 +1,5 @@
 -- Which files an import may write.
-use Rattle.std.specs.Prelude.{nat_eq, ℕ, Bool, true, false, not, ◌&&◌, ◌||◌, List, bytes_eq, codes, Option, Some, None}
+use Rattle.std.specs.Prelude.{nat_eq, ℕ, Bool, true, false, not, ◌&&◌, ◌||◌, List, [], ◌∷◌, bytes_eq, codes, Option, Some, None}
 use Rattle.std.specs.Borrow.{Bor}
 use Rattle.std.specs.List.{list_any, after_first, starts_with}
 use Rattle.import_words.specs.Files.{parts, names_in}
@@ -31,22 +31,16 @@ abbrev pub is_path : Option (Bor (List ℕ)) → List ℕ → Bool
 is_path None path = false
 is_path (Some other) path = bytes_eq other.now path
 
--- the table of names is of the path of the input, or of that of the late rows
-abbrev pub is_taken : List ℕ → Option (Bor (List ℕ)) → List ℕ → Bool
-is_taken input late names = bytes_eq names input || is_path late names
-
--- the file of late rows, if there is one, may be written behind the input
-abbrev pub may_write_late : List (Bor (List ℕ)) → List ℕ → Option (Bor (List ℕ)) → Bool
-may_write_late sources input None = true
-may_write_late sources input (Some late) = may_write sources late.now (bytes_eq late.now input)
-
--- and the table of names behind both
-abbrev pub may_write_names : List (Bor (List ℕ)) → List ℕ → Option (Bor (List ℕ)) → Option (Bor (List ℕ)) → Bool
-may_write_names sources input late None = true
-may_write_names sources input late (Some names) = may_write sources names.now (is_taken input late names.now)
+-- a file, if there is one, may be written behind others
+abbrev pub may_write_behind : List (Bor (List ℕ)) → List (Option (Bor (List ℕ))) → Option (Bor (List ℕ)) → Bool
+may_write_behind sources before None = true
+may_write_behind sources before (Some path) = may_write sources path.now (list_any (λ other. is_path other path.now) before)
 
 -- an import writes no file that it reads, and none twice
 abbrev pub are_apart : ImportWords → Bool
-are_apart words = may_write words.sources.now words.input.now false
-    && may_write_late words.sources.now words.input.now words.late
-    && may_write_names words.sources.now words.input.now words.late words.names
+are_apart words = may_write_behind words.sources.now [] (Some words.input)
+    && may_write_behind words.sources.now (Some words.input ∷ []) words.late
+    && may_write_behind words.sources.now (Some words.input ∷ words.late ∷ []) words.twice
+    && may_write_behind words.sources.now (Some words.input ∷ words.late ∷ words.twice ∷ []) words.bad
+    && may_write_behind words.sources.now (Some words.input ∷ words.late ∷ words.twice ∷ words.bad ∷ []) words.report
+    && may_write_behind words.sources.now (Some words.input ∷ words.late ∷ words.twice ∷ words.bad ∷ words.report ∷ []) words.names

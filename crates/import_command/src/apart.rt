@@ -1,8 +1,9 @@
 //! That an import writes no file that it reads, and none twice.
 
 ghost use Rattle.std.specs.Prelude.{◌≡◌};
+ghost use Rattle.std.specs.List.{list_any};
 ghost use Rattle.import_words.specs.Judging.{IsRefusal, Judges};
-ghost use Rattle.import_command.specs.Apart.{is_device, has_file, names_file, is_read, may_write, is_path, is_taken, may_write_late, may_write_names, are_apart};
+ghost use Rattle.import_command.specs.Apart.{is_device, has_file, names_file, is_read, may_write, is_path, may_write_behind, are_apart};
 
 use crate::words::ImportWords;
 use import_words::{ImportCode, ImportFault, names_path, refused};
@@ -77,30 +78,24 @@ fn is_path(other: Option<&str>, path: &str) -> bool
     }
 }
 
-/// Refuses to write the late rows over the input, or over a file that is read.
-fn check_late(alloc: Global, words: &ImportWords<'_>) -> Result<(), ImportFault>
-    ensures { Judges (may_write_late words.now.sources.now words.now.input.now words.now.late) ImportCode.Write result }
+/// Whether a path is one of those before.
+fn is_one_of(before: &[Option<&str>], path: &str) -> bool
+    ensures { result ≡ list_any (λ other. is_path other path.now) before.now }
 {
-    match words.late {
-        Some(late) => check_file(alloc, words.sources, late, late == words.input),
-        None => Ok(()),
-    }
+    before.iter().any(|other| is_path(*other, path))
 }
 
-/// Whether the table of names is of the path of the input, or of that of the late rows.
-fn is_taken(words: &ImportWords<'_>, names: &str) -> bool
-    ensures { result ≡ is_taken words.now.input.now words.now.late names.now }
+/// Refuses to write a file, if there is one, that words of sources name, or that is one of those before.
+fn check_behind(
+    alloc: Global,
+    sources: &[&str],
+    before: &[Option<&str>],
+    path: Option<&str>,
+) -> Result<(), ImportFault>
+    ensures { Judges (may_write_behind sources.now before.now path.entry) ImportCode.Write result }
 {
-    names == words.input || is_path(words.late, names)
-}
-
-/// Refuses to write the table of names over the input or the late rows, or over a file that is read.
-fn check_names(alloc: Global, words: &ImportWords<'_>) -> Result<(), ImportFault>
-    ensures { Judges (may_write_names words.now.sources.now words.now.input.now words.now.late words.now.names)
-        ImportCode.Write result }
-{
-    match words.names {
-        Some(names) => check_file(alloc, words.sources, names, is_taken(words, names)),
+    match path {
+        Some(path) => check_file(alloc, sources, path, is_one_of(before, path)),
         None => Ok(()),
     }
 }
@@ -113,7 +108,14 @@ fn check_names(alloc: Global, words: &ImportWords<'_>) -> Result<(), ImportFault
 pub(crate) fn check_apart(alloc: Global, words: &ImportWords<'_>) -> Result<(), ImportFault>
     ensures { Judges (are_apart words.now) ImportCode.Write result }
 {
-    check_file(alloc, words.sources, words.input, false)?;
-    check_late(alloc, words)?;
-    check_names(alloc, words)
+    let sources = words.sources;
+    let input = Some(words.input);
+    let (late, twice, bad) = (words.late, words.twice, words.bad);
+    check_behind(alloc, sources, &[], input)?;
+    check_behind(alloc, sources, &[input], late)?;
+    check_behind(alloc, sources, &[input, late], twice)?;
+    check_behind(alloc, sources, &[input, late, twice], bad)?;
+    check_behind(alloc, sources, &[input, late, twice, bad], words.report)?;
+    let before = [input, late, twice, bad, words.report];
+    check_behind(alloc, sources, &before, words.names)
 }

@@ -4,14 +4,16 @@ ghost use Rattle.std.specs.Prelude.{◌≡◌, true, OnOk};
 ghost use Rattle.import_command.specs.Apart.{are_apart};
 
 use crate::apart::check_apart;
-use crate::keeping::{keep_late, late_file, late_rows, named, written};
-use crate::names::{NameFile, no_names};
-use crate::words::{ImportWords, entry_rule};
-use import_columns::Column;
+use crate::keeping::{BesideFiles, named, written};
+use crate::names::{NameFile, no_names, random_state};
+use crate::words::{ImportWords, entry_rule, once_columns};
+use crate::zoning::{placed_columns, zones_of};
+use import_columns::{Column, ColumnWord};
+use import_copies::{ImportRule, Ledger, LedgerWants, OnceRule, import_files};
+use import_reports::ImportReport;
 use import_words::{ImportFault, check_columns, check_sources, read_columns};
-use imports::{ImportRule, import_files};
 use name_table::NameTable;
-use new_files::{NewFile, NewStream};
+use new_files::{NewFile, NewStream, write_whole};
 use plan_model::Plan;
 use std::random::RandomSource;
 use std::rt::Files;
@@ -21,12 +23,13 @@ fn rule_of<'i, R: AllocGlobal>(
     rt: &R,
     plan: &'i Plan,
     words: &'i ImportWords<'i>,
+    said: &[ColumnWord<'_>],
     columns: &'i [Column<'i>],
 ) -> Result<ImportRule<'i>, ImportFault>
     ensures { OnOk result (are_apart words.now ≡ true) }
 {
-    check_columns(rt.alloc(), columns, plan.columns(), words.names.is_some())?;
-    let entries = entry_rule(rt.alloc(), words)?;
+    check_columns(rt.alloc(), said, plan.columns(), words.names.is_some())?;
+    let entries = entry_rule(rt.alloc(), words, plan.window())?;
     check_sources(rt.alloc(), words.sources, plan.sources())?;
     check_apart(rt.alloc(), words)?;
     Ok(ImportRule {
@@ -35,27 +38,63 @@ fn rule_of<'i, R: AllocGlobal>(
         columns,
         time: plan.window().time as usize,
         entries,
+        once: None,
     })
 }
 
-/// Writes the input to a new file, and late rows to another, which takes its name.
+/// The rule with what tells records from one another.
+fn with_once<'i>(rule: ImportRule<'i>, once: OnceRule<'i>) -> ImportRule<'i> {
+    ImportRule {
+        sources: rule.sources,
+        words: rule.words,
+        columns: rule.columns,
+        time: rule.time,
+        entries: rule.entries,
+        once: Some(once),
+    }
+}
+
+/// Writes what is told of an import, if there is a file for it.
+fn write_report<R: Files + Print + RandomSource + AllocGlobal>(
+    rt: &R,
+    path: Option<&str>,
+    report: Option<ImportReport>,
+) -> Result<(), ImportFault> {
+    match (path, report) {
+        (Some(path), Some(report)) => {
+            let Ok(text) = report.text(rt.alloc()) else {
+                return Err(ImportFault::Memory);
+            };
+            written(rt, path, write_whole(rt, path, text.as_bytes()))?;
+            Ok(())
+        }
+        _ => Ok(()),
+    }
+}
+
+/// Writes the input to a new file, and what is no row of it to others, which take their names.
 fn write_files<'r, R: Files + Print + RandomSource + AllocGlobal>(
     rt: &'r R,
     rule: ImportRule<'_>,
     words: &ImportWords<'_>,
     new: &NewFile,
-    new_late: Option<&NewFile>,
+    beside: &BesideFiles<'_>,
     names: &mut NameTable,
 ) -> Result<NewStream<'r, R>, ImportFault> {
-    let late_path = words.late.unwrap_or("");
-    let mut late = late_rows(rt, late_path, new_late, rule.columns)?;
+    let places = beside.open(rt, rule.columns)?;
+    let wants = LedgerWants {
+        once: rule.once.is_some(),
+        report: words.report.is_some(),
+    };
+    let mut ledger = Ledger::new(rt.alloc(), places, rule.columns, wants)?;
     let mut file = written(rt, words.input, new.open(rt))?;
-    named(
-        rt,
-        words,
-        import_files(rt, rule, names, &mut late, &mut file),
-    )?;
-    keep_late(rt, late_path, new_late, late)?;
+    let old_names = names.names().len();
+    let answer = import_files(rt, rule, names, &mut ledger, &mut file);
+    named(rt, words, answer)?;
+    let new_names = names.names().len().saturating_sub(old_names);
+    let (places, report) = ledger.finish(rule.columns, new_names as u64)?;
+    beside.keep(rt, places)?;
+    write_report(rt, words.report, report)?;
     Ok(file)
 }
 
@@ -65,17 +104,17 @@ fn write_all<R: Files + Print + RandomSource + AllocGlobal>(
     rule: ImportRule<'_>,
     words: &ImportWords<'_>,
     new: &NewFile,
-    new_late: Option<&NewFile>,
+    beside: &BesideFiles<'_>,
     table: Option<&NameFile<'_>>,
 ) -> Result<(), ImportFault> {
     let Some(table) = table else {
         let mut names = no_names(rt)?;
-        let file = write_files(rt, rule, words, new, new_late, &mut names)?;
+        let file = write_files(rt, rule, words, new, beside, &mut names)?;
         return written(rt, words.input, new.keep(rt, &file));
     };
     let bytes = table.read(rt)?;
     let mut names = table.table(rt, &bytes)?;
-    let file = write_files(rt, rule, words, new, new_late, &mut names)?;
+    let file = write_files(rt, rule, words, new, beside, &mut names)?;
     table.keep(rt, &bytes, &names)?;
     written(rt, words.input, new.keep(rt, &file))
 }
@@ -88,13 +127,11 @@ fn import_by<R: Files + Print + RandomSource + AllocGlobal>(
     table: Option<&NameFile<'_>>,
 ) -> Result<(), ImportFault> {
     let new = written(rt, words.input, NewFile::at(rt, words.input))?;
-    let late = late_file(rt, words.late)?;
-    let answer = write_all(rt, rule, words, &new, late.as_ref(), table);
+    let beside = BesideFiles::at(rt, words)?;
+    let answer = write_all(rt, rule, words, &new, &beside, table);
     if answer.is_err() {
         let _ = new.remove(rt);
-        if let Some(late) = &late {
-            let _ = late.remove(rt);
-        }
+        beside.remove(rt);
     }
     answer
 }
@@ -114,8 +151,27 @@ fn import_alone<R: Files + Print + RandomSource + AllocGlobal>(
     answer
 }
 
-/// Writes an input of a plan from the files that words name, and with it the table of names and the late rows, where words ask
-/// for these. Each file that is written holds what it held or all that is written.
+/// The same, with what tells records from one another, if words ask for that.
+fn import_once<R: Files + Print + RandomSource + AllocGlobal>(
+    rt: &R,
+    rule: ImportRule<'_>,
+    words: &ImportWords<'_>,
+) -> Result<(), ImportFault> {
+    let places = once_columns(rt.alloc(), words, rule.columns)?;
+    let Some(columns) = &places else {
+        return import_alone(rt, rule, words);
+    };
+    let state = random_state(rt)?;
+    let once = OnceRule {
+        columns: columns.as_slice(),
+        state,
+    };
+    import_alone(rt, with_once(rule, once), words)
+}
+
+/// Writes an input of a plan from the files that words name, and with it the table of names, the records that are late, there twice or
+/// bad, and what is told of the import, where words ask for these. Each file that is written holds what it held or all that is
+/// written.
 ///
 /// # Errors
 ///
@@ -128,8 +184,10 @@ pub fn import<R: Files + Print + RandomSource + AllocGlobal>(
 ) -> Result<(), ImportFault>
     ensures { OnOk result (are_apart words.now ≡ true) }
 {
-    let columns = read_columns(rt.alloc(), words.columns)?;
-    let rule = rule_of(rt, plan, words, &columns)?;
-    import_alone(rt, rule, words)?;
+    let said = read_columns(rt.alloc(), words.columns)?;
+    let zones = zones_of(rt, words.zones, &said)?;
+    let columns = placed_columns(rt.alloc(), &said, &zones)?;
+    let rule = rule_of(rt, plan, words, &said, &columns)?;
+    import_once(rt, rule, words)?;
     Ok(())
 }

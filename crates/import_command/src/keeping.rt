@@ -2,9 +2,11 @@
 
 use crate::words::ImportWords;
 use import_columns::Column;
+use import_copies::Places;
 use import_words::{ImportCode, ImportFault, refused};
-use imports::{LateRows, RowFault};
+use imports::{BadRecords, RowFault, SetAside};
 use new_files::{NewFile, NewStream};
+use std::alloc::{AllocError, Global};
 use std::io;
 use std::io::ErrorKind;
 use std::random::RandomSource;
@@ -30,7 +32,40 @@ pub(crate) fn written<R: AllocGlobal, T>(
     }
 }
 
-/// Names the file that was not written, where an import does not tell which: that of the input, or that of late rows.
+/// What comes of writing records to the file at a path.
+fn put<R: AllocGlobal, T>(
+    rt: &R,
+    path: &str,
+    answer: Result<T, RowFault>,
+) -> Result<T, ImportFault> {
+    match answer {
+        Ok(value) => Ok(value),
+        Err(RowFault::Memory) => Err(ImportFault::Memory),
+        Err(_) => Err(refused(ImportCode::Write, format!(in rt.alloc(); "{path}"))),
+    }
+}
+
+/// Puts a path, if there is one, behind others.
+fn push_path(paths: &mut String, path: Option<&str>) -> Result<(), AllocError> {
+    match path {
+        Some(path) => {
+            paths.push_str(" or ")?;
+            paths.push_str(path)
+        }
+        None => Ok(()),
+    }
+}
+
+/// The files that are written as the records come, of which one could not be.
+fn paths_of(alloc: Global, words: &ImportWords<'_>) -> Result<String, AllocError> {
+    let mut paths = String::from_str(alloc, words.input)?;
+    push_path(&mut paths, words.late)?;
+    push_path(&mut paths, words.twice)?;
+    push_path(&mut paths, words.bad)?;
+    Ok(paths)
+}
+
+/// Names the file that was not written, where an import does not tell which: one of those that are written as the records come.
 pub(crate) fn named<R: AllocGlobal>(
     rt: &R,
     words: &ImportWords<'_>,
@@ -39,60 +74,154 @@ pub(crate) fn named<R: AllocGlobal>(
     let Err(ImportFault::Write) = &answer else {
         return answer;
     };
-    let input = words.input;
-    Err(match words.late {
-        Some(late) => refused(
-            ImportCode::Write,
-            format!(in rt.alloc(); "{input} or {late}"),
-        ),
-        None => refused(ImportCode::Write, format!(in rt.alloc(); "{input}")),
-    })
+    Err(refused(ImportCode::Write, paths_of(rt.alloc(), words)))
 }
 
-/// The place for late rows in a file, if there is a path for them.
-pub(crate) fn late_file<R: Files + RandomSource + AllocGlobal>(
+/// A file beside the input, at the path that words say for it.
+#[derive(Drop)]
+struct Beside<'w> {
+    path: &'w str,
+    new: NewFile,
+}
+
+/// The files for records that are no rows of the input, where words say paths for them.
+#[derive(Drop)]
+pub(crate) struct BesideFiles<'w> {
+    late: Option<Beside<'w>>,
+    twice: Option<Beside<'w>>,
+    bad: Option<Beside<'w>>,
+}
+
+fn file_at<'w, R: Files + RandomSource + AllocGlobal>(
     rt: &R,
-    path: Option<&str>,
-) -> Result<Option<NewFile>, ImportFault> {
+    path: Option<&'w str>,
+) -> Result<Option<Beside<'w>>, ImportFault> {
     match path {
-        Some(path) => Ok(Some(written(rt, path, NewFile::at(rt, path))?)),
+        Some(path) => {
+            let new = written(rt, path, NewFile::at(rt, path))?;
+            Ok(Some(Beside { path, new }))
+        }
         None => Ok(None),
     }
 }
 
-/// What late rows are written to, if there is a place for them.
-pub(crate) fn late_rows<'r, R: Files + Print + AllocGlobal>(
-    rt: &'r R,
-    path: &str,
-    new: Option<&NewFile>,
-    columns: &[Column<'_>],
-) -> Result<Option<LateRows<NewStream<'r, R>>>, ImportFault> {
-    let Some(new) = new else {
-        return Ok(None);
-    };
-    let file = written(rt, path, new.open(rt))?;
-    match LateRows::new(rt.alloc(), file, columns) {
-        Ok(rows) => Ok(Some(rows)),
-        Err(RowFault::Memory) => Err(ImportFault::Memory),
-        Err(_) => Err(refused(ImportCode::Write, format!(in rt.alloc(); "{path}"))),
+fn remove<R: Files>(rt: &R, file: Option<&Beside<'_>>) {
+    if let Some(file) = file {
+        let _ = file.new.remove(rt);
     }
 }
 
-/// Has late rows in their file.
-pub(crate) fn keep_late<R: Files + Print + AllocGlobal>(
+/// What records that are set aside are written to, if there is a file for them.
+fn set_aside<'r, R: Files + Print + AllocGlobal>(
+    rt: &'r R,
+    file: Option<&Beside<'_>>,
+    columns: &[Column<'_>],
+) -> Result<Option<SetAside<NewStream<'r, R>>>, ImportFault> {
+    let Some(file) = file else {
+        return Ok(None);
+    };
+    let stream = written(rt, file.path, file.new.open(rt))?;
+    let records = put(rt, file.path, SetAside::new(rt.alloc(), stream, columns))?;
+    Ok(Some(records))
+}
+
+/// What bad records are written to, if there is a file for them.
+fn bad_records<'r, R: Files + Print + AllocGlobal>(
+    rt: &'r R,
+    file: Option<&Beside<'_>>,
+) -> Result<Option<BadRecords<NewStream<'r, R>>>, ImportFault> {
+    let Some(file) = file else {
+        return Ok(None);
+    };
+    let stream = written(rt, file.path, file.new.open(rt))?;
+    let records = put(rt, file.path, BadRecords::new(rt.alloc(), stream))?;
+    Ok(Some(records))
+}
+
+/// Has records that were set aside in their file.
+fn keep_aside<R: Files + Print + AllocGlobal>(
     rt: &R,
-    path: &str,
-    new: Option<&NewFile>,
-    rows: Option<LateRows<NewStream<'_, R>>>,
+    file: Option<&Beside<'_>>,
+    records: Option<SetAside<NewStream<'_, R>>>,
 ) -> Result<(), ImportFault> {
-    let Some(new) = new else {
-        return Ok(());
-    };
-    let Some(rows) = rows else {
-        return Ok(());
-    };
-    match rows.finish() {
-        Ok(file) => written(rt, path, new.keep(rt, &file)),
-        Err(_) => Err(refused(ImportCode::Write, format!(in rt.alloc(); "{path}"))),
+    match (file, records) {
+        (Some(file), Some(records)) => {
+            let stream = put(rt, file.path, records.finish())?;
+            written(rt, file.path, file.new.keep(rt, &stream))
+        }
+        _ => Ok(()),
+    }
+}
+
+/// Has bad records in their file.
+fn keep_bad<R: Files + Print + AllocGlobal>(
+    rt: &R,
+    file: Option<&Beside<'_>>,
+    records: Option<BadRecords<NewStream<'_, R>>>,
+) -> Result<(), ImportFault> {
+    match (file, records) {
+        (Some(file), Some(records)) => {
+            let stream = put(rt, file.path, records.finish())?;
+            written(rt, file.path, file.new.keep(rt, &stream))
+        }
+        _ => Ok(()),
+    }
+}
+
+impl<'w> BesideFiles<'w> {
+    /// The files for which words say paths.
+    ///
+    /// # Errors
+    ///
+    /// `Write`; `Memory`.
+    pub(crate) fn at<R: Files + RandomSource + AllocGlobal>(
+        rt: &R,
+        words: &ImportWords<'w>,
+    ) -> Result<BesideFiles<'w>, ImportFault> {
+        Ok(BesideFiles {
+            late: file_at(rt, words.late)?,
+            twice: file_at(rt, words.twice)?,
+            bad: file_at(rt, words.bad)?,
+        })
+    }
+
+    /// Removes those that have not their names yet.
+    pub(crate) fn remove<R: Files>(&self, rt: &R) {
+        remove(rt, self.late.as_ref());
+        remove(rt, self.twice.as_ref());
+        remove(rt, self.bad.as_ref());
+    }
+
+    /// What records are written to.
+    ///
+    /// # Errors
+    ///
+    /// `Write`; `Memory`.
+    pub(crate) fn open<'r, R: Files + Print + AllocGlobal>(
+        &self,
+        rt: &'r R,
+        columns: &[Column<'_>],
+    ) -> Result<Places<NewStream<'r, R>>, ImportFault> {
+        Ok(Places {
+            late: set_aside(rt, self.late.as_ref(), columns)?,
+            twice: set_aside(rt, self.twice.as_ref(), columns)?,
+            bad: bad_records(rt, self.bad.as_ref())?,
+        })
+    }
+
+    /// Has what was written in the files.
+    ///
+    /// # Errors
+    ///
+    /// `Write`; `Memory`.
+    pub(crate) fn keep<R: Files + Print + AllocGlobal>(
+        &self,
+        rt: &R,
+        places: Places<NewStream<'_, R>>,
+    ) -> Result<(), ImportFault> {
+        let Places { late, twice, bad } = places;
+        keep_aside(rt, self.late.as_ref(), late)?;
+        keep_aside(rt, self.twice.as_ref(), twice)?;
+        keep_bad(rt, self.bad.as_ref(), bad)
     }
 }

@@ -6,6 +6,7 @@ mod importing;
 mod keeping;
 mod names;
 mod words;
+mod zoning;
 
 pub use importing::import;
 pub use words::ImportWords;

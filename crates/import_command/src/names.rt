@@ -48,8 +48,14 @@ fn bytes_at<R: Files + AllocGlobal>(rt: &R, path: &str) -> Result<Vec<u8>, Impor
     }
 }
 
-/// The hashes of a table.
-fn random_state<R: RandomSource + AllocGlobal>(rt: &R) -> Result<RandomState, ImportFault> {
+/// What the hashes of a table start from.
+///
+/// # Errors
+///
+/// `Read` where the system gives no random numbers; `Memory`.
+pub(crate) fn random_state<R: RandomSource + AllocGlobal>(
+    rt: &R,
+) -> Result<RandomState, ImportFault> {
     match RandomState::new(rt) {
         Ok(state) => Ok(state),
         Err(_) => Err(refused(ImportCode::Read, format!(in rt.alloc(); "random numbers"))),

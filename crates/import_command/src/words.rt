@@ -1,9 +1,16 @@
 //! The words of an import.
 
+ghost use Rattle.std.specs.Prelude.{◌≡◌};
+ghost use Rattle.import_words.specs.Files.{parts};
+ghost use Rattle.import_words.specs.Judging.{IsRefusal};
+ghost use Rattle.import_command.specs.Once.{column_of, GivesPlaces, GivesOnce};
+
 use columns::MOST_ROWS;
 use field_values::are_digits;
-use import_entries::EntryRule;
+use import_columns::Column;
+use import_entries::{EntryRule, WindowEnds};
 use import_words::{ImportCode, ImportFault, refused};
+use plan_model::WindowSpec;
 use std::alloc::Global;
 
 /// The words of an import, behind that of its plan.
@@ -19,8 +26,20 @@ pub struct ImportWords<'a> {
     pub names: Option<&'a str>,
     /// How far behind the latest a record may come.
     pub bound: Option<&'a str>,
-    /// The file for late rows.
+    /// The file for late records.
     pub late: Option<&'a str>,
+    /// The folder of the zones: that of the system, where no word says so.
+    pub zones: Option<&'a str>,
+    /// The fields that tell records from one another, with commas between: of those that are the same the first counts.
+    pub once: Option<&'a str>,
+    /// The file for the others of those.
+    pub twice: Option<&'a str>,
+    /// The file for bad records.
+    pub bad: Option<&'a str>,
+    /// The file for what is told of the import.
+    pub report: Option<&'a str>,
+    /// Whether watermarks are rounded down to the ends of windows, so that a record is late just where its windows are closed.
+    pub is_aligned: bool,
     /// The most rows of an entry: as many as there can be, where no word says so.
     pub rows: Option<&'a str>,
 }
@@ -56,19 +75,87 @@ fn rule_with(rows: u64, bound: Option<u64>) -> Option<EntryRule> {
     EntryRule::new(rows, bound)
 }
 
+/// The rule with watermarks at the ends of windows, where words ask for that.
+fn rule_at_ends(rule: EntryRule, words: &ImportWords<'_>, window: &WindowSpec) -> EntryRule {
+    if !words.is_aligned {
+        return rule;
+    }
+    match WindowEnds::new(window.size, window.slide, window.offset) {
+        Some(ends) => rule.aligned(ends),
+        None => rule,
+    }
+}
+
 /// What is asked of the entries.
 ///
 /// # Errors
 ///
 /// `Number` where a word is no number in its range; `Memory`.
-pub(crate) fn entry_rule(alloc: Global, words: &ImportWords<'_>) -> Result<EntryRule, ImportFault> {
+pub(crate) fn entry_rule(
+    alloc: Global,
+    words: &ImportWords<'_>,
+    window: &WindowSpec,
+) -> Result<EntryRule, ImportFault> {
     let bound = bound_of(alloc, words.bound)?;
     let rows = match words.rows {
         Some(word) => number_of(word).unwrap_or(0),
         None => MOST_ROWS as u64,
     };
     match rule_with(rows, bound) {
-        Some(rule) => Ok(rule),
+        Some(rule) => Ok(rule_at_ends(rule, words, window)),
         None => Err(refused_number(alloc, "--rows", words.rows.unwrap_or(""), "1 to 4096")),
+    }
+}
+
+fn refused_field(alloc: Global, field: &str) -> ImportFault
+    ensures { IsRefusal ImportCode.Columns result }
+{
+    refused(
+        ImportCode::Columns,
+        format!(in alloc; "--once: COLUMNS names no field {field:?}"),
+    )
+}
+
+/// The first column of a field.
+fn column_of(columns: &[Column<'_>], field: &str) -> Option<usize>
+    ensures { result ≡ column_of columns.now field.now }
+{
+    columns.iter().position(|column| column.field == field)
+}
+
+/// The columns of fields that stand in a word, with commas between.
+fn columns_of(alloc: Global, word: &str, columns: &[Column<'_>]) -> Result<Vec<usize>, ImportFault>
+    ensures { GivesPlaces columns.now (parts word.now) result }
+{
+    let mut found = Vec::new(alloc);
+    for field in word.split(',') {
+        match column_of(columns, field) {
+            Some(column) => found.push(column)?,
+            None => return Err(refused_field(alloc, field)),
+        }
+    }
+    Ok(found)
+}
+
+/// The columns whose fields tell records from one another, if words ask for that.
+///
+/// # Errors
+///
+/// `Options` where the others of such records are to go to a file, and nothing tells records from one another; `Columns` where no column
+/// has one of the fields; `Memory`.
+pub(crate) fn once_columns(
+    alloc: Global,
+    words: &ImportWords<'_>,
+    columns: &[Column<'_>],
+) -> Result<Option<Vec<usize>>, ImportFault>
+    ensures { GivesOnce words.now columns.now result }
+{
+    match (words.once, words.twice) {
+        (Some(once), _) => Ok(Some(columns_of(alloc, once, columns)?)),
+        (None, Some(_)) => Err(refused(
+            ImportCode::Options,
+            format!(in alloc; "--twice stands without --once"),
+        )),
+        (None, None) => Ok(None),
     }
 }

@@ -8,6 +8,7 @@ use Rattle.lane_kernels.specs.Compare.{greatest_of}
 use Rattle.plan_model.specs.Windows.{is_time}
 use Rattle.import_entries.specs.declared.place.Place.TheVariants.{Joins, Begins}
 use Rattle.import_entries.specs.declared.progress.Progress.{Progress}
+use Rattle.import_entries.specs.declared.rule.Bound.{Bound}
 use Rattle.import_entries.specs.Entries.{open_rows, closed_times, settled_times, begins, progress_of, place_fault, place_said, late_said, mark_said}
 
 mod_next : (m n : ℕ) → m % n + 1 < n → (m + 1) % n ≡ m % n + 1
@@ -114,15 +115,15 @@ moved n times old r (inl none) = inl (omega (arith, r))
 moved n times old r (inr full) = inr (omega (arith, r))
 
 -- why a row that joins the last entry goes nowhere, if it does not
-pub fault_joined : (n : ℕ) (bound : Option ℕ) (times : List ℤ) (time : ℤ) (old : Progress) → old ≡ progress_of n times → 0 < old.rows → old.rows < n → is_time time ≡ true → place_fault n bound times time ≡ late_said (mark_said bound old.closed) time
+pub fault_joined : (n : ℕ) (marks : Option Bound) (times : List ℤ) (time : ℤ) (old : Progress) → old ≡ progress_of n times → 0 < old.rows → old.rows < n → is_time time ≡ true → place_fault n marks times time ≡ late_said (mark_said marks old.closed) time
 unfolding place_fault settled_times
-fault_joined n bound times time old e some room ok =
+fault_joined n marks times time old e some room ok =
     let r = rows_of n times old e in
     rw (ok, not_begun n times (omega (arith, r.0)) (omega (arith, r.0)), r.2) refl
 
-pub place_joined : (n : ℕ) (bound : Option ℕ) (times : List ℤ) (old : Progress) → old ≡ progress_of n times → 0 < old.rows → old.rows < n → Joins ≡ place_said n bound times
+pub place_joined : (n : ℕ) (marks : Option Bound) (times : List ℤ) (old : Progress) → old ≡ progress_of n times → 0 < old.rows → old.rows < n → Joins ≡ place_said n marks times
 unfolding place_said
-place_joined n bound times old e some room =
+place_joined n marks times old e some room =
     let r = rows_of n times old e in
     rw (not_begun n times (omega (arith, r.0)) (omega (arith, r.0))) refl
 
@@ -135,15 +136,15 @@ rows_joined n times time latest old e some room g =
     made_same (old.rows + 1) (open_rows n (times ++ time ∷ [])) (Some latest) (greatest_of (times ++ time ∷ [])) old.closed (greatest_of (closed_times n (times ++ time ∷ [])))
     (omega (arith, r.0, open_joined n times time low high)) g (r.2 ∙ ap greatest_of (sym (closed_joined n times time low high)))
 
-pub fault_begun : (n : ℕ) (bound : Option ℕ) (times : List ℤ) (time : ℤ) (old : Progress) → old ≡ progress_of n times → 0 < n → (old.rows ≡ 0) ⊎ (n ≤ old.rows) → is_time time ≡ true → place_fault n bound times time ≡ late_said (mark_said bound old.latest) time
+pub fault_begun : (n : ℕ) (marks : Option Bound) (times : List ℤ) (time : ℤ) (old : Progress) → old ≡ progress_of n times → 0 < n → (old.rows ≡ 0) ⊎ (n ≤ old.rows) → is_time time ≡ true → place_fault n marks times time ≡ late_said (mark_said marks old.latest) time
 unfolding place_fault settled_times
-fault_begun n bound times time old e some full ok =
+fault_begun n marks times time old e some full ok =
     let r = rows_of n times old e in
     rw (ok, begun n times (full_or_none n times some (moved n times old r.0 full)), r.1) refl
 
-pub place_begun : (n : ℕ) (bound : Option ℕ) (times : List ℤ) (old : Progress) → old ≡ progress_of n times → 0 < n → (old.rows ≡ 0) ⊎ (n ≤ old.rows) → Begins (mark_said bound old.latest) ≡ place_said n bound times
+pub place_begun : (n : ℕ) (marks : Option Bound) (times : List ℤ) (old : Progress) → old ≡ progress_of n times → 0 < n → (old.rows ≡ 0) ⊎ (n ≤ old.rows) → Begins (mark_said marks old.latest) ≡ place_said n marks times
 unfolding place_said
-place_begun n bound times old e some full =
+place_begun n marks times old e some full =
     let r = rows_of n times old e in
     rw (begun n times (full_or_none n times some (moved n times old r.0 full)), r.1) refl
 

@@ -8,6 +8,9 @@ use Rattle.import_entries.specs.declared.place.Place.TheVariants.{Joins, Begins}
 use Rattle.import_entries.specs.declared.place.PlaceFault.{PlaceFault}
 use Rattle.import_entries.specs.declared.place.PlaceFault.TheVariants.{Range, Late}
 use Rattle.import_entries.specs.declared.progress.Progress.{Progress}
+use Rattle.import_entries.specs.declared.ends.WindowEnds.{WindowEnds}
+use Rattle.import_entries.specs.declared.rule.Bound.{Bound}
+use Rattle.import_entries.specs.Ends.{last_end}
 
 -- how many rows the last entry has, where each has n, and the last 1 to n
 unfoldable pub open_rows : ℕ → List ℤ → ℕ
@@ -29,10 +32,19 @@ begins n times = (open_rows n times == 0) || (open_rows n times == n)
 unfoldable pub settled_times : ℕ → List ℤ → List ℤ
 settled_times n times = if begins n times then times else closed_times n times
 
--- the greatest time less the bound less 1, where it is a time
-abbrev pub mark_said : Option ℕ → Option ℤ → Option ℤ
-mark_said (Some bound) (Some latest) = if is_time ((latest -ℤ pos bound) -ℤ pos 1) then Some ((latest -ℤ pos bound) -ℤ pos 1) else None
-mark_said bound latest = None
+-- the last time of a window that a watermark has reached, where that is asked for
+abbrev pub reached : Option WindowEnds → ℤ → ℤ
+reached None mark = mark
+reached (Some ends) mark = last_end ends mark
+
+-- a watermark that is a time
+abbrev pub timely : ℤ → Option ℤ
+timely mark = if is_time mark then Some mark else None
+
+-- the greatest time less the bound less 1
+abbrev pub mark_said : Option Bound → Option ℤ → Option ℤ
+mark_said (Some rule) (Some latest) = timely (reached rule.ends ((latest -ℤ pos rule.behind) -ℤ pos 1))
+mark_said marks latest = None
 
 -- why a row with this time goes nowhere behind such a watermark, if it is late
 abbrev pub late_said : Option ℤ → ℤ → Option PlaceFault
@@ -40,14 +52,14 @@ late_said None time = None
 late_said (Some mark) time = if is_late_time mark time then Some (Late time mark) else None
 
 -- why the next row goes nowhere, if it does not
-unfoldable pub place_fault : ℕ → Option ℕ → List ℤ → ℤ → Option PlaceFault
-place_fault n bound times time = if not (is_time time) then Some Range else late_said (mark_said bound (greatest_of (settled_times n times))) time
+unfoldable pub place_fault : ℕ → Option Bound → List ℤ → ℤ → Option PlaceFault
+place_fault n marks times time = if not (is_time time) then Some Range else late_said (mark_said marks (greatest_of (settled_times n times))) time
 
 -- where the next row goes
-unfoldable pub place_said : ℕ → Option ℕ → List ℤ → Place
-place_said n bound times = if begins n times then Begins (mark_said bound (greatest_of times)) else Joins
+unfoldable pub place_said : ℕ → Option Bound → List ℤ → Place
+place_said n marks times = if begins n times then Begins (mark_said marks (greatest_of times)) else Joins
 
 -- the next row goes where it is said, and is then one of the rows; or it is refused, and nothing changes
-abbrev pub IsPlaced : ℕ → Option ℕ → List ℤ → ℤ → Progress → Progress → Result Place PlaceFault → Type 0
-IsPlaced n bound times time old new (Ok place) = (place_fault n bound times time ≡ None) × (place ≡ place_said n bound times) × (new ≡ progress_of n (times ++ time ∷ []))
-IsPlaced n bound times time old new (Err fault) = (place_fault n bound times time ≡ Some fault) × (new ≡ old)
+abbrev pub IsPlaced : ℕ → Option Bound → List ℤ → ℤ → Progress → Progress → Result Place PlaceFault → Type 0
+IsPlaced n marks times time old new (Ok place) = (place_fault n marks times time ≡ None) × (place ≡ place_said n marks times) × (new ≡ progress_of n (times ++ time ∷ []))
+IsPlaced n marks times time old new (Err fault) = (place_fault n marks times time ≡ Some fault) × (new ≡ old)

@@ -1,12 +1,14 @@
 //! What is known of the rows of a partition so far.
 
-ghost use Rattle.std.specs.Prelude.{◌≡◌, ◌<◌, ◌≤◌, ◌⊎◌, IsTrue, ◌∷◌, ◌++◌, [], ℤ, List, ℕ, Some};
+ghost use Rattle.std.specs.Prelude.{◌≡◌, ◌<◌, ◌≤◌, ◌^◌, ◌-ℤ◌, ◌≤ℤ◌, ◌⊎◌, pos, neg_ℤ, IsTrue, SomeIff, ◌∷◌, ◌++◌, [], ℤ, List, ℕ, Some};
 ghost use Rattle.lane_kernels.specs.Compare.{greatest_of};
 ghost use Rattle.plan_model.specs.Windows.{is_time};
-ghost use Rattle.import_entries.specs.Entries.{progress_of, mark_said, late_said, IsPlaced};
+ghost use Rattle.import_entries.specs.Entries.{progress_of, reached, timely, mark_said, late_said, IsPlaced};
 
+use crate::ends::WindowEnds;
 use crate::place::{Place, PlaceFault};
-use crate::rule::EntryRule;
+use crate::rounding::rounded;
+use crate::rule::{Bound, EntryRule};
 use plan_model::is_time;
 use stream_model::is_late_time;
 
@@ -21,13 +23,49 @@ pub struct Progress {
     closed: Option<i64>,
 }
 
-/// The watermark behind rows with this greatest time. One below all times says nothing, and is left out.
-fn mark(bound: Option<u64>, greatest: Option<i64>) -> Option<i64>
-    ensures { result ≡ mark_said bound greatest }
+/// The time so far below the latest, where 64 bits hold it.
+fn behind(latest: i64, bound: u64) -> Option<i64>
+    ensures { SomeIff result (neg_ℤ (pos (2 ^ 63)) ≤ℤ ((latest -ℤ pos bound) -ℤ pos 1)) ((latest -ℤ pos bound) -ℤ pos 1) }
 {
-    let behind = greatest?.checked_sub_unsigned(bound?)?;
-    let mark = behind.checked_sub(1)?;
+    latest.checked_sub_unsigned(bound)?.checked_sub(1)
+}
+
+/// The last time of a window that a watermark has reached, where that is asked for.
+fn reached(ends: Option<WindowEnds>, mark: i64) -> i128
+    ensures { result ≡ reached ends mark }
+{
+    match ends {
+        Some(ends) => rounded(ends, mark),
+        None => i128::from(mark),
+    }
+}
+
+/// A watermark that is a time. One below all times says nothing, and is left out.
+fn timely(mark: i128) -> Option<i64>
+    ensures { result ≡ timely mark }
+{
+    if mark < i128::from(i64::MIN) || mark > i128::from(i64::MAX) {
+        return None;
+    }
+    let mark = mark as i64;
     if is_time(mark) { Some(mark) } else { None }
+}
+
+/// The watermark behind rows with this greatest time, by a rule.
+fn mark_by(rule: Bound, latest: i64) -> Option<i64>
+    ensures { result ≡ timely (reached rule.ends ((latest -ℤ pos rule.behind) -ℤ pos 1)) }
+{
+    match behind(latest, rule.behind) {
+        Some(mark) => timely(reached(rule.ends, mark)),
+        None => None,
+    }
+}
+
+/// The watermark behind rows with this greatest time, where there are watermarks.
+fn mark(marks: Option<Bound>, greatest: Option<i64>) -> Option<i64>
+    ensures { result ≡ mark_said marks greatest }
+{
+    mark_by(marks?, greatest?)
 }
 
 /// The greatest time with one more.

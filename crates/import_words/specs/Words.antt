@@ -4,10 +4,10 @@ use Rattle.std.specs.Borrow.{Bor}
 use Rattle.std.specs.declared.alloc.Global.{Global}
 use Rattle.std.specs.List.{list_all, list_any, position_or_len, before_first, after_first, Contains}
 use Rattle.import_columns.specs.Columns.{view_column, column_said}
-use Rattle.import_columns.specs.declared.column.Column.{Column}
 use Rattle.import_columns.specs.declared.fault.ColumnFault.{ColumnFault}
-use Rattle.import_columns.specs.declared.kind.ColumnKind.{ColumnKind}
-use Rattle.import_columns.specs.declared.kind.ColumnKind.TheVariants as kind
+use Rattle.import_columns.specs.declared.word.ColumnWord.{ColumnWord}
+use Rattle.import_columns.specs.declared.word.WordKind.{WordKind}
+use Rattle.import_columns.specs.declared.word.WordKind.TheVariants as kind
 use Rattle.plan_model.specs.declared.spec.SourceSpec.{SourceSpec}
 use Rattle.import_words.specs.Files.{parts, lists_in}
 use Rattle.import_words.specs.Judging.{IsRefusal}
@@ -16,7 +16,7 @@ use Rattle.import_words.specs.declared.refusal.ImportFault.{ImportFault}
 use Rattle.import_words.specs.declared.refusal.ImportFault.TheVariants.{Refused, Write, Memory}
 
 -- these are the columns that words say, one each
-abbrev pub AreColumns : List (List ℕ) → List Column → Type 0
+abbrev pub AreColumns : List (List ℕ) → List ColumnWord → Type 0
 AreColumns words columns = map column_said words ≡ map (λ c. Ok (view_column c)) columns
 
 -- some of these words says no column
@@ -30,16 +30,16 @@ RefusesColumns word Write = ⊥
 RefusesColumns word Memory = Unit {0}
 
 -- the answer is the columns that a word says, or such a refusal
-abbrev pub ReadsColumns : {A : Type 0} → List ℕ → Result (Vec Column A) ImportFault → Type 0
+abbrev pub ReadsColumns : {A : Type 0} → List ℕ → Result (Vec ColumnWord A) ImportFault → Type 0
 ReadsColumns word (Ok columns) = AreColumns (parts word) columns.items
 ReadsColumns word (Err fault) = RefusesColumns word fault
 
-abbrev pub is_name : ColumnKind → Bool
-is_name (kind.Value value) = false
+abbrev pub is_name : WordKind → Bool
 is_name kind.Name = true
+is_name value = false
 
 -- there are as many columns as are wanted, and no names without a table of them
-abbrev pub are_right : List Column → ℕ → Bool → Bool
+abbrev pub are_right : List ColumnWord → ℕ → Bool → Bool
 are_right columns wanted has_names = (length columns == wanted) && (has_names || not (list_any (λ c. is_name c.kind) columns))
 
 abbrev pub is_equals : ℕ → Bool

@@ -27,8 +27,12 @@ pub enum ImportCode {
     Names,
     /// A line of an NDJSON file that is no JSON object, or lacks a member or has it twice.
     Object,
+    /// A record that is the same as one before it in the fields that tell records apart.
+    Twice,
     /// A word that is to be a number in its range.
     Number,
+    /// Words that do not go together.
+    Options,
     /// A file that cannot be read.
     Read,
     /// A file that cannot be written.
@@ -47,7 +51,9 @@ impl fmt::Display for ImportCode {
             ImportCode::LateRow => "D7 LateRow",
             ImportCode::Names => "D8 Names",
             ImportCode::Object => "D9 Object",
+            ImportCode::Twice => "D10 Twice",
             ImportCode::Number => "C2 Number",
+            ImportCode::Options => "C3 Options",
             ImportCode::Read => "F1 Read",
             ImportCode::Write => "F2 Write",
         })
@@ -112,7 +118,7 @@ fn status_of_code(code: ImportCode) -> u8
     ensures { result ≡ code_status code }
 {
     match code {
-        ImportCode::Columns | ImportCode::Sources | ImportCode::Number => 2,
+        ImportCode::Columns | ImportCode::Sources | ImportCode::Number | ImportCode::Options => 2,
         _ => 3,
     }
 }

@@ -9,7 +9,7 @@ ghost use Rattle.import_words.specs.Words.{only, files_named, GivesFiles, GivesL
 
 use crate::files::file_lists;
 use crate::refusal::{ImportCode, ImportFault, refused};
-use import_columns::{Column, ColumnFault, ColumnKind, read_column};
+use import_columns::{ColumnFault, ColumnWord, WordKind, column_word};
 use plan_model::SourceSpec;
 use std::alloc::Global;
 
@@ -17,7 +17,7 @@ use std::alloc::Global;
 fn wrong_column(fault: ColumnFault) -> &'static str {
     match fault {
         ColumnFault::Form => {
-            "a field's name stands alone, or with a number of decimal places, ms, name, or a comparison as ge:500 behind a colon"
+            "a field's name stands alone, or with a number of decimal places, ms, us, ns, name, a comparison as ge:500, or day, month, year, hour or weekday and a zone as day:Europe/Berlin behind a colon"
         }
         ColumnFault::Places => "no more than 18 decimal places are kept",
         ColumnFault::Bound(_) => "the bound of a comparison is a whole number of 64 bits",
@@ -35,12 +35,12 @@ fn refused_column(alloc: Global, word: &str, what: &str) -> ImportFault
 /// # Errors
 ///
 /// `Columns` where one of them is none; `Memory`.
-pub fn read_columns<'w>(alloc: Global, word: &'w str) -> Result<Vec<Column<'w>>, ImportFault>
+pub fn read_columns<'w>(alloc: Global, word: &'w str) -> Result<Vec<ColumnWord<'w>>, ImportFault>
     ensures { ReadsColumns word.now result }
 {
     let mut columns = Vec::new(alloc);
     for one in word.split(',') {
-        match read_column(one) {
+        match column_word(one) {
             Ok(column) => {
                 if columns.push(column).is_err() {
                     return Err(ImportFault::Memory);
@@ -59,7 +59,7 @@ pub fn read_columns<'w>(alloc: Global, word: &'w str) -> Result<Vec<Column<'w>>,
 /// `Columns`; `Memory`.
 pub fn check_columns(
     alloc: Global,
-    columns: &[Column<'_>],
+    columns: &[ColumnWord<'_>],
     wanted: u32,
     has_names: bool,
 ) -> Result<(), ImportFault>
@@ -73,7 +73,7 @@ pub fn check_columns(
         ));
     }
     for column in columns {
-        if !has_names && matches!(&column.kind, ColumnKind::Name) {
+        if !has_names && matches!(&column.kind, WordKind::Name) {
             return Err(refused_column(
                 alloc,
                 column.field,

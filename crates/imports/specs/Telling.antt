@@ -21,6 +21,12 @@ abbrev pub place_code : PlaceFault → ImportCode
 place_code place.Range = code.TimeRange
 place_code (place.Late time mark) = code.LateRow
 
+-- what is told of a reason has its code, and is no refusal where that is none; or there was no memory for it
+abbrev pub KeepsCode : ImportFault → ImportFault → Type 0
+KeepsCode (fault.Refused code reason) told = IsRefusal code told
+KeepsCode fault.Write told = told ≡ fault.Write
+KeepsCode fault.Memory told = told ≡ fault.Memory
+
 -- what is told of a row of a file
 abbrev pub TellsRow : RowFault → ImportFault → Type 0
 TellsRow row.Read told = IsRefusal code.Read told

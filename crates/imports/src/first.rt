@@ -7,7 +7,7 @@ use std::alloc::{AllocError, Global};
 
 /// The header of the first CSV file of a partition.
 #[derive(Drop)]
-pub(crate) struct FirstHeader<'f> {
+pub struct FirstHeader<'f> {
     pub(crate) file: &'f str,
     header: ByteRecord,
 }

@@ -25,10 +25,7 @@ fn is_ndjson(path: &str) -> bool {
 }
 
 /// The names of the fields that columns ask for.
-pub(crate) fn fields_of<'w>(
-    alloc: Global,
-    columns: &[Column<'w>],
-) -> Result<Vec<&'w str>, RowFault> {
+pub fn fields_of<'w>(alloc: Global, columns: &[Column<'w>]) -> Result<Vec<&'w str>, RowFault> {
     let mut fields = Vec::new(alloc);
     for column in columns {
         fields.push(column.field)?;
@@ -66,7 +63,7 @@ impl<R: Read + Drop> Records<R> {
     /// # Errors
     ///
     /// `Read`; those of the header that a CSV text has, which is to be that of the partition; `Memory`.
-    pub(crate) fn begin<'f>(
+    pub fn begin<'f>(
         &mut self,
         alloc: Global,
         columns: &[Column<'_>],
@@ -88,7 +85,7 @@ impl<R: Read + Drop> Records<R> {
     /// # Errors
     ///
     /// `Read`; `Width`; `NoObject` or `Member` where the line is no object with a text for each of the fields; `Memory`.
-    pub(crate) fn advance(&mut self, fields: &[&str]) -> Result<bool, RowFault> {
+    pub fn advance(&mut self, fields: &[&str]) -> Result<bool, RowFault> {
         match self {
             Records::Rows(rows) => rows.advance(),
             Records::Objects(lines) => match lines.advance(fields) {
@@ -99,7 +96,7 @@ impl<R: Read + Drop> Records<R> {
     }
 
     /// The record.
-    pub(crate) fn record(&self) -> &ByteRecord {
+    pub fn record(&self) -> &ByteRecord {
         match self {
             Records::Rows(rows) => rows.record(),
             Records::Objects(lines) => lines.record(),
@@ -107,7 +104,7 @@ impl<R: Read + Drop> Records<R> {
     }
 
     /// The line at which the record begins, counted from 1.
-    pub(crate) fn line(&self) -> u64 {
+    pub fn line(&self) -> u64 {
         match self {
             Records::Rows(rows) => rows.line(),
             Records::Objects(lines) => lines.line(),
@@ -115,7 +112,7 @@ impl<R: Read + Drop> Records<R> {
     }
 
     /// The line at which the record ends.
-    pub(crate) fn last_line(&self) -> u64 {
+    pub fn last_line(&self) -> u64 {
         match self {
             Records::Rows(rows) => rows.last_line(),
             Records::Objects(lines) => lines.line(),

@@ -1,26 +1,29 @@
-//! An import: from CSV and NDJSON files to the JSON text of an input, in one pass, with no more than one entry's rows in memory.
+//! The records of CSV and NDJSON files: where their fields stand, the numbers that they give, what is told of one that gives none, and
+//! what is written of those that go into no input.
 #![tactic(auto)]
 
+mod aside;
+mod bad;
 mod fault;
-mod files;
 mod first;
 mod header;
 mod kinds;
-mod late;
 mod names;
-mod partition;
 mod placing;
 mod reader;
 mod records;
 mod row;
 mod telling;
+mod texts;
 mod watched;
 mod writer;
 
+pub use aside::SetAside;
+pub use bad::BadRecords;
 pub use fault::RowFault;
-pub use files::{ImportRule, import_files, import_partition};
-pub use kinds::Records;
-pub use late::LateRows;
+pub use first::FirstHeader;
+pub use kinds::{Records, fields_of};
 pub use names::{read_names, text_of_names};
 pub use records::CsvRows;
-pub use telling::refused_names;
+pub use row::fill_row;
+pub use telling::{at_line, reason_of, refused_file, refused_names, refused_row};

@@ -45,6 +45,11 @@ impl<R: Read + Drop> CsvReader<R> {
         self.reader.position().byte()
     }
 
+    /// In which line of the text the next record is looked for, counted from 1.
+    pub(crate) fn next_line(&self) -> u64 {
+        self.reader.position().line()
+    }
+
     /// Goes on to the next record, and tells whether there is one.
     ///
     /// # Errors

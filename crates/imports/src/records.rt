@@ -83,6 +83,12 @@ impl<R: Read + Drop> CsvRows<R> {
         searched_from.saturating_add(self.reader.source().lines())
     }
 
+    /// How many lines there are up to where the next record is looked for, the last without a line feed among them.
+    pub(crate) fn lines(&self) -> u64 {
+        let ended = self.reader.next_line().saturating_sub(1);
+        ended.saturating_add(u64::from(self.reader.source().is_within_line()))
+    }
+
     /// The line at which the record ends.
     pub(crate) fn last_line(&self) -> u64 {
         let lines = line_feeds(&self.record);

@@ -51,7 +51,7 @@ fn value(
 /// # Errors
 ///
 /// `Value` or `NoText` of the first column whose text is refused; `Memory`.
-pub(crate) fn fill_row(
+pub fn fill_row(
     row: &mut Vec<i64>,
     names: &mut NameTable,
     columns: &[Column<'_>],

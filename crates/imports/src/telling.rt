@@ -1,7 +1,7 @@
 //! The sentences of refusals: where something stands, and what it has to be.
 
 ghost use Rattle.import_words.specs.Judging.{IsRefusal};
-ghost use Rattle.imports.specs.Telling.{member_code, place_code, TellsRow, TellsNames};
+ghost use Rattle.imports.specs.Telling.{member_code, place_code, KeepsCode, TellsRow, TellsNames};
 
 use crate::fault::RowFault;
 use crate::first::FirstHeader;
@@ -13,6 +13,7 @@ use field_values::FieldFault;
 use import_columns::{Column, ColumnKind, ValueKind};
 use import_entries::PlaceFault;
 use import_words::{ImportCode, ImportFault, refused};
+use instant_texts::FineUnit;
 use object_lines::MemberFault;
 use std::alloc::{AllocError, Global};
 use std::io::Read;
@@ -20,13 +21,6 @@ use std::str;
 
 /// The longest text of a field that is shown.
 const MOST_SHOWN: usize = 100;
-
-/// Where a record stands.
-#[derive(Clone, Copy)]
-struct Spot<'p> {
-    file: &'p str,
-    line: u64,
-}
 
 /// The name of a column's field.
 fn name_of<'w>(columns: &[Column<'w>], column: usize) -> &'w str {
@@ -57,8 +51,24 @@ fn places_kept(columns: &[Column<'_>], column: usize) -> u32 {
     }
 }
 
+/// The unit of a column's times.
+fn unit_of(columns: &[Column<'_>], column: usize) -> &'static str {
+    match columns.get(column) {
+        Some(
+            Column {
+                kind: ColumnKind::Value(ValueKind::Fine(unit)),
+                ..
+            },
+        ) => match unit {
+            FineUnit::Microseconds => "microseconds",
+            FineUnit::Nanoseconds => "nanoseconds",
+        },
+        _ => "milliseconds",
+    }
+}
+
 /// What is wrong with the text of a field.
-fn wrong(alloc: Global, fault: FieldFault, places: u32) -> Result<String, AllocError> {
+fn wrong(alloc: Global, fault: FieldFault, places: u32, unit: &str) -> Result<String, AllocError> {
     match fault {
         FieldFault::NoNumber => format!(in alloc; "is no number"),
         FieldFault::MorePlaces => format!(in alloc; "has more than {places} decimal places"),
@@ -66,7 +76,7 @@ fn wrong(alloc: Global, fault: FieldFault, places: u32) -> Result<String, AllocE
         FieldFault::NoTime => {
             format!(in alloc; "is no time with a zone, as 2026-03-01T12:00:00.5Z")
         }
-        FieldFault::TooFine => format!(in alloc; "is finer than milliseconds"),
+        FieldFault::TooFine => format!(in alloc; "is finer than {unit}"),
         FieldFault::NoSuchTime => format!(in alloc; "is a time that no calendar or clock shows"),
         FieldFault::EmptyName => format!(in alloc; "is an empty name"),
     }
@@ -74,20 +84,17 @@ fn wrong(alloc: Global, fault: FieldFault, places: u32) -> Result<String, AllocE
 
 fn value_sentence(
     alloc: Global,
-    spot: Spot<'_>,
     name: &str,
     text: &[u8],
     wrong: &str,
 ) -> Result<String, AllocError> {
-    let (file, line) = (spot.file, spot.line);
     let text = shown(alloc, text)?;
-    format!(in alloc; "{file}:{line}: {name}: {text} {wrong}")
+    format!(in alloc; "{name}: {text} {wrong}")
 }
 
 /// The refusal of a field's text.
 fn refused_value(
     alloc: Global,
-    spot: Spot<'_>,
     columns: &[Column<'_>],
     column: usize,
     text: &[u8],
@@ -96,93 +103,87 @@ fn refused_value(
     ensures { IsRefusal ImportCode.Value result }
 {
     let name = name_of(columns, column);
-    match wrong(alloc, fault, places_kept(columns, column)) {
+    let (places, unit) = (places_kept(columns, column), unit_of(columns, column));
+    match wrong(alloc, fault, places, unit) {
         Ok(wrong) => refused(
             ImportCode::Value,
-            value_sentence(alloc, spot, name, text, wrong.as_str()),
+            value_sentence(alloc, name, text, wrong.as_str()),
         ),
         Err(_) => ImportFault::Memory,
     }
 }
 
+/// The refusal of a name that is no UTF-8.
+fn refused_no_text(alloc: Global, name: &str) -> ImportFault
+    ensures { IsRefusal ImportCode.Value result }
+{
+    refused(
+        ImportCode::Value,
+        value_sentence(alloc, name, b"\xff", "is no UTF-8"),
+    )
+}
+
 /// The refusal of a row by its place.
-fn refused_place(alloc: Global, spot: Spot<'_>, name: &str, fault: PlaceFault) -> ImportFault
+fn refused_place(alloc: Global, name: &str, fault: PlaceFault) -> ImportFault
     ensures { IsRefusal (place_code fault) result }
 {
-    let (file, line) = (spot.file, spot.line);
     match fault {
         PlaceFault::Range => refused(
             ImportCode::TimeRange,
-            format!(in alloc; "{file}:{line}: {name}: a time is from -2^62 to 2^62 - 1"),
+            format!(in alloc; "{name}: a time is from -2^62 to 2^62 - 1"),
         ),
         PlaceFault::Late(time, mark) => refused(
             ImportCode::LateRow,
-            format!(in alloc;
-                "{file}:{line}: {name}: the time {time} is not above the watermark {mark}"
-            ),
+            format!(in alloc; "{name}: the time {time} is not above the watermark {mark}"),
         ),
     }
 }
 
-fn no_field_sentence(
-    alloc: Global,
-    spot: Spot<'_>,
-    name: &str,
-    header: &ByteRecord,
-) -> Result<String, AllocError> {
-    let (file, line) = (spot.file, spot.line);
+fn no_field_sentence(alloc: Global, name: &str, header: &ByteRecord) -> Result<String, AllocError> {
     let fields = fields_text(alloc, header)?;
-    format!(in alloc; "{file}:{line}: the header has no field {name:?}: {fields}")
+    format!(in alloc; "the header has no field {name:?}: {fields}")
 }
 
 /// The refusal of a header that lacks a field.
-fn refused_header(alloc: Global, spot: Spot<'_>, name: &str, header: &ByteRecord) -> ImportFault
+fn refused_header(alloc: Global, name: &str, header: &ByteRecord) -> ImportFault
     ensures { IsRefusal ImportCode.Header result }
 {
-    refused(
-        ImportCode::Header,
-        no_field_sentence(alloc, spot, name, header),
-    )
+    refused(ImportCode::Header, no_field_sentence(alloc, name, header))
 }
 
 /// The refusal of a header that has a field twice.
-fn refused_twice(alloc: Global, spot: Spot<'_>, name: &str) -> ImportFault
+fn refused_twice(alloc: Global, name: &str) -> ImportFault
     ensures { IsRefusal ImportCode.Header result }
 {
-    let (file, line) = (spot.file, spot.line);
     refused(
         ImportCode::Header,
-        format!(in alloc; "{file}:{line}: the header has twice the field {name:?}"),
+        format!(in alloc; "the header has twice the field {name:?}"),
     )
 }
 
 fn other_header_sentence(
     alloc: Global,
-    spot: Spot<'_>,
     first: &FirstHeader<'_>,
     header: &ByteRecord,
 ) -> Result<String, AllocError> {
-    let (file, line) = (spot.file, spot.line);
     let wanted = first.file;
     let difference = first.difference(alloc, header)?;
-    format!(in alloc; "{file}:{line}: the header is not that of {wanted}: {difference}")
+    format!(in alloc; "the header is not that of {wanted}: {difference}")
 }
 
 /// The refusal of a header that is not that of the first file.
 fn refused_other_header(
     alloc: Global,
-    spot: Spot<'_>,
     first: Option<&FirstHeader<'_>>,
     header: &ByteRecord,
 ) -> ImportFault
     ensures { IsRefusal ImportCode.Header result }
 {
-    let (file, line) = (spot.file, spot.line);
     refused(
         ImportCode::Header,
         match first {
-            Some(first) => other_header_sentence(alloc, spot, first, header),
-            None => format!(in alloc; "{file}:{line}"),
+            Some(first) => other_header_sentence(alloc, first, header),
+            None => format!(in alloc; "the header is another one"),
         },
     )
 }
@@ -199,68 +200,108 @@ fn open_quote(alloc: Global, line: u64, last: u64) -> Result<String, AllocError>
 
 fn width_sentence(
     alloc: Global,
-    spot: Spot<'_>,
+    line: u64,
     last: u64,
     width: usize,
     wanted: usize,
 ) -> Result<String, AllocError> {
-    let (file, line) = (spot.file, spot.line);
     let open = open_quote(alloc, line, last)?;
-    format!(in alloc; "{file}:{line}: there are {width} fields, and the header has {wanted}{open}")
+    format!(in alloc; "there are {width} fields, and the header has {wanted}{open}")
 }
 
-/// The refusal of a record's width, which goes on to a line.
-fn refused_width(
-    alloc: Global,
-    spot: Spot<'_>,
-    last: u64,
-    width: usize,
-    wanted: usize,
-) -> ImportFault
+/// The refusal of the width of a record, which begins in one line and goes on to another.
+fn refused_width(alloc: Global, line: u64, last: u64, width: usize, wanted: usize) -> ImportFault
     ensures { IsRefusal ImportCode.Width result }
 {
     refused(
         ImportCode::Width,
-        width_sentence(alloc, spot, last, width, wanted),
+        width_sentence(alloc, line, last, width, wanted),
     )
 }
 
 /// The refusal of a line that is no object.
-fn refused_object(alloc: Global, spot: Spot<'_>) -> ImportFault
+fn refused_object(alloc: Global) -> ImportFault
     ensures { IsRefusal ImportCode.Object result }
 {
-    let (file, line) = (spot.file, spot.line);
     refused(
         ImportCode::Object,
-        format!(in alloc; "{file}:{line}: the line is no JSON object"),
+        format!(in alloc; "the line is no JSON object"),
     )
 }
 
 /// The refusal of a member without a text.
-fn refused_member(alloc: Global, spot: Spot<'_>, name: &str, fault: MemberFault) -> ImportFault
+fn refused_member(alloc: Global, name: &str, fault: MemberFault) -> ImportFault
     ensures { IsRefusal (member_code fault) result }
 {
-    let (file, line) = (spot.file, spot.line);
     match fault {
         MemberFault::Missing => refused(
             ImportCode::Object,
-            format!(in alloc; "{file}:{line}: the object has no member {name:?}"),
+            format!(in alloc; "the object has no member {name:?}"),
         ),
         MemberFault::Twice => refused(
             ImportCode::Object,
-            format!(in alloc; "{file}:{line}: the object has twice the member {name:?}"),
+            format!(in alloc; "the object has twice the member {name:?}"),
         ),
         MemberFault::NoText => refused(
             ImportCode::Value,
             format!(in alloc;
-                "{file}:{line}: {name}: null, a list or an object is no string, number, true or false"
+                "{name}: null, a list or an object is no string, number, true or false"
             ),
         ),
     }
 }
 
+/// Why the record that `rows` has is refused, behind the first CSV file of its partition, and not where it stands.
+pub fn reason_of<R: Read + Drop>(
+    alloc: Global,
+    columns: &[Column<'_>],
+    time: usize,
+    rows: &Records<R>,
+    first: Option<&FirstHeader<'_>>,
+    fault: RowFault,
+) -> ImportFault
+    ensures { TellsRow fault result }
+{
+    match fault {
+        RowFault::Read => refused(ImportCode::Read, format!(in alloc; "it cannot be read")),
+        RowFault::Write => ImportFault::Write,
+        RowFault::Memory => ImportFault::Memory,
+        RowFault::NoField(column) => {
+            refused_header(alloc, name_of(columns, column), rows.record())
+        }
+        RowFault::FieldTwice(column) => refused_twice(alloc, name_of(columns, column)),
+        RowFault::OtherHeader => refused_other_header(alloc, first, rows.record()),
+        RowFault::Width(width, wanted) => {
+            refused_width(alloc, rows.line(), rows.last_line(), width, wanted)
+        }
+        RowFault::NoObject => refused_object(alloc),
+        RowFault::Member(column, fault) => {
+            refused_member(alloc, name_of(columns, column), fault)
+        }
+        RowFault::Value(column, place, fault) => {
+            let text = rows.record().get(place).unwrap_or(b"");
+            refused_value(alloc, columns, column, text, fault)
+        }
+        RowFault::NoText(column) => refused_no_text(alloc, name_of(columns, column)),
+        RowFault::Place(fault) => refused_place(alloc, name_of(columns, time), fault),
+    }
+}
+
+/// What is told of a reason, with the file and the line where it stands in front.
+pub fn at_line(alloc: Global, file: &str, line: u64, reason: ImportFault) -> ImportFault
+    ensures { KeepsCode reason result }
+{
+    match reason {
+        ImportFault::Refused(code, text) => {
+            refused(code, format!(in alloc; "{file}:{line}: {text}"))
+        }
+        ImportFault::Write => ImportFault::Write,
+        ImportFault::Memory => ImportFault::Memory,
+    }
+}
+
 /// The refusal of the record that `rows` has, in the file of a name, behind the first CSV file of its partition.
-pub(crate) fn refused_row<R: Read + Drop>(
+pub fn refused_row<R: Read + Drop>(
     alloc: Global,
     file: &str,
     columns: &[Column<'_>],
@@ -271,44 +312,15 @@ pub(crate) fn refused_row<R: Read + Drop>(
 ) -> ImportFault
     ensures { TellsRow fault result }
 {
-    let line = rows.line();
-    let spot = Spot { file, line };
-    match fault {
-        RowFault::Read => refused_file(alloc, file),
-        RowFault::Write => ImportFault::Write,
-        RowFault::Memory => ImportFault::Memory,
-        RowFault::NoField(column) => {
-            refused_header(alloc, spot, name_of(columns, column), rows.record())
-        }
-        RowFault::FieldTwice(column) => { refused_twice(alloc, spot, name_of(columns, column)) }
-        RowFault::OtherHeader => refused_other_header(alloc, spot, first, rows.record()),
-        RowFault::Width(width, wanted) => {
-            refused_width(alloc, spot, rows.last_line(), width, wanted)
-        }
-        RowFault::NoObject => refused_object(alloc, spot),
-        RowFault::Member(column, fault) => {
-            refused_member(alloc, spot, name_of(columns, column), fault)
-        }
-        RowFault::Value(column, place, fault) => {
-            let text = rows.record().get(place).unwrap_or(b"");
-            refused_value(alloc, spot, columns, column, text, fault)
-        }
-        RowFault::NoText(column) => refused(
-            ImportCode::Value,
-            value_sentence(
-                alloc,
-                spot,
-                name_of(columns, column),
-                b"\xff",
-                "is no UTF-8",
-            ),
-        ),
-        RowFault::Place(fault) => refused_place(alloc, spot, name_of(columns, time), fault),
+    if let RowFault::Read = fault {
+        return refused_file(alloc, file);
     }
+    let reason = reason_of(alloc, columns, time, rows, first, fault);
+    at_line(alloc, file, rows.line(), reason)
 }
 
 /// The refusal of a file that cannot be read.
-pub(crate) fn refused_file(alloc: Global, file: &str) -> ImportFault
+pub fn refused_file(alloc: Global, file: &str) -> ImportFault
     ensures { IsRefusal ImportCode.Read result }
 {
     refused(ImportCode::Read, format!(in alloc; "{file}"))

@@ -63,6 +63,8 @@ struct Seen {
     /// What was read last, and at which byte of the text it begins.
     last: Vec<u8>,
     begins_at: u64,
+    /// Whether bytes stand behind the last line feed of all that was read.
+    is_within_line: bool,
     front: Cell<Front>,
 }
 
@@ -71,6 +73,7 @@ impl Seen {
         Seen {
             last: Vec::new(alloc),
             begins_at: 0,
+            is_within_line: false,
             front: Cell::new(Front::new(0)),
         }
     }
@@ -95,6 +98,9 @@ impl Seen {
         let mut front = self.front.get();
         front.watch(bytes);
         self.front.set(front);
+        if let Some(last) = bytes.last() {
+            self.is_within_line = *last != b'\n';
+        }
         let _ = self.last.extend_from_slice(bytes);
     }
 }
@@ -119,6 +125,11 @@ impl<R> Watched<R> {
         if byte > 0 {
             self.seen.watch_from(byte);
         }
+    }
+
+    /// Whether bytes stand behind the last line feed of all that was read.
+    pub(crate) fn is_within_line(&self) -> bool {
+        self.seen.is_within_line
     }
 
     /// How many line feeds stand between where the record was looked for and its first character.

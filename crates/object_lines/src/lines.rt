@@ -111,6 +111,13 @@ impl<R: Read + Drop> ObjectLines<R> {
         &self.record
     }
 
+    /// The text of the line, without a byte order mark and what ends it.
+    pub fn text(&self) -> &[u8] {
+        let text = without_mark(&self.line, self.number);
+        let text = text.strip_suffix(b"\n").unwrap_or(text);
+        text.strip_suffix(b"\r").unwrap_or(text)
+    }
+
     /// The line of the record, counted from 1.
     pub fn line(&self) -> u64 {
         self.number

@@ -1,0 +1,68 @@
+//! From a word to a column, by the zones that are known.
+
+ghost use Rattle.std.specs.Prelude.{◌≡◌, MatchOption, option_map};
+ghost use Rattle.import_columns.specs.Columns.{view_kind, view_column};
+ghost use Rattle.import_columns.specs.Placed.{zone_named, IsKind, IsColumn, NamesNoZone};
+
+use crate::column::Column;
+use crate::kind::{ColumnKind, ValueKind};
+use crate::word::{ColumnWord, WordKind};
+use calendar_numbers::Zones;
+
+/// The zone that a column needs.
+fn zone_named<'w>(kind: &WordKind<'w>) -> Option<&'w str>
+    ensures { option_map (λ zone. zone.now) result ≡ zone_named (view_kind kind.now) }
+{
+    match kind {
+        WordKind::Calendar(_, zone) => Some(*zone),
+        WordKind::CalendarCompared(_, zone, _, _) => Some(*zone),
+        _ => None,
+    }
+}
+
+/// The name of the zone that a column needs, if it needs one.
+pub fn zone_of<'w>(said: &ColumnWord<'w>) -> Option<&'w str>
+    ensures { option_map (λ zone. zone.now) result ≡ zone_named (view_kind said.now.kind) }
+{
+    zone_named(&said.kind)
+}
+
+/// How the text of a field becomes a number, with the zone in place of its name, or `None` where no zone has the name.
+fn placed<'w>(kind: &WordKind<'w>, zones: &'w Zones) -> Option<ColumnKind<'w>>
+    ensures { MatchOption result (NamesNoZone zones.now.tables.items (view_kind kind.now)) (λ placed. IsKind zones.now.tables.items placed (view_kind kind.now)) }
+{
+    match kind {
+        WordKind::Scaled(places) => Some(ColumnKind::Value(ValueKind::Scaled(*places))),
+        WordKind::Milliseconds => Some(ColumnKind::Value(ValueKind::Milliseconds)),
+        WordKind::Fine(unit) => Some(ColumnKind::Value(ValueKind::Fine(*unit))),
+        WordKind::Calendar(part, zone) => match zones.find(zone) {
+            Some(zone) => Some(ColumnKind::Value(ValueKind::Calendar(*part, zone))),
+            None => None,
+        },
+        WordKind::Compared(cmp, bound) => Some(ColumnKind::Value(ValueKind::Compared(
+            *cmp, *bound,
+        ))),
+        WordKind::CalendarCompared(part, zone, cmp, bound) => match zones.find(zone) {
+            Some(zone) => Some(ColumnKind::Value(ValueKind::CalendarCompared(
+                *part, zone, *cmp, *bound,
+            ))),
+            None => None,
+        },
+        WordKind::Same(text) => Some(ColumnKind::Value(ValueKind::Same(text))),
+        WordKind::Other(text) => Some(ColumnKind::Value(ValueKind::Other(text))),
+        WordKind::Name => Some(ColumnKind::Name),
+    }
+}
+
+/// The column that a word says, with the zone in place of its name, or `None` where no zone has the name.
+pub fn place_column<'w>(said: &ColumnWord<'w>, zones: &'w Zones) -> Option<Column<'w>>
+    ensures { MatchOption result (NamesNoZone zones.now.tables.items (view_kind said.now.kind)) (λ column. IsColumn zones.now.tables.items column (view_column said.now)) }
+{
+    match placed(&said.kind, zones) {
+        Some(kind) => Some(Column {
+            field: said.field,
+            kind,
+        }),
+        None => None,
+    }
+}

@@ -1,0 +1,38 @@
+use Rattle.std.proofs.Common.{◌∙◌, ◌∷◌, Option, Some, None, ap, subst, List, ℕ}
+use Rattle.entry_texts.specs.Partitions.{rule_of}
+use Rattle.import_fates.specs.Counts.{counts_of}
+use Rattle.import_fates.specs.Fates.{fates, rows_after}
+use Rattle.import_fates.specs.declared.fate.Fate.{Fate}
+use Rattle.import_copies.specs.Copies.{TakesNext}
+use Rattle.import_copies.specs.Known.{keys_in}
+use Rattle.import_copies.specs.declared.outcome.Outcome.{Outcome}
+use Rattle.import_copies.proofs.Sorting.{one_more, written_on, no_more}
+use Rattle.import_copies.proofs.copying.copy_records.Goals as goal
+
+pub returns-in-None-clause-sorts : goal.returns-in-None-clause-sorts
+returns-in-None-clause-sorts g c before start h =
+    let rule = rule_of c.args.partition.now in
+    let keys = keys_in c.args.known.now in
+    let now = g.W.Write.contents c.loop.out in
+    let inv = c.loop.invariant.sorts before start h in
+    let rows = rows_after rule keys before inv.0 in
+    let next = c.in_ok-outcome.ensures.takes rows start now inv.1.written in
+    let none = subst (λ (o : Option Outcome). TakesNext (keys_in c.loop.known) rows start now c.take_record.new.known c.take_record.new.partition o) c.in-None.is next in
+    (inv.0, no_more rule keys before start now c.loop.known c.take_record.new.known c.loop.partition c.take_record.new.partition c.loop.counts inv.0 inv.1 none c.take_record.ensures.rule)
+
+pub loop-preserved : goal.loop-preserved
+loop-preserved g c = record {
+  rule = c.write_much.ensures.rule ∙ c.take_record.ensures.rule ∙ c.loop.invariant.rule;
+  sorts = λ before start h.
+      let rule = rule_of c.args.partition.now in
+      let keys = keys_in c.args.known.now in
+      let now = g.W.Write.contents c.loop.out in
+      let inv = c.loop.invariant.sorts before start h in
+      let rows = rows_after rule keys before inv.0 in
+      let next = c.in_ok-outcome.ensures.takes rows start now inv.1.written in
+      let one = subst (λ (o : Option Outcome). TakesNext (keys_in c.loop.known) rows start now c.take_record.new.known c.take_record.new.partition o) c.in-Some.is next in
+      let all = one.0 ∷ inv.0 in
+      let counted = c.add.ensures (fates rule keys before inv.0) inv.1.counted ∙ ap (λ (f : Fate). counts_of (f ∷ fates rule keys before inv.0)) c.fate_of.ensures in
+      let s = one_more rule keys before start now c.loop.known c.take_record.new.known c.loop.partition c.take_record.new.partition c.loop.counts c.add.new.self c.in-Some.outcome inv.0 one.0 inv.1 one.1 c.take_record.ensures.rule counted in
+      (all, written_on rule keys before start now (g.W.Write.contents c.write_much.new.out) c.take_record.new.known c.take_record.new.partition c.write_much.new.partition c.add.new.self all s c.write_much.ensures.rule (c.in_ok-write_much.ensures.writes (rows_after rule keys before all) start s.written));
+}

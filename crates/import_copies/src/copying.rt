@@ -1,0 +1,52 @@
+//! From the records of a file to the text of a partition, and to where those go that are no rows of it.
+
+ghost use Rattle.std.specs.Prelude.{◌≡◌, ℕ, List, Option, IfOk};
+ghost use Rattle.entry_texts.specs.Partitions.{Row, rule_of};
+ghost use Rattle.import_copies.specs.Copies.{WritesRows, CopiesAll};
+ghost use Rattle.import_copies.specs.Known.{keys_in};
+
+use crate::known::KnownRecords;
+use crate::ledger::Ledger;
+use crate::outcome::fate_of;
+use crate::partition::write_much;
+use crate::taking::{Source, take_record};
+use entry_texts::PartitionText;
+use import_fates::FateCounts;
+use imports::{Records, RowFault};
+use name_table::NameTable;
+use std::alloc::Global;
+use std::io::{Read, Write};
+
+/// Takes the records of a file, each in one place: those that are rows into a partition, in order, and the others where the ledger has
+/// them. Tells how many went where.
+///
+/// # Errors
+///
+/// Why there can be no further record; `Write`; `Memory`.
+pub(crate) fn copy_records<R: Read + Drop, W: Write, L: Write + Drop>(
+    alloc: Global,
+    rows: &mut Records<R>,
+    source: Source<'_>,
+    names: &mut NameTable,
+    known: &mut Option<KnownRecords>,
+    partition: &mut PartitionText,
+    ledger: &mut Ledger<L>,
+    out: &mut W,
+) -> Result<FateCounts, RowFault>
+    ensures rule { rule_of partition.new ≡ rule_of partition.old }
+    ensures sorts { (before : List Row) (start : Option (List ℕ)) → WritesRows before start (W.contents out.old) partition.old
+        → IfOk result (λ counts. CopiesAll (rule_of partition.old) (keys_in known.old) before start (W.contents out.new) known.new partition.new counts) }
+{
+    let mut numbers = Vec::new(alloc);
+    let mut counts = FateCounts::new();
+    for _ in 0..u64::MAX {
+        let outcome = match take_record(rows, source, names, &mut numbers, known, partition)? {
+            Some(outcome) => outcome,
+            None => return Ok(counts),
+        };
+        counts.add(fate_of(outcome));
+        ledger.take(source, rows, &numbers, outcome)?;
+        write_much(partition, out)?;
+    }
+    Err(RowFault::Read)
+}

@@ -1,0 +1,280 @@
+//! An import of files.
+
+ghost use Rattle.std.specs.Prelude.{◌≡◌, ◌<◌, ℕ, List, Option, [], IfOk, OnOk};
+ghost use Rattle.entry_texts.specs.Partitions.{Row, rule_of};
+ghost use Rattle.import_copies.specs.Copies.{WritesRows, CopiesAll, WritesSorted};
+ghost use Rattle.import_copies.specs.Known.{keys_in};
+
+use crate::copying::copy_records;
+use crate::known::KnownRecords;
+use crate::ledger::Ledger;
+use crate::partition::write_end;
+use crate::taking::Source;
+use entry_texts::PartitionText;
+use import_columns::Column;
+use import_entries::EntryRule;
+use import_fates::FateCounts;
+use import_words::{ImportFault, files_of};
+use imports::{FirstHeader, Records, RowFault, fields_of, refused_file, refused_row};
+use name_table::NameTable;
+use plan_model::SourceSpec;
+use std::alloc::Global;
+use std::fs::File;
+use std::hash::RandomState;
+use std::io;
+use std::io::{ErrorKind, Write};
+use std::rt::Files;
+
+/// What tells the records of a source from one another.
+#[derive(Clone, Copy)]
+pub struct OnceRule<'i> {
+    /// The columns whose fields do, counted from 0.
+    pub columns: &'i [usize],
+    /// What hashes start from.
+    pub state: RandomState,
+}
+
+/// What an import is to do.
+#[derive(Clone, Copy)]
+pub struct ImportRule<'i> {
+    /// The sources of the plan.
+    pub sources: &'i [SourceSpec],
+    /// The words that name their files.
+    pub words: &'i [&'i str],
+    /// What each number of a row is.
+    pub columns: &'i [Column<'i>],
+    /// Which of them is the time.
+    pub time: usize,
+    /// What is asked of the entries.
+    pub entries: EntryRule,
+    /// What tells records from one another, if anything does: of those that are the same the first is a row.
+    pub once: Option<OnceRule<'i>>,
+}
+
+fn open_fault(alloc: Global, path: &str, error: &io::Error) -> ImportFault {
+    match error.kind() {
+        ErrorKind::OutOfMemory => ImportFault::Memory,
+        _ => refused_file(alloc, path),
+    }
+}
+
+fn put<W: Write>(out: &mut W, text: &str) -> Result<(), ImportFault> {
+    match out.write_all(text.as_bytes()) {
+        Ok(()) => Ok(()),
+        Err(_) => Err(ImportFault::Write),
+    }
+}
+
+/// How many entries of so many rows at most begin with rows that come behind others.
+fn entries_begun(before: u64, rows: u64, most_rows: u32) -> u64
+    requires { 0 < most_rows }
+{
+    let most_rows = u64::from(most_rows);
+    let all = before.saturating_add(rows).div_ceil(most_rows);
+    all.saturating_sub(before.div_ceil(most_rows))
+}
+
+/// Copies the records of an opened file behind those of a partition.
+fn copy_rows<'f, R: Files + AllocGlobal, W: Write, L: Write + Drop>(
+    rt: &R,
+    rule: ImportRule<'_>,
+    file: &'f str,
+    rows: &mut Records<R::File>,
+    first: &mut Option<FirstHeader<'f>>,
+    partition: &mut PartitionText,
+    known: &mut Option<KnownRecords>,
+    names: &mut NameTable,
+    ledger: &mut Ledger<L>,
+    out: &mut W,
+) -> Result<FateCounts, RowFault>
+    ensures rule { rule_of partition.new ≡ rule_of partition.old }
+    ensures sorts { (before : List Row) (start : Option (List ℕ)) → WritesRows before start (W.contents out.old) partition.old
+        → IfOk result (λ counts. CopiesAll (rule_of partition.old) (keys_in known.old) before start (W.contents out.new) known.new partition.new counts) }
+{
+    let places = rows.begin(rt.alloc(), rule.columns, file, first)?;
+    let fields = fields_of(rt.alloc(), rule.columns)?;
+    let source = Source {
+        file,
+        columns: rule.columns,
+        fields: &fields,
+        places: &places,
+        time: rule.time,
+    };
+    copy_records(
+        rt.alloc(),
+        rows,
+        source,
+        names,
+        known,
+        partition,
+        ledger,
+        out,
+    )
+}
+
+/// How many records of a file went where, and how many lines it has.
+#[derive(Clone, Copy)]
+struct FileCounts {
+    counts: FateCounts,
+    lines: u64,
+}
+
+/// Copies the records of a file behind those of a partition.
+fn copy_file<'f, R: Files + AllocGlobal, W: Write, L: Write + Drop>(
+    rt: &R,
+    rule: ImportRule<'_>,
+    file: &'f str,
+    first: &mut Option<FirstHeader<'f>>,
+    partition: &mut PartitionText,
+    known: &mut Option<KnownRecords>,
+    names: &mut NameTable,
+    ledger: &mut Ledger<L>,
+    out: &mut W,
+) -> Result<FileCounts, ImportFault>
+    ensures rule { rule_of partition.new ≡ rule_of partition.old }
+    ensures sorts { (before : List Row) (start : Option (List ℕ)) → WritesRows before start (W.contents out.old) partition.old
+        → IfOk result (λ told. CopiesAll (rule_of partition.old) (keys_in known.old) before start (W.contents out.new) known.new partition.new told.counts) }
+{
+    let opened = match File::open(rt, file) {
+        Ok(opened) => opened,
+        Err(error) => return Err(open_fault(rt.alloc(), file, &error)),
+    };
+    let Ok(mut rows) = Records::new(rt.alloc(), file, opened) else {
+        return Err(ImportFault::Memory);
+    };
+    match copy_rows(
+        rt, rule, file, &mut rows, first, partition, known, names, ledger, out,
+    ) {
+        Ok(counts) => Ok(FileCounts {
+            counts,
+            lines: rows.lines(),
+        }),
+        Err(fault) => Err(refused_row(
+            rt.alloc(),
+            file,
+            rule.columns,
+            rule.time,
+            &rows,
+            first.as_ref(),
+            fault,
+        )),
+    }
+}
+
+/// Writes the records of files, behind one another, as a partition: those that are rows, in order. Each file is open only while it is
+/// read.
+///
+/// # Errors
+///
+/// What of a whole file is refused first; `Write`; `Memory`. Some of the text may have been written then.
+pub fn import_partition<R: Files + AllocGlobal, W: Write, L: Write + Drop>(
+    rt: &R,
+    rule: ImportRule<'_>,
+    files: &[String],
+    known: &mut Option<KnownRecords>,
+    names: &mut NameTable,
+    ledger: &mut Ledger<L>,
+    out: &mut W,
+) -> Result<(), ImportFault>
+    ensures { OnOk result (WritesSorted rule.entry.entries (keys_in known.old) (W.contents out.old) (W.contents out.new) known.new) }
+{
+    let mut partition = PartitionText::new(rt.alloc(), rule.entries);
+    let mut first = None;
+    let mut before = 0u64;
+    for file in files {
+        let file = file.as_str();
+        ledger.begin_file(file)?;
+        let told = copy_file(
+            rt,
+            rule,
+            file,
+            &mut first,
+            &mut partition,
+            known,
+            names,
+            ledger,
+            out,
+        )?;
+        let rows = told.counts.written;
+        let entries = entries_begun(before, rows, rule.entries.most_rows);
+        ledger.end_file(file, told.lines, told.counts, entries)?;
+        before = before.saturating_add(rows);
+    }
+    match write_end(&mut partition, out) {
+        Ok(()) => Ok(()),
+        Err(RowFault::Memory) => Err(ImportFault::Memory),
+        Err(_) => Err(ImportFault::Write),
+    }
+}
+
+/// No records yet, where records are to be told from one another.
+fn known_records(
+    alloc: Global,
+    once: Option<OnceRule<'_>>,
+) -> Result<Option<KnownRecords>, ImportFault> {
+    match once {
+        Some(once) => {
+            let columns = Vec::from_slice(alloc, once.columns)?;
+            Ok(Some(KnownRecords::new(alloc, once.state, columns)))
+        }
+        None => Ok(None),
+    }
+}
+
+/// Writes the partitions of a source.
+fn import_source<R: Files + AllocGlobal, W: Write, L: Write + Drop>(
+    rt: &R,
+    rule: ImportRule<'_>,
+    source: &SourceSpec,
+    names: &mut NameTable,
+    ledger: &mut Ledger<L>,
+    out: &mut W,
+) -> Result<(), ImportFault> {
+    let partitions = files_of(rt.alloc(), rule.words, source)?;
+    let mut known = known_records(rt.alloc(), rule.once)?;
+    ledger.begin_source();
+    let mut is_first = true;
+    for files in &partitions {
+        put(out, if is_first { "[" } else { "," })?;
+        import_partition(rt, rule, files, &mut known, names, ledger, out)?;
+        is_first = false;
+    }
+    put(out, "]")
+}
+
+/// Writes the sources of an input.
+fn import_sources<R: Files + AllocGlobal, W: Write, L: Write + Drop>(
+    rt: &R,
+    rule: ImportRule<'_>,
+    names: &mut NameTable,
+    ledger: &mut Ledger<L>,
+    out: &mut W,
+) -> Result<(), ImportFault> {
+    let mut is_first = true;
+    for source in rule.sources {
+        put(out, if is_first { "{\"" } else { ",\"" })?;
+        put(out, source.uid.as_str())?;
+        put(out, "\":")?;
+        import_source(rt, rule, source, names, ledger, out)?;
+        is_first = false;
+    }
+    put(out, "}\n")
+}
+
+/// Writes an input of files: for each source of a plan its partitions, as words that [`check_sources`](import_words::check_sources) takes name them.
+/// Records that are no rows go where the ledger has a place for them.
+///
+/// # Errors
+///
+/// Where the ledger has no place for a record, the first of such records, and how many more there are; what of a whole file is refused
+/// first; `Write`; `Memory`. Some of the text may have been written then.
+pub fn import_files<R: Files + AllocGlobal, W: Write, L: Write + Drop>(
+    rt: &R,
+    rule: ImportRule<'_>,
+    names: &mut NameTable,
+    ledger: &mut Ledger<L>,
+    out: &mut W,
+) -> Result<(), ImportFault> {
+    let end = import_sources(rt, rule, names, ledger, out);
+    ledger.answer(end)
+}

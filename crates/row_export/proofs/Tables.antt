@@ -1,0 +1,66 @@
+-- Records that are written one behind the other.
+use Rattle.std.proofs.Common.{◌≡◌, ℕ, List, [], ◌∷◌, ◌++◌, Option, Some, None, IfSome, sym, ap, subst, ◌∙◌, append_assoc, append-nil}
+use Rattle.std.specs.Io.KnownBytes.{Appends, Consumes, IsAtEnd}
+use Rattle.std.proofs.lemmas.List.Concat.{flat_map-cons}
+use Rattle.csv.specs.Writing.{row_text, default_writer, text_written}
+use Rattle.csv.specs.declared.writer.Writer.{Writer}
+use Rattle.plan_model.specs.declared.spec.Pane.{Pane}
+use Rattle.plan_model.specs.declared.spec.Row.{Row}
+use Rattle.plan_model.specs.Rows.{pane_of}
+use Rattle.row_lines.specs.Rows.{numbers_in}
+use Rattle.row_lines.specs.Sequences.{AreRows, IsRead, rows_left, width_of, last_of}
+use Rattle.row_lines.specs.Text.{line_of, text_of_rows}
+use Rattle.row_lines.specs.declared.rows.RowLines.{RowLines}
+use Rattle.row_tables.specs.declared.kind.CellKind.{CellKind}
+use Rattle.row_export.specs.Shown.{ShowsRow, WritesTable, IsBetween, text_of_records}
+
+pub appends_more : (a b c : Option (List ℕ)) (x y : List ℕ) → Appends a b x → Appends b c y → Appends a c (x ++ y)
+appends_more None b c x y h k = tt
+appends_more (Some a) None c x y h k = absurd h
+appends_more (Some a) (Some b) None x y h k = absurd k
+appends_more (Some a) (Some b) (Some c) x y h k = k ∙ ap (λ l. l ++ y) h ∙ append_assoc a x y
+
+pub appends_none : (a : Option (List ℕ)) → Appends a a []
+appends_none None = tt
+appends_none (Some a) = sym (append-nil a)
+
+text_more : (old new : Option (List ℕ)) (row : Row) (behind : List Row) → Consumes old new (line_of row) → IfSome new (λ bytes. bytes ≡ text_of_rows behind) → IfSome old (λ bytes. bytes ≡ text_of_rows (row ∷ behind))
+text_more None new row behind takes h = tt
+text_more (Some xs) None row behind takes h = absurd takes
+text_more (Some xs) (Some ys) row behind takes h = takes ∙ ap (λ l. line_of row ++ l) h ∙ sym (flat_map-cons line_of row behind)
+
+text_end : (old : Option (List ℕ)) → IsAtEnd old → IfSome old (λ bytes. bytes ≡ text_of_rows [])
+text_end None h = tt
+text_end (Some xs) h = h
+
+-- nothing is left
+pub finished : (kinds : List CellKind) (names : List (List ℕ)) (width : Option ℕ) (last : Option Pane) (text out : Option (List ℕ)) → IsAtEnd text → WritesTable kinds names [] width last text out out
+finished kinds names width last text out end = record { rows = []; records = []; are = tt; read = text_end text end; shown = tt; written = appends_none out }
+
+-- a row that is read and written before what comes behind it
+pub passed : {R : Type 0} (remaining : R → Option (List ℕ)) (kinds : List CellKind) (names : List (List ℕ)) (old new : RowLines R) (row : Row) (cells : List (List ℕ)) (before out after : Option (List ℕ)) → IsRead remaining old new row
+    → ShowsRow kinds names (numbers_in row) cells → Appends before out (row_text default_writer cells) → WritesTable kinds names [] (width_of new) (last_of new) (rows_left remaining new) out after
+    → WritesTable kinds names [] (width_of old) (last_of old) (rows_left remaining old) before after
+passed remaining kinds names old new row cells before out after is shown puts h = record {
+  rows = row ∷ h.rows;
+  records = cells ∷ h.records;
+  are = (is.is, is.wide, is.after, subst (λ w. AreRows w (Some (pane_of row)) h.rows) is.width (subst (λ l. AreRows (width_of new) l h.rows) is.last h.are));
+  read = text_more (rows_left remaining old) (rows_left remaining new) row h.rows is.text h.read;
+  shown = (shown, h.shown);
+  written = subst (Appends before after) (sym (flat_map-cons (row_text default_writer) cells h.records))
+      (appends_more before out after (row_text default_writer cells) (text_of_records h.records) puts h.written);
+}
+
+-- what is still to come makes the whole
+pub record Continues {R W : Type 0} (remaining : R → Option (List ℕ)) (contents : W → Option (List ℕ)) (kinds : List CellKind) (names : List (List ℕ)) (start : RowLines R) (before : Option (List ℕ)) (rows : RowLines R) (out : Writer W) : Type 0 where
+  pub between : IsBetween out
+  pub whole : (after : Option (List ℕ)) → WritesTable kinds names [] (width_of rows) (last_of rows) (rows_left remaining rows) (text_written contents out) after
+      → WritesTable kinds names [] (width_of start) (last_of start) (rows_left remaining start) before after
+
+pub goes_on : {R W : Type 0} (remaining : R → Option (List ℕ)) (contents : W → Option (List ℕ)) (kinds : List CellKind) (names : List (List ℕ)) (start : RowLines R) (before : Option (List ℕ)) (old new : RowLines R) (out next : Writer W) (row : Row)
+    (cells : List (List ℕ)) → Continues remaining contents kinds names start before old out → IsRead remaining old new row → ShowsRow kinds names (numbers_in row) cells
+    → Appends (text_written contents out) (text_written contents next) (row_text default_writer cells) → IsBetween next → Continues remaining contents kinds names start before new next
+goes_on remaining contents kinds names start before old new out next row cells h is shown puts between = record {
+  between = between;
+  whole = λ after left. h.whole after (passed remaining kinds names old new row cells (text_written contents out) (text_written contents next) after is shown puts left);
+}

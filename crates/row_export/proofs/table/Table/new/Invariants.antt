@@ -1,0 +1,9 @@
+use Rattle.std.proofs.Common.{◌≡◌, ◌+◌, ◌∷◌, length, map, take}
+use Rattle.row_tables.specs.Cells.{kind_at, aggregate_kind}
+use Rattle.row_export.proofs.table.Table.new.Given as goal
+
+abbrev pub invariant-loop-aggregate : goal.invariant-loop-aggregate
+invariant-loop-aggregate l = record {
+  kinds : l.kinds.items ≡ kind_at l.columns l.plan.window.time ∷ kind_at l.columns l.plan.window.time ∷ kind_at l.columns l.plan.window.key ∷ map (aggregate_kind l.columns) (take l.aggregate-index l.plan.window.aggregates);
+  width : length l.kinds.items ≡ l.aggregate-index + 3;
+}
