@@ -87,7 +87,7 @@ HasLegWords words said =
 abbrev pub HasExportWords : Found → ExportWords → Type 0
 HasExportWords words said =
     (said.rows.now ≡ word words (codes "ROWS")) × (said.columns.now ≡ word words (codes "COLUMNS")) × (option_map (λ w. w.now) said.names ≡ first_value words (codes "names"))
-    × (option_map (λ w. w.now) said.header ≡ first_value words (codes "header"))
+    × (option_map (λ w. w.now) said.header ≡ first_value words (codes "header")) × IsFlag words (codes "json") said.json
 
 -- the words of a command, each by its name
 abbrev pub HasWords : Found → Command → Type 0

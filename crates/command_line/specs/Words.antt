@@ -81,7 +81,7 @@ abbrev pub export_files_shape : Shape
 export_files_shape = command_shape (codes "export") (codes "PLAN" ∷ codes "ROWS" ∷ codes "COLUMNS" ∷ [])
 
 abbrev pub export_shape : Shape
-export_shape = record export_files_shape { rules = export_files_shape.rules ++ option_rule (codes "names") ∷ option_rule (codes "header") ∷ [] }
+export_shape = record export_files_shape { rules = export_files_shape.rules ++ option_rule (codes "names") ∷ option_rule (codes "header") ∷ flag_rule (codes "json") ∷ [] }
 
 abbrev pub diff_shape : Shape
 diff_shape = command_shape (codes "diff") (codes "OLD" ∷ codes "NEW" ∷ [])

@@ -70,6 +70,7 @@ fn export_words<'m>(words: &'m ArgMatches<'_>) -> ExportWords<'m>
         columns: named(words, "COLUMNS"),
         names: words.get_str("names"),
         header: words.get_str("header"),
+        json: words.get_flag("json"),
     }
 }
 

@@ -3,14 +3,14 @@
 ghost use Rattle.std.specs.Prelude.{IfOk};
 ghost use Rattle.command_line.specs.Words.{IsCommand, diff_shape, export_files_shape, export_shape};
 
-use crate::words::{PLAN, named, option, required};
+use crate::words::{PLAN, flag, named, option, required};
 use clap::Command;
 use std::alloc::{AllocError, Global};
 
 const EXPORT: &str = "\
-Each row becomes a record of CSV: start and end of its window, its key, and the number of each
-aggregate, as they were before the import whose COLUMNS are named: times in ISO 8601, names, decimals
-with their point. COLUMNS are those of `import`.
+Each row becomes a record of CSV, or a JSON object a line: start and end of its window, its key, and the
+number of each aggregate, as they were before the import whose COLUMNS are named: times, days, months
+and years in ISO 8601, names, decimals with their point. COLUMNS are those of `import`.
 
 Example: streamjob export plan.json rows.txt time:ms,customer:name,bytes --names names.csv
 Page: docs/FORMATS.md, under Export";
@@ -48,12 +48,18 @@ pub(crate) fn export_words<'a>(alloc: Global) -> Result<Command<'a>, AllocError>
         "FILE",
         "File of the table of names",
     )?;
-    option(
+    let command = option(
         alloc,
         command,
         "header",
         "WORD",
         "Whether the names of the fields stand in front: yes or no (yes)",
+    )?;
+    flag(
+        alloc,
+        command,
+        "json",
+        "Print a JSON object a line in place of CSV; not with --header",
     )
 }
 

@@ -68,7 +68,7 @@ pub(crate) fn option<'a>(
 }
 
 /// With one option more, which is there or not.
-fn flag<'a>(
+pub(crate) fn flag<'a>(
     alloc: Global,
     command: Command<'a>,
     name: &'a str,

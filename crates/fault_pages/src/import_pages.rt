@@ -327,8 +327,8 @@ Sort the rows, as by `sort -n -k1,1 -k3,3`; a start and key that stand there twi
         "T3",
         r#"T3 Cell (status 3)
 
-The table of names has no name of a number that is to be shown as one, or a time in milliseconds is in no year from 1 to
-9999.
+The table of names has no name of a number that is to be shown as one, or a time, a day, a month or a year is in no year
+from 1 to 9999.
 
 ```csv names.csv
 1,hooli

@@ -34,7 +34,9 @@ is none. `import` says it of `--bound`, digits alone, below 2^64, and of `--rows
 says it of `--parallelism` where it is not 1 to 5 digits, and beside a list of legs, each of which has its own scale;
 `cuts` of `--until` where it is neither a number as KEY is nor a time in ISO 8601, and beside `--open`; `check` of
 `--from` and `--stop` where no INPUT is named; `leg` of `--since` without `--from`, and where `--save` and `--receipt`
-name one file; `leg` and `run` of `--names` where no receipt is named; `run` of `--receipt` beside a list of legs.
+name one file; `leg` and `run` of `--names` where no receipt is named; `run` of `--receipt` beside a list of legs;
+`export` of `--header` where it is neither `yes` nor `no`, or beside `--json`, and of `--json` where two numbers of a
+row would be called the same.
 
 ```console
 $ streamjob group 7 128 65

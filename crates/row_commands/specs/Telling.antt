@@ -1,8 +1,15 @@
 -- What is told of a fault.
-use Rattle.std.specs.Prelude.{◌≡◌, ℕ, ◌-◌, List, length, Option, Some, None}
+use Rattle.std.specs.Prelude.{◌≡◌, ℕ, List, [], length, Option, Some, None}
 use Rattle.row_changes.specs.Merging.{WritesChanges}
+use Rattle.plan_model.specs.PlanData.{PlanData}
+use Rattle.plan_model.specs.declared.spec.Pane.{Pane}
+use Rattle.import_columns.specs.declared.word.ColumnWord.{ColumnWord}
 use Rattle.row_tables.specs.declared.kind.CellKind.{CellKind}
-use Rattle.row_export.specs.Shown.{WritesTable}
+use Rattle.row_export.specs.Objects.{object_line}
+use Rattle.row_export.specs.Shown.{WritesTable, csv_line, header_shown, kinds_shown}
+use Rattle.row_export.specs.Titles.{titles_shown}
+use Rattle.row_commands.specs.declared.exporting.RowsForm.{RowsForm}
+use Rattle.row_commands.specs.declared.exporting.RowsForm.TheVariants.{Table, Objects}
 use Rattle.row_lines.specs.declared.rows.RowsFault.{RowsFault}
 use Rattle.row_lines.specs.declared.rows.RowsFault.TheVariants as rows
 use Rattle.row_changes.specs.declared.fault.ChangesFault.{ChangesFault}
@@ -35,7 +42,13 @@ TellsChanges changes.Memory told = told ≡ Memory
 abbrev pub HasWritten : Option (List ℕ) → Option (List ℕ) → Type 0
 HasWritten before after = (old : Option (List ℕ)) × (new : Option (List ℕ)) × WritesChanges old new before after
 
--- the table of some text of rows was written, each row with as many numbers as are shown
-abbrev pub HasExported : Option (List ℕ) → Option (List ℕ) → Type 0
-HasExported before after =
-    (kinds : List CellKind) × (names : List (List ℕ)) × (header : List (List (List ℕ))) × (text : Option (List ℕ)) × WritesTable kinds names header (Some (length kinds - 3)) None text before after
+-- rows are written as a table, or as an object each
+abbrev pub WritesRows : RowsForm → List CellKind → List (List ℕ) → List (List ℕ) → Option ℕ → Option Pane → Option (List ℕ) → Option (List ℕ) → Option (List ℕ) → Type 0
+WritesRows (Table has_header) kinds titles names = WritesTable csv_line kinds names (header_shown has_header titles)
+WritesRows Objects kinds titles names = WritesTable (object_line titles kinds) kinds names []
+
+-- some text of rows was written in some form, each row with as many numbers as the plan's, by what its numbers are called and shown as with some columns
+abbrev pub HasExported : PlanData → Option (List ℕ) → Option (List ℕ) → Type 0
+HasExported p before after =
+    (form : RowsForm) × (columns : List ColumnWord) × (names : List (List ℕ)) × (text : Option (List ℕ))
+    × WritesRows form (kinds_shown p.window columns) (titles_shown p.window columns) names (Some (length p.window.aggregates)) None text before after

@@ -7,5 +7,5 @@ mod files;
 mod refusal;
 
 pub use comparing::{DiffWords, diff};
-pub use exporting::{ExportWords, export};
+pub use exporting::{ExportWords, RowsForm, export};
 pub use refusal::{RowsCode, RowsRefusal, refused, status_of};

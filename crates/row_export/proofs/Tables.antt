@@ -1,9 +1,8 @@
 -- Records that are written one behind the other.
 use Rattle.std.proofs.Common.{◌≡◌, ℕ, List, [], ◌∷◌, ◌++◌, Option, Some, None, IfSome, sym, ap, subst, ◌∙◌, append_assoc, append-nil}
 use Rattle.std.specs.Io.KnownBytes.{Appends, Consumes, IsAtEnd}
+use Rattle.std.specs.List.{flat_map}
 use Rattle.std.proofs.lemmas.List.Concat.{flat_map-cons}
-use Rattle.csv.specs.Writing.{row_text, default_writer, text_written}
-use Rattle.csv.specs.declared.writer.Writer.{Writer}
 use Rattle.plan_model.specs.declared.spec.Pane.{Pane}
 use Rattle.plan_model.specs.declared.spec.Row.{Row}
 use Rattle.plan_model.specs.Rows.{pane_of}
@@ -12,7 +11,7 @@ use Rattle.row_lines.specs.Sequences.{AreRows, IsRead, rows_left, width_of, last
 use Rattle.row_lines.specs.Text.{line_of, text_of_rows}
 use Rattle.row_lines.specs.declared.rows.RowLines.{RowLines}
 use Rattle.row_tables.specs.declared.kind.CellKind.{CellKind}
-use Rattle.row_export.specs.Shown.{ShowsRow, WritesTable, IsBetween, text_of_records}
+use Rattle.row_export.specs.Shown.{ShowsRow, WritesTable}
 
 pub appends_more : (a b c : Option (List ℕ)) (x y : List ℕ) → Appends a b x → Appends b c y → Appends a c (x ++ y)
 appends_more None b c x y h k = tt
@@ -34,33 +33,31 @@ text_end None h = tt
 text_end (Some xs) h = h
 
 -- nothing is left
-pub finished : (kinds : List CellKind) (names : List (List ℕ)) (width : Option ℕ) (last : Option Pane) (text out : Option (List ℕ)) → IsAtEnd text → WritesTable kinds names [] width last text out out
-finished kinds names width last text out end = record { rows = []; records = []; are = tt; read = text_end text end; shown = tt; written = appends_none out }
+pub finished : (line : List (List ℕ) → List ℕ) (kinds : List CellKind) (names : List (List ℕ)) (width : Option ℕ) (last : Option Pane) (text out : Option (List ℕ)) → IsAtEnd text → WritesTable line kinds names [] width last text out out
+finished line kinds names width last text out end = record { rows = []; records = []; are = tt; read = text_end text end; shown = tt; written = appends_none out }
 
 -- a row that is read and written before what comes behind it
-pub passed : {R : Type 0} (remaining : R → Option (List ℕ)) (kinds : List CellKind) (names : List (List ℕ)) (old new : RowLines R) (row : Row) (cells : List (List ℕ)) (before out after : Option (List ℕ)) → IsRead remaining old new row
-    → ShowsRow kinds names (numbers_in row) cells → Appends before out (row_text default_writer cells) → WritesTable kinds names [] (width_of new) (last_of new) (rows_left remaining new) out after
-    → WritesTable kinds names [] (width_of old) (last_of old) (rows_left remaining old) before after
-passed remaining kinds names old new row cells before out after is shown puts h = record {
+pub passed : {R : Type 0} (remaining : R → Option (List ℕ)) (line : List (List ℕ) → List ℕ) (kinds : List CellKind) (names : List (List ℕ)) (old new : RowLines R) (row : Row) (cells : List (List ℕ)) (before out after : Option (List ℕ))
+    → IsRead remaining old new row → ShowsRow kinds names (numbers_in row) cells → Appends before out (line cells) → WritesTable line kinds names [] (width_of new) (last_of new) (rows_left remaining new) out after
+    → WritesTable line kinds names [] (width_of old) (last_of old) (rows_left remaining old) before after
+passed remaining line kinds names old new row cells before out after is shown puts h = record {
   rows = row ∷ h.rows;
   records = cells ∷ h.records;
   are = (is.is, is.wide, is.after, subst (λ w. AreRows w (Some (pane_of row)) h.rows) is.width (subst (λ l. AreRows (width_of new) l h.rows) is.last h.are));
   read = text_more (rows_left remaining old) (rows_left remaining new) row h.rows is.text h.read;
   shown = (shown, h.shown);
-  written = subst (Appends before after) (sym (flat_map-cons (row_text default_writer) cells h.records))
-      (appends_more before out after (row_text default_writer cells) (text_of_records h.records) puts h.written);
+  written = subst (Appends before after) (sym (flat_map-cons line cells h.records)) (appends_more before out after (line cells) (flat_map line h.records) puts h.written);
 }
 
 -- what is still to come makes the whole
-pub record Continues {R W : Type 0} (remaining : R → Option (List ℕ)) (contents : W → Option (List ℕ)) (kinds : List CellKind) (names : List (List ℕ)) (start : RowLines R) (before : Option (List ℕ)) (rows : RowLines R) (out : Writer W) : Type 0 where
-  pub between : IsBetween out
-  pub whole : (after : Option (List ℕ)) → WritesTable kinds names [] (width_of rows) (last_of rows) (rows_left remaining rows) (text_written contents out) after
-      → WritesTable kinds names [] (width_of start) (last_of start) (rows_left remaining start) before after
+pub record Continues {R : Type 0} (remaining : R → Option (List ℕ)) (line : List (List ℕ) → List ℕ) (kinds : List CellKind) (names : List (List ℕ)) (start : RowLines R) (before : Option (List ℕ)) (rows : RowLines R) (out : Option (List ℕ)) : Type 0 where
+  pub whole : (after : Option (List ℕ)) → WritesTable line kinds names [] (width_of rows) (last_of rows) (rows_left remaining rows) out after
+      → WritesTable line kinds names [] (width_of start) (last_of start) (rows_left remaining start) before after
 
-pub goes_on : {R W : Type 0} (remaining : R → Option (List ℕ)) (contents : W → Option (List ℕ)) (kinds : List CellKind) (names : List (List ℕ)) (start : RowLines R) (before : Option (List ℕ)) (old new : RowLines R) (out next : Writer W) (row : Row)
-    (cells : List (List ℕ)) → Continues remaining contents kinds names start before old out → IsRead remaining old new row → ShowsRow kinds names (numbers_in row) cells
-    → Appends (text_written contents out) (text_written contents next) (row_text default_writer cells) → IsBetween next → Continues remaining contents kinds names start before new next
-goes_on remaining contents kinds names start before old new out next row cells h is shown puts between = record {
-  between = between;
-  whole = λ after left. h.whole after (passed remaining kinds names old new row cells (text_written contents out) (text_written contents next) after is shown puts left);
-}
+pub begins : {R : Type 0} (remaining : R → Option (List ℕ)) (line : List (List ℕ) → List ℕ) (kinds : List CellKind) (names : List (List ℕ)) (start : RowLines R) (before : Option (List ℕ)) → Continues remaining line kinds names start before start before
+begins remaining line kinds names start before = record { whole = λ after h. h }
+
+pub goes_on : {R : Type 0} (remaining : R → Option (List ℕ)) (line : List (List ℕ) → List ℕ) (kinds : List CellKind) (names : List (List ℕ)) (start : RowLines R) (before : Option (List ℕ)) (old new : RowLines R) (out next : Option (List ℕ)) (row : Row)
+    (cells : List (List ℕ)) → Continues remaining line kinds names start before old out → IsRead remaining old new row → ShowsRow kinds names (numbers_in row) cells → Appends out next (line cells) → Continues remaining line kinds names start before new next
+goes_on remaining line kinds names start before old new out next row cells h is shown puts =
+    record { whole = λ after left. h.whole after (passed remaining line kinds names old new row cells out next after is shown puts left) }

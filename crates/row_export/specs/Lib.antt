@@ -1,2 +1,4 @@
 pub mod Faults
+pub mod Objects
 pub mod Shown
+pub mod Titles

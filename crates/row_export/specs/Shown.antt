@@ -52,18 +52,18 @@ abbrev pub header_shown : Bool → List (List ℕ) → List (List (List ℕ))
 header_shown true titles = titles ∷ []
 header_shown false titles = []
 
--- the CSV text of records
-abbrev pub text_of_records : List (List (List ℕ)) → List ℕ
-text_of_records records = flat_map (row_text default_writer) records
+-- the line of a record in CSV
+abbrev pub csv_line : List (List ℕ) → List ℕ
+csv_line = row_text default_writer
 
--- a text is that of rows, and what is written is a header and a record that shows each of them, in order
-pub record WritesTable (kinds : List CellKind) (names : List (List ℕ)) (header : List (List (List ℕ))) (width : Option ℕ) (last : Option Pane) (text before after : Option (List ℕ)) : Type 0 where
+-- a text is that of rows, and what is written is the lines of a header and of a record that shows each of them, in order
+pub record WritesTable (line : List (List ℕ) → List ℕ) (kinds : List CellKind) (names : List (List ℕ)) (header : List (List (List ℕ))) (width : Option ℕ) (last : Option Pane) (text before after : Option (List ℕ)) : Type 0 where
   pub rows : List Row
   pub records : List (List (List ℕ))
   pub are : AreRows width last rows
   pub read : IfSome text (λ bytes. bytes ≡ text_of_rows rows)
   pub shown : ShowsRows kinds names rows records
-  pub written : Appends before after (text_of_records (header ++ records))
+  pub written : Appends before after (flat_map line (header ++ records))
 
 -- a writer of CSV as it is by default, at the end of a record
 pub record IsBetween {W : Type 0} (out : Writer W) : Type 0 where

@@ -1,12 +1,14 @@
-//! Rows written as CSV, by what each of their numbers is shown as.
+//! Rows written as CSV or as JSON objects, by what each of their numbers is shown as.
 #![tactic(auto)]
 
 mod fault;
 mod header;
+mod objects;
 mod record;
 mod table;
 mod writing;
 
 pub use fault::ExportFault;
+pub use objects::write_objects;
 pub use table::Table;
 pub use writing::write_table;

@@ -7,7 +7,7 @@ ghost use Rattle.row_export.specs.Faults.{IsTableFault};
 ghost use Rattle.row_export.specs.Shown.{ShowsRow};
 
 use crate::fault::ExportFault;
-use csv::ByteRecord;
+use csv::StringRecord;
 use plan_model::Row;
 use row_lines::RowsFault;
 use row_tables::{CellFault, CellKind, write_cell};
@@ -31,16 +31,16 @@ fn number_at(row: &Row, place: usize) -> Option<i128>
 ///
 /// `Rows` where the row has other numbers than are shown; `Cell` of the first number that is shown as nothing; `Memory`.
 pub(crate) fn fill_record(
-    csv_record: &mut ByteRecord,
+    cells: &mut StringRecord,
     cell: &mut String,
     kinds: &[CellKind],
     names: &[String],
     row: &Row,
 ) -> Result<(), ExportFault>
-    ensures shows { OnOk result (ShowsRow kinds.now (map string_bytes names.now) (numbers_in row.now) (fields_of csv_record.new)) }
+    ensures shows { OnOk result (ShowsRow kinds.now (map string_bytes names.now) (numbers_in row.now) (fields_of cells.new)) }
     ensures refused { IfErr result (IsTableFault kinds.now) }
 {
-    csv_record.clear();
+    cells.clear();
     if kinds.len() < 3 || kinds.len() - 3 != row.values.len() {
         return Err(ExportFault::Rows(RowsFault::Line));
     }
@@ -49,7 +49,7 @@ pub(crate) fn fill_record(
             return Err(ExportFault::Rows(RowsFault::Line));
         };
         match write_cell(cell, *kind, names, number) {
-            Ok(()) => csv_record.push_field(cell.as_bytes())?,
+            Ok(()) => cells.push_field(cell.as_str())?,
             Err(CellFault::Memory) => return Err(ExportFault::Memory),
             Err(fault) => return Err(ExportFault::Cell(place, fault)),
         }
@@ -62,13 +62,13 @@ pub(crate) fn fill_record(
 /// # Errors
 ///
 /// Only where memory runs out.
-pub(crate) fn header_of(alloc: Global, names: &[String]) -> Result<ByteRecord, ExportFault>
+pub(crate) fn header_of(alloc: Global, names: &[String]) -> Result<StringRecord, ExportFault>
     ensures titles { IfOk result (λ titles. fields_of titles ≡ map string_bytes names.now) }
     ensures refused { IfErr result (λ fault. fault ≡ ExportFault.Memory) }
 {
-    let mut titles = ByteRecord::new(alloc);
+    let mut titles = StringRecord::new(alloc);
     for name in names {
-        titles.push_field(name.as_bytes())?;
+        titles.push_field(name.as_str())?;
     }
     Ok(titles)
 }

@@ -3,7 +3,7 @@
 ghost use Rattle.std.specs.Prelude.{◌≡◌};
 ghost use Rattle.row_tables.specs.Cells.{kind_at};
 
-use crate::header::{key_name, name_of};
+use crate::header::{field_of, name_of};
 use import_columns::ColumnWord;
 use plan_model::Plan;
 use row_tables::{CellKind, kind_of_aggregate, kind_of_column};
@@ -28,6 +28,7 @@ fn kind_at(columns: &[ColumnWord<'_>], column: u32) -> CellKind
 impl Table {
     ghost use Rattle.std.specs.Prelude.{◌≡◌, [], IfOk, get_or, length};
     ghost use Rattle.row_export.specs.Shown.{kinds_of, kinds_shown, titles_of, width_of};
+    ghost use Rattle.row_export.specs.Titles.{titles_shown};
 
     /// The table of the rows of a plan on an input that was imported with columns.
     ///
@@ -36,6 +37,7 @@ impl Table {
     /// Only where memory runs out.
     pub fn new(alloc: Global, plan: &Plan, columns: &[ColumnWord<'_>]) -> Result<Table, AllocError>
         ensures kinds { IfOk result (λ table. kinds_of table ≡ kinds_shown plan.now.window columns.now) }
+        ensures titles { IfOk result (λ table. titles_of table ≡ titles_shown plan.now.window columns.now) }
         ensures width { IfOk result (λ table. width_of table ≡ length plan.now.window.aggregates) }
     {
         let window = plan.window();
@@ -46,7 +48,7 @@ impl Table {
         kinds.push(time)?;
         names.push(String::from_str(alloc, "end")?)?;
         kinds.push(time)?;
-        names.push(String::from_str(alloc, key_name(columns, window.key))?)?;
+        names.push(String::from_str(alloc, field_of(columns, window.key))?)?;
         kinds.push(kind_at(columns, window.key))?;
         for aggregate in window.aggregates.as_slice() {
             names.push(name_of(alloc, *aggregate, columns)?)?;

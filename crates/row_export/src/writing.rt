@@ -3,16 +3,17 @@
 ghost use Rattle.std.specs.Prelude.{◌≡◌, [], IfOk, IfErr, List, OnOk, map, string_bytes};
 ghost use Rattle.std.specs.Io.KnownBytes.{Appends};
 ghost use Rattle.csv.specs.Records.{fields_of};
-ghost use Rattle.csv.specs.Writing.{row_text, default_writer, text_written};
+ghost use Rattle.csv.specs.Writing.{text_written};
+ghost use Rattle.std.specs.List.{flat_map};
 ghost use Rattle.row_lines.specs.Sequences.{rows_left, width_of, last_of};
 ghost use Rattle.row_tables.specs.declared.kind.CellKind.{CellKind as Kind};
 ghost use Rattle.row_export.specs.Faults.{IsTableFault};
-ghost use Rattle.row_export.specs.Shown.{IsBetween, WritesTable, kinds_of, titles_of, header_shown, text_of_records};
+ghost use Rattle.row_export.specs.Shown.{IsBetween, WritesTable, kinds_of, titles_of, header_shown, csv_line};
 
 use crate::fault::ExportFault;
 use crate::record::{fill_record, header_of};
 use crate::table::Table;
-use csv::{ByteRecord, Error, ErrorKind, Writer, WriterBuilder};
+use csv::{Error, ErrorKind, StringRecord, Writer, WriterBuilder};
 use row_lines::{RowLines, RowsFault};
 use std::alloc::Global;
 use std::io::{Read, Write};
@@ -27,13 +28,13 @@ fn write_fault(error: &Error) -> ExportFault
 }
 
 /// Writes a record.
-fn put<W: Write + Drop>(out: &mut Writer<W>, cells: &ByteRecord) -> Result<(), ExportFault>
+fn put<W: Write + Drop>(out: &mut Writer<W>, cells: &StringRecord) -> Result<(), ExportFault>
     requires { IsBetween out.old }
-    ensures written { OnOk result (Appends (text_written W.contents out.old) (text_written W.contents out.new) (row_text default_writer (fields_of cells.now))) }
+    ensures written { OnOk result (Appends (text_written W.contents out.old) (text_written W.contents out.new) (csv_line (fields_of cells.now))) }
     ensures between { OnOk result (IsBetween out.new) }
     ensures refused { (kinds : List Kind) → IfErr result (IsTableFault kinds) }
 {
-    match out.write_byte_record(cells) {
+    match out.write_byte_record(cells.as_byte_record()) {
         Ok(()) => Ok(()),
         Err(error) => Err(write_fault(&error)),
     }
@@ -48,11 +49,11 @@ fn put_rows<R: Read + Drop, W: Write + Drop>(
     out: &mut Writer<W>,
 ) -> Result<(), ExportFault>
     requires { IsBetween out.old }
-    ensures table { OnOk result (WritesTable (kinds_of table.now) (map string_bytes names.now) [] (width_of rows.old) (last_of rows.old)
+    ensures table { OnOk result (WritesTable csv_line (kinds_of table.now) (map string_bytes names.now) [] (width_of rows.old) (last_of rows.old)
         (rows_left R.remaining rows.old) (text_written W.contents out.old) (text_written W.contents out.new)) }
     ensures refused { IfErr result (IsTableFault (kinds_of table.now)) }
 {
-    let mut cells = ByteRecord::new(alloc);
+    let mut cells = StringRecord::new(alloc);
     let mut cell = String::new(alloc);
     for _ in 0..u64::MAX {
         match rows.advance() {
@@ -77,7 +78,7 @@ fn put_header<W: Write + Drop>(
 ) -> Result<(), ExportFault>
     requires { IsBetween out.old }
     ensures written { OnOk result (Appends (text_written W.contents out.old) (text_written W.contents out.new)
-        (text_of_records (header_shown has_header (titles_of table.now)))) }
+        (flat_map csv_line (header_shown has_header (titles_of table.now)))) }
     ensures between { OnOk result (IsBetween out.new) }
     ensures refused { (kinds : List Kind) → IfErr result (IsTableFault kinds) }
 {
@@ -100,7 +101,7 @@ pub fn write_table<R: Read + Drop, W: Write + Drop>(
     has_header: bool,
     out: W,
 ) -> Result<W, ExportFault>
-    ensures table { IfOk result (λ done. WritesTable (kinds_of table.now) (map string_bytes names.now) (header_shown has_header (titles_of table.now))
+    ensures table { IfOk result (λ done. WritesTable csv_line (kinds_of table.now) (map string_bytes names.now) (header_shown has_header (titles_of table.now))
         (width_of rows.old) (last_of rows.old) (rows_left R.remaining rows.old) (W.contents out) (W.contents done)) }
     ensures refused { IfErr result (IsTableFault (kinds_of table.now)) }
 {

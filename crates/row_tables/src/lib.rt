@@ -2,6 +2,7 @@
 #![tactic(auto)]
 
 mod cell;
+mod date;
 mod decimal;
 mod fault;
 mod kind;
@@ -9,4 +10,4 @@ mod time;
 
 pub use cell::write_cell;
 pub use fault::CellFault;
-pub use kind::{CellKind, kind_of_aggregate, kind_of_column};
+pub use kind::{CellKind, DatePart, kind_of_aggregate, kind_of_column};

@@ -1,6 +1,6 @@
 use Rattle.std.proofs.Common.{rules, ◌≡◌, ◌++◌, ◌∷◌, [], Some, map, slice_get, string_bytes, sym, ap, subst, ◌∙◌, ◌+◌, take}
 use Rattle.std.proofs.lemmas.Option.{slice_get-get_or}
-use Rattle.csv.specs.Records.{fields_of, partial_of}
+use Rattle.csv.specs.Records.{fields_of}
 use Rattle.row_lines.specs.Rows.{numbers_in}
 use Rattle.row_tables.specs.Cells.{Shows}
 use Rattle.row_export.specs.Shown.{ShowsRow}
@@ -17,12 +17,8 @@ loop-place-preserved c =
     slice_get-get_or kinds c.loop-place.place c.index-kinds-place.result c.loop-place-test.true ∙ ap (λ x. Some x) (sym c.index-kinds-place.is) in
     let at_number : slice_get numbers c.loop-place.place ≡ Some c.in-Some.number = search rules in
     let shows : Shows c.index-kinds-place.result names c.in-Some.number text = search rules in
-    let pushed : fields_of c.push_field.new.self ≡ fields_of c.loop-place.csv_record ++ (partial_of c.loop-place.csv_record ++ c.as_bytes.result.now) ∷ [] = search rules in
-    let fields : fields_of c.push_field.new.self ≡ fields_of c.loop-place.csv_record ++ text ∷ [] =
-    pushed ∙ ap (λ p. fields_of c.loop-place.csv_record ++ (p ++ c.as_bytes.result.now) ∷ []) c.loop-place.invariant.whole
-    ∙ ap (λ t. fields_of c.loop-place.csv_record ++ t ∷ []) c.as_bytes.ensures.value in
+    let fields : fields_of c.push_field.new.self ≡ fields_of c.loop-place.cells ++ text ∷ [] = search rules in
     record {
       shown = subst (ShowsRow (take (c.loop-place.place + 1) kinds) names (take (c.loop-place.place + 1) numbers)) (sym fields)
-          (row_more kinds names numbers (fields_of c.loop-place.csv_record) c.loop-place.place c.index-kinds-place.result c.in-Some.number text at_kind at_number c.loop-place.invariant.shown shows);
-      whole = c.in_ok-push_field-in-Ok.ensures.partial;
+          (row_more kinds names numbers (fields_of c.loop-place.cells) c.loop-place.place c.index-kinds-place.result c.in-Some.number text at_kind at_number c.loop-place.invariant.shown shows);
     }

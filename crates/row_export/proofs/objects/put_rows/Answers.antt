@@ -1,0 +1,28 @@
+use Rattle.std.proofs.Common.{rules, Ok, map, subst, string_bytes}
+use Rattle.csv.specs.Records.{fields_of}
+use Rattle.row_lines.specs.Rows.{numbers_in}
+use Rattle.row_lines.specs.Sequences.{IsNext, rows_left, width_of, last_of}
+use Rattle.row_export.specs.Objects.{object_line}
+use Rattle.row_export.specs.Shown.{ShowsRow, kinds_of, titles_of}
+use Rattle.row_export.proofs.Tables.{begins, finished, goes_on}
+use Rattle.row_export.proofs.objects.put_rows.Goals as goal
+
+pub loop-init : goal.loop-init
+loop-init g c = begins g.R.Read.remaining (object_line (titles_of c.args.table.now) (kinds_of c.args.table.now)) (kinds_of c.args.table.now) (map string_bytes c.args.names.now) c.args.rows.now (g.W.Write.contents c.args.out.now)
+
+pub returns-in-Ok-None-clause-table : goal.returns-in-Ok-None-clause-table
+returns-in-Ok-None-clause-table g c =
+    let remaining = g.R.Read.remaining in
+    let out = g.W.Write.contents c.loop.out in
+    c.loop.invariant.whole out
+    (finished (object_line (titles_of c.args.table.now) (kinds_of c.args.table.now)) (kinds_of c.args.table.now) (map string_bytes c.args.names.now) (width_of c.loop.rows) (last_of c.loop.rows) (rows_left remaining c.loop.rows) out
+    (subst (λ row. IsNext remaining c.loop.rows c.advance.new.self (Ok row)) c.in-Ok-None.field-0-is c.in-Ok-None.ensures.next))
+
+pub loop-preserved : goal.loop-preserved
+loop-preserved g c =
+    let line = object_line (titles_of c.args.table.now) (kinds_of c.args.table.now) in
+    goes_on g.R.Read.remaining line (kinds_of c.args.table.now) (map string_bytes c.args.names.now) c.args.rows.now (g.W.Write.contents c.args.out.now) c.loop.rows c.advance.new.self (g.W.Write.contents c.loop.out) (g.W.Write.contents c.write_all.new.self)
+    c.in-Ok-Some.row (fields_of c.fill_record.new.cells) c.loop.invariant
+    (subst (λ row. IsNext g.R.Read.remaining c.loop.rows c.advance.new.self (Ok row)) c.in-Ok-Some.field-0-is c.in-Ok-Some.ensures.next)
+    (subst (λ kinds. ShowsRow kinds (map string_bytes c.args.names.now) (numbers_in c.in-Ok-Some.row) (fields_of c.fill_record.new.cells)) c.deref.ensures.value c.in_ok-fill_record-in-Ok-Some.ensures.shows)
+    (search rules)
