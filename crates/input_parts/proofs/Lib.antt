@@ -1,0 +1,5 @@
+mod Kept
+mod Timely
+mod Own
+mod All
+mod Parted
