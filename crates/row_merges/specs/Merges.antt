@@ -1,0 +1,96 @@
+-- Texts of rows that are merged.
+use Rattle.std.specs.Prelude.{◌≡◌, ℕ, ◌<◌, true, List, ◌∷◌, ◌++◌, length, Option, Some, None, slice_index_or}
+use Rattle.std.specs.List.{All, AllZip, flat_map}
+use Rattle.std.specs.List.Sorted.{IsPermutation}
+use Rattle.std.specs.Io.KnownBytes.{Appends}
+use Rattle.plan_model.specs.declared.spec.Pane.{Pane}
+use Rattle.plan_model.specs.declared.spec.Row.{Row}
+use Rattle.plan_model.specs.Rows.{pane_of}
+use Rattle.row_lines.specs.Text.{line_of, text_of_rows}
+use Rattle.row_lines.specs.Rows.{IsRow}
+use Rattle.row_lines.specs.Sequences.{has_width, is_after, AreRows}
+use Rattle.row_lines.specs.declared.rows.RowsFault.{RowsFault}
+use Rattle.row_lines.specs.declared.rows.RowsFault.TheVariants as rows
+use Rattle.row_changes.specs.Merging.{IsTextOf, AreLeft, IsBehind}
+use Rattle.row_merges.specs.declared.fault.MergeFault.{MergeFault}
+use Rattle.row_merges.specs.declared.fault.MergeFault.TheVariants.{Text, Memory}
+use Rattle.row_merges.specs.declared.head.Head.{Head}
+use Rattle.row_merges.specs.declared.merge.Merge.{Merge}
+
+-- a text is that of these rows, which are alike and each behind the one before
+abbrev pub IsRowsText : Option (List ℕ) → List Row → Type 0
+IsRowsText text rows = AreRows None None rows × IsTextOf text rows
+
+-- all rows of lists, one list after the other
+abbrev pub rows_in : List (List Row) → List Row
+rows_in lists = flat_map (λ rows. rows) lists
+
+-- texts are of rows, and what is written are the lines of them all, of rows that are alike and each behind the one before
+pub record MergesRows (texts : List (Option (List ℕ))) (before after : Option (List ℕ)) : Type 0 where
+  pub lists : List (List Row)
+  pub rows : List Row
+  pub of_texts : AllZip IsRowsText texts lists
+  pub all : IsPermutation (rows_in lists) rows
+  pub ordered : AreRows None None rows
+  pub written : Appends before after (text_of_rows rows)
+
+-- a fault of the text at a place, at a line; or memory ran out
+abbrev pub TellsOf : ℕ → ℕ → RowsFault → MergeFault → Type 0
+TellsOf place line rows.Memory told = told ≡ Memory
+TellsOf place line rows.Read told = told ≡ Text place rows.Read line
+TellsOf place line rows.Line told = told ≡ Text place rows.Line line
+TellsOf place line rows.Order told = told ≡ Text place rows.Order line
+
+-- ---- what is left of texts
+
+-- the rows that are left of a text of which the first row was read are those of the text
+pub record IsOpened {R : Type 0} (remaining : R → Option (List ℕ)) (text : Option (List ℕ)) (head : Head R) : Type 0 where
+  pub rows : (left : List Row) → AreLeft remaining head.rows head.row left → IsRowsText text left
+  pub behind : IsBehind None head.rows head.row
+
+abbrev pub AreAllLeft : {R : Type 0} → (R → Option (List ℕ)) → List (Head R) → List (List Row) → Type 0
+AreAllLeft remaining heads lists = AllZip (λ head left. AreLeft remaining head.rows head.row left) heads lists
+
+-- each row at hand is the one that was read last of its text
+abbrev pub AreBehind : {R : Type 0} → List (Head R) → Type 0
+AreBehind heads = All (λ head. IsBehind None head.rows head.row) heads
+
+abbrev pub AreAllBehind : {R : Type 0} → Merge R → Type 0
+AreAllBehind merge = AreBehind merge.heads.items
+
+-- these are the texts, of which no row was passed
+pub record HoldsTexts {R : Type 0} (remaining : R → Option (List ℕ)) (texts : List (Option (List ℕ))) (merge : Merge R) : Type 0 where
+  pub rows : (lists : List (List Row)) → AreAllLeft remaining merge.heads.items lists → AllZip IsRowsText texts lists
+  pub behind : AreAllBehind merge
+  pub width : merge.width ≡ None
+  pub last : merge.last ≡ None
+
+-- the text at a place has a row at hand
+abbrev pub HasRowAt : {R : Type 0} → List (Head R) → ℕ → Type 0
+HasRowAt {R} heads place = (place < length heads) × ((d : Head R) → (row : Row) × ((slice_index_or heads place d).row ≡ Some row))
+
+-- and that row may be the next one
+abbrev pub IsAdmitted : {R : Type 0} → Merge R → ℕ → ℕ → Pane → Type 0
+IsAdmitted {R} merge place width pane = (d : Head R) (row : Row) → (slice_index_or merge.heads.items place d).row ≡ Some row
+    → (width ≡ length row.values) × (pane ≡ pane_of row) × (has_width merge.width width ≡ true) × (is_after merge.last pane ≡ true)
+
+-- all rows that were left before are those that are left and one more
+pub record AreBefore {R : Type 0} (remaining : R → Option (List ℕ)) (heads : List (Head R)) (row : Row) (lists : List (List Row)) : Type 0 where
+  pub all : List (List Row)
+  pub left : AreAllLeft remaining heads all
+  pub same : IsPermutation (rows_in all) (row ∷ rows_in lists)
+
+-- a row was passed
+pub record Steps {R : Type 0} (remaining : R → Option (List ℕ)) (old new : Merge R) (before after : List ℕ) : Type 0 where
+  pub row : Row
+  pub is : IsRow row
+  pub wide : has_width old.width (length row.values) ≡ true
+  pub next : is_after old.last (pane_of row) ≡ true
+  pub width : new.width ≡ Some (length row.values)
+  pub last : new.last ≡ Some (pane_of row)
+  pub text : after ≡ before ++ line_of row
+  pub left : (lists : List (List Row)) → AreAllLeft remaining new.heads.items lists → AreBefore remaining old.heads.items row lists
+  pub behind : AreAllBehind new
+
+abbrev pub NothingLeft : {R : Type 0} → Merge R → Type 0
+NothingLeft merge = All (λ head. head.row ≡ None) merge.heads.items

@@ -1,0 +1,169 @@
+//! Texts of rows, gone through together.
+
+ghost use Rattle.std.specs.Prelude.{◌≡◌, ◌⊎◌, [], None, Some, OnOk, IfSome, string_bytes};
+ghost use Rattle.std.specs.Io.KnownBytes.{Appends};
+
+use crate::fault::{MergeFault, fault_at};
+use crate::head::{Head, has_width, is_after, pane_of};
+use plan_model::Pane;
+use row_lines::RowsFault;
+use std::alloc::Global;
+use std::io::{Read, Write};
+
+/// From how many bytes on a text is written.
+const CHUNK: usize = 65536;
+
+/// Writes a text, and empties it.
+fn write_text<W: Write>(out: &mut W, text: &mut String) -> Result<(), MergeFault>
+    ensures written { OnOk result (Appends (W.contents out.old) (W.contents out.new) (string_bytes text.old)) }
+    ensures empty { OnOk result (string_bytes text.new ≡ []) }
+{
+    if out.write_all(text.as_bytes()).is_err() {
+        return Err(MergeFault::Write);
+    }
+    text.clear();
+    Ok(())
+}
+
+/// A place among texts, and where its row stands.
+type At = (usize, Pane);
+
+/// The one whose row stands first: a place that was found, if one was, or another one, if it has a row.
+fn earlier(found: Option<At>, place: usize, pane: Option<Pane>) -> Option<At>
+    ensures none { result ≡ None → (found ≡ None) × (pane ≡ None) }
+    ensures some { IfSome result (λ at. (found ≡ Some at) ⊎ ((at.0 ≡ place) × (pane ≡ Some at.1))) }
+{
+    match (found, pane) {
+        (found, None) => found,
+        (None, Some(pane)) => Some((place, pane)),
+        (Some((other, first)), Some(pane)) => Some(if pane < first {
+            (place, pane)
+        } else {
+            (other, first)
+        }),
+    }
+}
+
+/// Texts of rows, which are written as one.
+#[derive(Drop)]
+pub struct Merge<R> {
+    alloc: Global,
+    heads: Vec<Head<R>>,
+    /// How many numbers each row has, and where the last one stood, once one was passed.
+    width: Option<usize>,
+    last: Option<Pane>,
+}
+
+impl<R: Read + Drop> Merge<R> {
+    ghost use Rattle.std.specs.Prelude.{◌≡◌, ◌<◌, ◌++◌, ℕ, List, [], ◌∷◌, Option, None, true, false, length, IfOk, IfSome, OnOk, string_bytes};
+    ghost use Rattle.std.specs.List.{All};
+    ghost use Rattle.row_merges.specs.Merges.{HoldsTexts, MergesRows, AreAllBehind, HasRowAt, IsAdmitted, Steps, NothingLeft};
+
+    /// No texts.
+    pub fn new(alloc: Global) -> Merge<R>
+        ensures { HoldsTexts R.remaining [] result }
+    {
+        Merge {
+            alloc,
+            heads: Vec::new(alloc),
+            width: None,
+            last: None,
+        }
+    }
+
+    /// Takes one text more, and reads its first row.
+    ///
+    /// # Errors
+    ///
+    /// `Text` with the place of this text, where it has no row in front; `Memory`.
+    pub fn add(&mut self, text: R) -> Result<(), MergeFault>
+        ensures { OnOk result ((texts : List (Option (List ℕ))) → HoldsTexts R.remaining texts self.old → HoldsTexts R.remaining (texts ++ R.remaining text ∷ []) self.new) }
+    {
+        let head = Head::new(self.alloc, text, self.heads.len())?;
+        self.heads.push(head)?;
+        Ok(())
+    }
+
+    /// The place of the text whose row stands first, if there is a row.
+    fn first(&self) -> Option<usize>
+        ensures some { IfSome result (HasRowAt self.now.heads.items) }
+        ensures none { result ≡ None → NothingLeft self.now }
+    {
+        let mut found = None;
+        for place in 0..self.heads.len() {
+            let head: &Head<R> = &self.heads[place];
+            found = earlier(found, place, head.pane());
+        }
+        match found {
+            Some((place, _)) => Some(place),
+            None => None,
+        }
+    }
+
+    /// Refuses the row at hand of the text at a place where it has another number of numbers than those before, or is not behind
+    /// the last one. Tells how many numbers it has, and where it stands.
+    fn admit(&self, place: usize) -> Result<(usize, Pane), MergeFault>
+        requires { HasRowAt self.now.heads.items place }
+        ensures { IfOk result (λ told. IsAdmitted self.now place told.0 told.1) }
+    {
+        let head: &Head<R> = &self.heads[place];
+        let row = head.row.as_ref().unwrap();
+        let (width, pane) = (row.values.len(), pane_of(row));
+        let line = head.rows.line_number();
+        if !has_width(self.width, width) {
+            return Err(fault_at(place, line, RowsFault::Line));
+        }
+        if !is_after(self.last, pane) {
+            return Err(fault_at(place, line, RowsFault::Order));
+        }
+        Ok((width, pane))
+    }
+
+    /// Puts the line of the row at hand of the text at a place behind a text, and goes on behind it.
+    fn pass(&mut self, place: usize, text: &mut String) -> Result<(), MergeFault>
+        requires { HasRowAt self.old.heads.items place }
+        ensures { OnOk result (AreAllBehind self.old → Steps R.remaining self.old self.new (string_bytes text.old) (string_bytes text.new)) }
+    {
+        let (width, pane) = self.admit(place)?;
+        let head: &mut Head<R> = &mut self.heads[place];
+        head.pass(place, text)?;
+        self.width = Some(width);
+        self.last = Some(pane);
+        Ok(())
+    }
+
+    /// Puts the line of what comes first behind a text and goes on behind it, or tells that there is nothing.
+    fn advance(&mut self, text: &mut String) -> Result<bool, MergeFault>
+        ensures steps { IfOk result (λ more. more ≡ true → AreAllBehind self.old → Steps R.remaining self.old self.new (string_bytes text.old) (string_bytes text.new)) }
+        ensures ends { IfOk result (λ more. more ≡ false → NothingLeft self.old × (string_bytes text.new ≡ string_bytes text.old)) }
+    {
+        let Some(place) = self.first() else {
+            return Ok(false);
+        };
+        self.pass(place, text)?;
+        Ok(true)
+    }
+
+    /// Writes the rows of all texts, in the order of start and key.
+    ///
+    /// # Errors
+    ///
+    /// `Text` with the place of a text and the line at which it is none of rows in order with as many numbers as those before, or
+    /// has a row at the start and key of another text's; `Write`; `Memory`. What comes before may have been written then.
+    pub fn write<W: Write>(self, out: &mut W) -> Result<(), MergeFault>
+        ensures { OnOk result ((texts : List (Option (List ℕ))) → HoldsTexts R.remaining texts self → MergesRows texts (W.contents out.old) (W.contents out.new)) }
+    {
+        let mut merge = self;
+        let mut text = String::new(merge.alloc);
+        for _ in 0..u64::MAX {
+            if !merge.advance(&mut text)? {
+                write_text(out, &mut text)?;
+                return Ok(());
+            }
+            if text.len() >= CHUNK {
+                write_text(out, &mut text)?;
+            }
+        }
+        Err(MergeFault::Write)
+    }
+}
