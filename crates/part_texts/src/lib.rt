@@ -1,0 +1,7 @@
+//! The JSON text of an input.
+#![tactic(auto)]
+
+mod entries;
+mod sources;
+
+pub use sources::text_of_input;
