@@ -4,6 +4,10 @@ use Rattle.row_changes.specs.Merging.{WritesChanges}
 use Rattle.plan_model.specs.PlanData.{PlanData}
 use Rattle.plan_model.specs.declared.spec.Pane.{Pane}
 use Rattle.import_columns.specs.declared.word.ColumnWord.{ColumnWord}
+use Rattle.row_merges.specs.Merges.{HoldsTexts, MergesRows}
+use Rattle.row_merges.specs.declared.merge.Merge.{Merge}
+use Rattle.row_merges.specs.declared.fault.MergeFault.{MergeFault}
+use Rattle.row_merges.specs.declared.fault.MergeFault.TheVariants as merges
 use Rattle.row_tables.specs.declared.kind.CellKind.{CellKind}
 use Rattle.row_export.specs.Objects.{object_line}
 use Rattle.row_export.specs.Shown.{WritesTable, csv_line, header_shown, kinds_shown}
@@ -52,3 +56,16 @@ abbrev pub HasExported : PlanData → Option (List ℕ) → Option (List ℕ) �
 HasExported p before after =
     (form : RowsForm) × (columns : List ColumnWord) × (names : List (List ℕ)) × (text : Option (List ℕ))
     × WritesRows form (kinds_shown p.window columns) (titles_shown p.window columns) names (Some (length p.window.aggregates)) None text before after
+
+abbrev pub TellsMerge : MergeFault → RowsRefusal → Type 0
+TellsMerge (merges.Text place fault line) told = TellsRows fault told
+TellsMerge merges.Write told = told ≡ Write
+TellsMerge merges.Memory told = told ≡ Memory
+
+-- so many texts are held, of which no row was passed
+abbrev pub HasTexts : {R : Type 0} → (R → Option (List ℕ)) → ℕ → Merge R → Type 0
+HasTexts remaining count merge = (texts : List (Option (List ℕ))) × (length texts ≡ count) × HoldsTexts remaining texts merge
+
+-- the rows of so many texts were written, as one text
+abbrev pub HasMerged : ℕ → Option (List ℕ) → Option (List ℕ) → Type 0
+HasMerged count before after = (texts : List (Option (List ℕ))) × (length texts ≡ count) × MergesRows texts before after

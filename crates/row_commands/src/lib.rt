@@ -4,8 +4,10 @@
 mod comparing;
 mod exporting;
 mod files;
+mod merging;
 mod refusal;
 
 pub use comparing::{DiffWords, diff};
 pub use exporting::{ExportWords, RowsForm, export};
+pub use merging::{MergeWords, merge};
 pub use refusal::{RowsCode, RowsRefusal, refused, status_of};
