@@ -369,7 +369,8 @@ header, or a member of the objects, for each number of a record, in the plan's o
 between: `bytes` is a whole number; `power:3` a decimal times 1000; `at:ms` a time in ISO 8601 with its
 zone, in milliseconds since 1970, and `at:day:Europe/Berlin` the day there, or month, year, hour, weekday;
 `customer:name` the number of a name in the file of --names; `status:ge:500` is 1 where the number is at
-least 500, else 0, and `fuel:eq:diesel` where the text is that.
+least 500, else 0, and `fuel:eq:diesel` where the text is that. `@FILE` reads the columns from a file, a
+line each.
 
 Example: streamjob import plan.json input.json time:ms,customer:name,bytes --names names.csv api=0.csv,1.csv
 Page: docs/FORMATS.md, under Import";

@@ -9,7 +9,8 @@ pub const IMPORT_PAGES: [FaultPage<'static>; 13] = [
         r#"D1 Columns (status 2)
 
 The word COLUMNS of `import` says no columns, has another number of them than the plan, names a zone that the system
-does not have, or has a column of names without `--names`; or `--once` names a field that no column is of.
+does not have, or has a column of names without `--names`; or `--once` names a field that no column is of; or the file
+of `@FILE` has more than 1 MiB, or is no UTF-8.
 
 ```console
 $ streamjob import plan.json new.json at:sec,key calls=calls.csv

@@ -8,6 +8,7 @@ use crate::keeping::{BesideFiles, named, written};
 use crate::names::{NameFile, no_names, random_state};
 use crate::words::{ImportWords, entry_rule, once_columns};
 use crate::zoning::{placed_columns, zones_of};
+use column_files::columns_text;
 use import_columns::{Column, ColumnWord};
 use import_copies::{ImportRule, Ledger, LedgerWants, OnceRule, import_files};
 use import_reports::ImportReport;
@@ -184,7 +185,8 @@ pub fn import<R: Files + Print + RandomSource + AllocGlobal>(
 ) -> Result<(), ImportFault>
     ensures { OnOk result (are_apart words.now ≡ true) }
 {
-    let said = read_columns(rt.alloc(), words.columns)?;
+    let written = columns_text(rt, words.columns)?;
+    let said = read_columns(rt.alloc(), written.as_deref().unwrap_or(words.columns))?;
     let zones = zones_of(rt, words.zones, &said)?;
     let columns = placed_columns(rt.alloc(), &said, &zones)?;
     let rule = rule_of(rt, plan, words, &said, &columns)?;

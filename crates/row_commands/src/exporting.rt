@@ -7,6 +7,7 @@ ghost use Rattle.row_commands.specs.Telling.{WritesRows, HasExported};
 
 use crate::files::{opened, refused_rows};
 use crate::refusal::{RowsCode, RowsRefusal, refused};
+use column_files::columns_text;
 use import_columns::ColumnWord;
 use import_words::{ImportFault, check_columns, read_columns};
 use imports::{CsvRows, read_names, refused_names};
@@ -85,10 +86,11 @@ fn check_names(alloc: Global, form: RowsForm, table: &Table) -> Result<(), RowsR
 fn columns_of<'w>(
     alloc: Global,
     plan: &Plan,
-    words: &ExportWords<'w>,
+    word: &'w str,
+    has_names: bool,
 ) -> Result<Vec<ColumnWord<'w>>, ImportFault> {
-    let columns = read_columns(alloc, words.columns)?;
-    check_columns(alloc, &columns, plan.columns(), words.names.is_some())?;
+    let columns = read_columns(alloc, word)?;
+    check_columns(alloc, &columns, plan.columns(), has_names)?;
     Ok(columns)
 }
 
@@ -174,7 +176,12 @@ pub fn export<R: Files + RandomSource + AllocGlobal, W: Write + Drop>(
     ensures { IfOk result (λ done. HasExported plan.now (W.contents out) (W.contents done)) }
 {
     let form = form_of(rt.alloc(), words)?;
-    let columns = match columns_of(rt.alloc(), plan, words) {
+    let written = match columns_text(rt, words.columns) {
+        Ok(written) => written,
+        Err(fault) => return Err(RowsRefusal::Import(fault)),
+    };
+    let word = written.as_deref().unwrap_or(words.columns);
+    let columns = match columns_of(rt.alloc(), plan, word, words.names.is_some()) {
         Ok(columns) => columns,
         Err(fault) => return Err(RowsRefusal::Import(fault)),
     };

@@ -31,10 +31,7 @@ fn refused_merge(alloc: Global, files: &[&str], fault: MergeFault) -> RowsRefusa
 }
 
 /// The texts of files, each with its first row read.
-fn texts_of<R: Files + AllocGlobal>(
-    rt: &R,
-    files: &[&str],
-) -> Result<Merge<R::File>, RowsRefusal>
+fn texts_of<R: Files + AllocGlobal>(rt: &R, files: &[&str]) -> Result<Merge<R::File>, RowsRefusal>
     ensures { IfOk result (HasTexts R.File.remaining (length files.now)) }
 {
     let mut merge = Merge::new(rt.alloc());
