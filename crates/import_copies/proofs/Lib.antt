@@ -1,2 +1,3 @@
+pub mod Each
 pub mod Sorting
 pub mod Writing

@@ -1,5 +1,5 @@
 -- What is written of a partition, and where each record of its files goes.
-use Rattle.std.specs.Prelude.{◌≡◌, ℕ, List, [], ◌∷◌, ◌++◌, Option, Some, None, Result, Ok, Err, option_map}
+use Rattle.std.specs.Prelude.{◌≡◌, ℕ, List, [], ◌++◌, Option, Some, None}
 use Rattle.std.specs.Io.KnownBytes.{Appends}
 use Rattle.import_entries.specs.declared.rule.EntryRule.{EntryRule}
 use Rattle.entry_texts.specs.EntryTexts.{end_text}
@@ -8,6 +8,9 @@ use Rattle.entry_texts.specs.declared.partition.PartitionText.{PartitionText}
 use Rattle.import_fates.specs.Counts.{counts_of}
 use Rattle.import_fates.specs.Fates.{Taken, fate_said, fates, keys_with, keys_after, rows_with, rows_after}
 use Rattle.import_fates.specs.declared.counts.FateCounts.{FateCounts}
+use Rattle.imports.specs.Reading.{Rest, StandsAt, IsBegun}
+use Rattle.imports.specs.declared.kinds.Records.{Records}
+use Rattle.import_copies.specs.Files.{Asked, TakesRecord, TakesAll, AreOfFile, HasNone}
 use Rattle.import_copies.specs.Known.{keys_in}
 use Rattle.import_copies.specs.Outcomes.{fate_of}
 use Rattle.import_copies.specs.declared.known.KnownRecords.{KnownRecords}
@@ -23,10 +26,10 @@ Takes keys rows start now known partition outcome taken = (fate_of outcome ≡ f
     × (keys_in known ≡ keys_with keys taken)
     × WritesRows (rows_with (fate_of outcome) taken rows) start now partition
 
--- some record is taken so, or there is none and nothing changes
-abbrev pub TakesNext : List (List ℕ) → List Row → Option (List ℕ) → Option (List ℕ) → Option KnownRecords → PartitionText → Option Outcome → Type 0
-TakesNext keys rows start now known partition None = (keys_in known ≡ keys) × WritesRows rows start now partition
-TakesNext keys rows start now known partition (Some outcome) = (taken : Taken) × Takes keys rows start now known partition outcome taken
+-- the next record of a file is taken so, or there is none and nothing changes
+abbrev pub TakesNext : {R : Type 0} → (R → Option (List ℕ)) → Asked → Records R → Records R → List (List ℕ) → List Row → Option (List ℕ) → Option (List ℕ) → Option KnownRecords → PartitionText → Option Outcome → Type 0
+TakesNext remaining asked old new keys rows start now known partition None = (keys_in known ≡ keys) × WritesRows rows start now partition × HasNone remaining old
+TakesNext remaining asked old new keys rows start now known partition (Some outcome) = (taken : Taken) × Takes keys rows start now known partition outcome taken × TakesRecord remaining asked old new taken
 
 -- each record of a list, the last one first, went where it has to behind the rows and records before it: those that are written are the
 -- rows, in order, and of each kind there are as many as are counted
@@ -39,6 +42,15 @@ pub record Sorts (rule : EntryRule) (keys : List (List ℕ)) (rows : List Row) (
 -- some records went so
 abbrev pub CopiesAll : EntryRule → List (List ℕ) → List Row → Option (List ℕ) → Option (List ℕ) → Option KnownRecords → PartitionText → FateCounts → Type 0
 CopiesAll rule keys rows start now known partition counts = (records : List Taken) × Sorts rule keys rows start now known partition counts records
+
+-- all records that a file has left went so
+abbrev pub CopiesFile : {R : Type 0} → (R → Option (List ℕ)) → Asked → Records R → EntryRule → List (List ℕ) → List Row → Option (List ℕ) → Option (List ℕ) → Option KnownRecords → PartitionText → FateCounts → Type 0
+CopiesFile remaining asked old rule keys rows start now known partition counts = (records : List Taken) × Sorts rule keys rows start now known partition counts records × AreOfFile remaining asked old records
+
+-- the same of a file from its beginning on, whose header comes first if it is CSV
+abbrev pub CopiesWhole : {R : Type 0} → (R → Option (List ℕ)) → Option (List ℕ) → Records R → EntryRule → List (List ℕ) → List Row → Option (List ℕ) → Option (List ℕ) → Option KnownRecords → PartitionText → FateCounts → Type 0
+CopiesWhole remaining columns old rule keys rows start now known partition counts = (records : List Taken) × Sorts rule keys rows start now known partition counts records
+    × (asked : Asked) × (asked.columns ≡ columns) × ((rest more : Rest) → StandsAt remaining old rest → IsBegun rest more → TakesAll asked more records)
 
 -- of some records that went where they had to, those that are written are the rows of a partition from its start on
 abbrev pub CopiesRows : EntryRule → List (List ℕ) → Option (List ℕ) → Option (List ℕ) → Option KnownRecords → PartitionText → Type 0

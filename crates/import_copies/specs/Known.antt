@@ -1,5 +1,5 @@
 -- What tells records apart.
-use Rattle.std.specs.Prelude.{ℕ, List, [], ◌∷◌, ◌++◌, length, slice_get, Option, Some, None, unwrap_or}
+use Rattle.std.specs.Prelude.{ℕ, List, [], ◌++◌, length, slice_get, Option, Some, None, option_map, unwrap_or}
 use Rattle.std.specs.Int.{bytes_low_first}
 use Rattle.std.specs.List.{flat_map}
 use Rattle.csv.specs.Records.{field_at}
@@ -22,6 +22,13 @@ abbrev pub keys_in : Option KnownRecords → List (List ℕ)
 keys_in None = []
 keys_in (Some known) = known.table
 
+-- the columns whose fields tell records apart, if any do
+abbrev pub columns_in : Option KnownRecords → Option (List ℕ)
+columns_in known = option_map (λ records. records.columns.items) known
+
+-- the text that tells a record of these fields from others
+abbrev pub key_by : Option (List ℕ) → List ℕ → List (List ℕ) → Option (List ℕ)
+key_by columns places fields = option_map (λ some. key_said some places fields) columns
+
 abbrev pub key_in : Option KnownRecords → List ℕ → List (List ℕ) → Option (List ℕ)
-key_in None places fields = None
-key_in (Some known) places fields = Some (key_said known.columns.items places fields)
+key_in known places fields = key_by (columns_in known) places fields

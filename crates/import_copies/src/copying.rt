@@ -2,7 +2,8 @@
 
 ghost use Rattle.std.specs.Prelude.{◌≡◌, ℕ, List, Option, IfOk};
 ghost use Rattle.entry_texts.specs.Partitions.{Row, rule_of};
-ghost use Rattle.import_copies.specs.Copies.{WritesRows, CopiesAll};
+ghost use Rattle.import_copies.specs.Copies.{WritesRows, CopiesFile};
+ghost use Rattle.import_copies.specs.Asking.{asked_of};
 ghost use Rattle.import_copies.specs.Known.{keys_in};
 
 use crate::known::KnownRecords;
@@ -35,7 +36,7 @@ pub(crate) fn copy_records<R: Read + Drop, W: Write, L: Write + Drop>(
 ) -> Result<FateCounts, RowFault>
     ensures rule { rule_of partition.new ≡ rule_of partition.old }
     ensures sorts { (before : List Row) (start : Option (List ℕ)) → WritesRows before start (W.contents out.old) partition.old
-        → IfOk result (λ counts. CopiesAll (rule_of partition.old) (keys_in known.old) before start (W.contents out.new) known.new partition.new counts) }
+        → IfOk result (λ counts. CopiesFile R.remaining (asked_of source.entry known.old) rows.old (rule_of partition.old) (keys_in known.old) before start (W.contents out.new) known.new partition.new counts) }
 {
     let mut numbers = Vec::new(alloc);
     let mut counts = FateCounts::new();

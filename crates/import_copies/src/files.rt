@@ -2,8 +2,8 @@
 
 ghost use Rattle.std.specs.Prelude.{◌≡◌, ◌<◌, ℕ, List, Option, [], IfOk, OnOk};
 ghost use Rattle.entry_texts.specs.Partitions.{Row, rule_of};
-ghost use Rattle.import_copies.specs.Copies.{WritesRows, CopiesAll, WritesSorted};
-ghost use Rattle.import_copies.specs.Known.{keys_in};
+ghost use Rattle.import_copies.specs.Copies.{WritesRows, CopiesAll, CopiesWhole, WritesSorted};
+ghost use Rattle.import_copies.specs.Known.{keys_in, columns_in};
 
 use crate::copying::copy_records;
 use crate::known::KnownRecords;
@@ -22,7 +22,7 @@ use std::alloc::Global;
 use std::fs::File;
 use std::hash::RandomState;
 use std::io;
-use std::io::{ErrorKind, Write};
+use std::io::{ErrorKind, Read, Write};
 use std::rt::Files;
 
 /// What tells the records of a source from one another.
@@ -75,11 +75,11 @@ fn entries_begun(before: u64, rows: u64, most_rows: u32) -> u64
 }
 
 /// Copies the records of an opened file behind those of a partition.
-fn copy_rows<'f, R: Files + AllocGlobal, W: Write, L: Write + Drop>(
-    rt: &R,
+fn copy_rows<'f, R: Read + Drop, W: Write, L: Write + Drop>(
+    alloc: Global,
     rule: ImportRule<'_>,
     file: &'f str,
-    rows: &mut Records<R::File>,
+    rows: &mut Records<R>,
     first: &mut Option<FirstHeader<'f>>,
     partition: &mut PartitionText,
     known: &mut Option<KnownRecords>,
@@ -89,10 +89,10 @@ fn copy_rows<'f, R: Files + AllocGlobal, W: Write, L: Write + Drop>(
 ) -> Result<FateCounts, RowFault>
     ensures rule { rule_of partition.new ≡ rule_of partition.old }
     ensures sorts { (before : List Row) (start : Option (List ℕ)) → WritesRows before start (W.contents out.old) partition.old
-        → IfOk result (λ counts. CopiesAll (rule_of partition.old) (keys_in known.old) before start (W.contents out.new) known.new partition.new counts) }
+        → IfOk result (λ counts. CopiesWhole R.remaining (columns_in known.old) rows.old (rule_of partition.old) (keys_in known.old) before start (W.contents out.new) known.new partition.new counts) }
 {
-    let places = rows.begin(rt.alloc(), rule.columns, file, first)?;
-    let fields = fields_of(rt.alloc(), rule.columns)?;
+    let places = rows.begin(alloc, rule.columns, file, first)?;
+    let fields = fields_of(alloc, rule.columns)?;
     let source = Source {
         file,
         columns: rule.columns,
@@ -100,16 +100,7 @@ fn copy_rows<'f, R: Files + AllocGlobal, W: Write, L: Write + Drop>(
         places: &places,
         time: rule.time,
     };
-    copy_records(
-        rt.alloc(),
-        rows,
-        source,
-        names,
-        known,
-        partition,
-        ledger,
-        out,
-    )
+    copy_records(alloc, rows, source, names, known, partition, ledger, out)
 }
 
 /// How many records of a file went where, and how many lines it has.
@@ -143,7 +134,16 @@ fn copy_file<'f, R: Files + AllocGlobal, W: Write, L: Write + Drop>(
         return Err(ImportFault::Memory);
     };
     match copy_rows(
-        rt, rule, file, &mut rows, first, partition, known, names, ledger, out,
+        rt.alloc(),
+        rule,
+        file,
+        &mut rows,
+        first,
+        partition,
+        known,
+        names,
+        ledger,
+        out,
     ) {
         Ok(counts) => Ok(FileCounts {
             counts,

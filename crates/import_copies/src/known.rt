@@ -3,7 +3,7 @@
 ghost use Rattle.std.specs.Prelude.{◌≡◌, ◌++◌, [], is_some, unwrap_or, IfOk, OnOk};
 ghost use Rattle.csv.specs.Records.{field_at, fields_of};
 ghost use Rattle.import_fates.specs.Fates.{is_known, keys_seen};
-ghost use Rattle.import_copies.specs.Known.{field_text, place_said, key_said, keys_in, key_in};
+ghost use Rattle.import_copies.specs.Known.{field_text, place_said, key_said, keys_in, key_in, columns_in};
 
 use csv::ByteRecord;
 use imports::RowFault;
@@ -87,6 +87,7 @@ pub(crate) fn known_before(
     fields: &ByteRecord,
 ) -> Result<Option<usize>, RowFault>
     ensures before { IfOk result (λ place. is_some place ≡ is_known (keys_in known.old) (key_in known.old places.now (fields_of fields.now))) }
+    ensures columns { columns_in known.new ≡ columns_in known.old }
     ensures after { OnOk result (keys_in known.new ≡ keys_seen (keys_in known.old) (key_in known.old places.now (fields_of fields.now))) }
 {
     let Some(known) = known else {

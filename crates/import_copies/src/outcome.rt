@@ -1,7 +1,8 @@
 //! What comes of a record.
 
 ghost use Rattle.std.specs.Prelude.{◌≡◌};
-ghost use Rattle.import_copies.specs.Outcomes.{fate_of, is_final};
+ghost use Rattle.imports.specs.Faults.{is_final};
+ghost use Rattle.import_copies.specs.Outcomes.{fate_of};
 
 use import_fates::Fate;
 use imports::RowFault;

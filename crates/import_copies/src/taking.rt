@@ -1,9 +1,12 @@
 //! A record, from the file to where it goes.
 
-ghost use Rattle.std.specs.Prelude.{◌≡◌, ℕ, List, Option, IfOk};
+ghost use Rattle.std.specs.Prelude.{◌≡◌, ℕ, List, Option, map, IfOk};
 ghost use Rattle.entry_texts.specs.Partitions.{Row, rule_of};
 ghost use Rattle.import_copies.specs.Copies.{WritesRows, Takes, TakesNext};
-ghost use Rattle.import_copies.specs.Known.{keys_in};
+ghost use Rattle.imports.specs.Reading.{Rest, StandsAt};
+ghost use Rattle.import_copies.specs.Asking.{asked_of};
+ghost use Rattle.import_copies.specs.Files.{ReadsRow};
+ghost use Rattle.import_copies.specs.Known.{keys_in, columns_in};
 ghost use Rattle.csv.specs.Records.{fields_of};
 ghost use Rattle.import_copies.specs.Rows.{good_of};
 
@@ -43,7 +46,9 @@ fn next_row<'n, R: Read + Drop>(
     source: Source<'_>,
     names: &mut NameTable,
     numbers: &'n mut Vec<i64>,
-) -> Result<Option<GoodRow<'n>>, RowFault> {
+) -> Result<Option<GoodRow<'n>>, RowFault>
+    ensures { (rest : Rest) → StandsAt R.remaining rows.old rest → ReadsRow R.remaining (map (λ n. n.now) source.entry.fields.now) rest rows.new result }
+{
     if !rows.advance(source.fields)? {
         return Ok(None);
     }
@@ -64,6 +69,7 @@ fn place_row(
     partition: &mut PartitionText,
 ) -> Result<Outcome, RowFault>
     ensures rule { rule_of partition.new ≡ rule_of partition.old }
+    ensures columns { columns_in known.new ≡ columns_in known.old }
     ensures takes { (rows : List Row) (start : Option (List ℕ)) (now : Option (List ℕ)) → WritesRows rows start now partition.old
         → IfOk result (λ outcome. Takes (keys_in known.old) rows start now known.new partition.new outcome (good_of known.old places.now (fields_of fields.now) row.entry)) }
 {
@@ -87,8 +93,9 @@ pub(crate) fn take_record<R: Read + Drop>(
     partition: &mut PartitionText,
 ) -> Result<Option<Outcome>, RowFault>
     ensures rule { rule_of partition.new ≡ rule_of partition.old }
+    ensures columns { columns_in known.new ≡ columns_in known.old }
     ensures takes { (before : List Row) (start : Option (List ℕ)) (now : Option (List ℕ)) → WritesRows before start now partition.old
-        → IfOk result (λ outcome. TakesNext (keys_in known.old) before start now known.new partition.new outcome) }
+        → IfOk result (λ outcome. TakesNext R.remaining (asked_of source.entry known.old) rows.old rows.new (keys_in known.old) before start now known.new partition.new outcome) }
 {
     match next_row(rows, source, names, numbers) {
         Ok(Some(row)) => {

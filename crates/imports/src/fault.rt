@@ -1,5 +1,8 @@
 //! Why a row is refused.
 
+ghost use Rattle.std.specs.Prelude.{◌≡◌, true};
+ghost use Rattle.imports.specs.Faults.{is_final, fault_said};
+
 use csv::{Error, ErrorKind};
 use field_values::FieldFault;
 use import_entries::PlaceFault;
@@ -59,7 +62,9 @@ impl<T: Drop> From<AllocFailed<T>> for RowFault {
 }
 
 /// The fault of a record that is not read.
-pub(crate) fn read_fault(error: &Error) -> RowFault {
+pub(crate) fn read_fault(error: &Error) -> RowFault
+    ensures { is_final result ≡ true }
+{
     match error.kind() {
         ErrorKind::OutOfMemory => RowFault::Memory,
         ErrorKind::Io(error) if error.kind() == io::ErrorKind::OutOfMemory => RowFault::Memory,
@@ -76,7 +81,9 @@ pub(crate) fn write_fault(error: &Error) -> RowFault {
 }
 
 /// The fault of a line that gives no record.
-pub(crate) fn line_fault(fault: LineFault) -> RowFault {
+pub(crate) fn line_fault(fault: LineFault) -> RowFault
+    ensures { result ≡ fault_said fault }
+{
     match fault {
         LineFault::Read => RowFault::Read,
         LineFault::NoObject => RowFault::NoObject,

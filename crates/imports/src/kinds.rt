@@ -1,5 +1,8 @@
 //! The records of a file, whatever kind of file it is.
 
+ghost use Rattle.std.specs.Prelude.{◌≡◌, ℕ, List, map, Some, IfOk, OnOk};
+ghost use Rattle.imports.specs.Reading.{Rest, RowsStandAt, StandsAt, Advances, IsBegun, beginning, record_in, is_ndjson};
+
 use crate::fault::{RowFault, line_fault};
 use crate::first::{FirstHeader, check_header};
 use crate::placing::places_of;
@@ -20,7 +23,9 @@ pub enum Records<R> {
 }
 
 /// Whether the name of a file says that it is NDJSON.
-fn is_ndjson(path: &str) -> bool {
+fn is_ndjson(path: &str) -> bool
+    ensures { result ≡ is_ndjson path.now }
+{
     path.ends_with(".ndjson") || path.ends_with(".jsonl")
 }
 
@@ -42,13 +47,30 @@ fn first_places(alloc: Global, count: usize) -> Result<Vec<usize>, RowFault> {
     Ok(places)
 }
 
+/// Goes behind the header of a CSV text, and tells the place of each column's text in the records behind it.
+fn pass_header<'f, R: Read + Drop>(
+    rows: &mut CsvRows<R>,
+    alloc: Global,
+    columns: &[Column<'_>],
+    file: &'f str,
+    first: &mut Option<FirstHeader<'f>>,
+) -> Result<Vec<usize>, RowFault>
+    ensures { (rest : Rest) (more : Rest) → RowsStandAt R.remaining rows.old rest → IsBegun rest more → OnOk result (RowsStandAt R.remaining rows.new more) }
+{
+    let _is_there = rows.advance()?;
+    check_header(first, file, rows.record())?;
+    places_of(alloc, rows.record(), columns)
+}
+
 impl<R: Read + Drop> Records<R> {
     /// The records of what a reader of the file at a path gives: of NDJSON where the path ends so, and else of CSV.
     ///
     /// # Errors
     ///
     /// `Memory`.
-    pub fn new(alloc: Global, path: &str, input: R) -> Result<Records<R>, RowFault> {
+    pub fn new(alloc: Global, path: &str, input: R) -> Result<Records<R>, RowFault>
+        ensures { (text : List ℕ) → R.remaining input ≡ Some text → IfOk result (λ records. StandsAt R.remaining records (beginning path.now text)) }
+    {
         if !is_ndjson(path) {
             return Ok(Records::Rows(CsvRows::new(alloc, input)?));
         }
@@ -69,13 +91,11 @@ impl<R: Read + Drop> Records<R> {
         columns: &[Column<'_>],
         file: &'f str,
         first: &mut Option<FirstHeader<'f>>,
-    ) -> Result<Vec<usize>, RowFault> {
+    ) -> Result<Vec<usize>, RowFault>
+        ensures { (rest : Rest) (more : Rest) → StandsAt R.remaining self.old rest → IsBegun rest more → OnOk result (StandsAt R.remaining self.new more) }
+    {
         match self {
-            Records::Rows(rows) => {
-                let _is_empty = rows.advance()?;
-                check_header(first, file, rows.record())?;
-                places_of(alloc, rows.record(), columns)
-            }
+            Records::Rows(rows) => pass_header(rows, alloc, columns, file, first),
             Records::Objects(_) => first_places(alloc, columns.len()),
         }
     }
@@ -85,7 +105,9 @@ impl<R: Read + Drop> Records<R> {
     /// # Errors
     ///
     /// `Read`; `Width`; `NoObject` or `Member` where the line is no object with a text for each of the fields; `Memory`.
-    pub fn advance(&mut self, fields: &[&str]) -> Result<bool, RowFault> {
+    pub fn advance(&mut self, fields: &[&str]) -> Result<bool, RowFault>
+        ensures { (rest : Rest) → StandsAt R.remaining self.old rest → Advances R.remaining (map (λ n. n.now) fields.now) rest self.new result }
+    {
         match self {
             Records::Rows(rows) => rows.advance(),
             Records::Objects(lines) => match lines.advance(fields) {
@@ -96,7 +118,9 @@ impl<R: Read + Drop> Records<R> {
     }
 
     /// The record.
-    pub fn record(&self) -> &ByteRecord {
+    pub fn record(&self) -> &ByteRecord
+        ensures { result.now ≡ record_in self.now }
+    {
         match self {
             Records::Rows(rows) => rows.record(),
             Records::Objects(lines) => lines.record(),

@@ -1,5 +1,14 @@
 //! Reading CSV.
 
+ghost use Rattle.std.specs.Prelude.{◌≡◌, ℕ, List, Some, IfOk, IfErr};
+ghost use Rattle.csv.specs.Reading.{strip_bom};
+ghost use Rattle.csv.specs.Records.{fields_of};
+ghost use Rattle.csv.specs.declared.parser.State.{State};
+ghost use Rattle.csv.specs.declared.parser.State.TheVariants.{StartRecord};
+ghost use Rattle.imports.specs.Faults.{is_final};
+ghost use Rattle.imports.specs.Reading.{StandsIn, ReadsRow};
+ghost use Rattle.std.specs.Prelude.{true};
+
 use crate::fault::{RowFault, read_fault};
 use csv::{ByteRecord, Reader, ReaderBuilder};
 use std::alloc::Global;
@@ -26,7 +35,9 @@ impl<R: Read + Drop> CsvReader<R> {
     ///
     /// `Memory`.
     #[inline(never)]
-    pub(crate) fn new(alloc: Global, input: R) -> Result<CsvReader<R>, RowFault> {
+    pub(crate) fn new(alloc: Global, input: R) -> Result<CsvReader<R>, RowFault>
+        ensures { (text : List ℕ) → R.remaining input ≡ Some text → IfOk result (λ reader. StandsIn R.remaining reader StartRecord (strip_bom text)) }
+    {
         let mut builder = ReaderBuilder::new();
         let builder = builder.has_headers(false).flexible(true);
         match Box::new(alloc, builder.from_reader(alloc, input)) {
@@ -55,7 +66,11 @@ impl<R: Read + Drop> CsvReader<R> {
     /// # Errors
     ///
     /// `Read`; `Memory`.
-    pub(crate) fn read(&mut self, record: &mut ByteRecord) -> Result<bool, RowFault> {
+    pub(crate) fn read(&mut self, record: &mut ByteRecord) -> Result<bool, RowFault>
+        ensures fault { IfErr result (λ fault. is_final fault ≡ true) }
+        ensures reads { (state : State) (text : List ℕ) → StandsIn R.remaining self.old state text
+            → IfOk result (λ is_there. ReadsRow R.remaining state text self.new is_there (fields_of «record».new)) }
+    {
         match self.reader.read_byte_record(record) {
             Ok(is_there) => Ok(is_there),
             Err(error) => Err(read_fault(&error)),

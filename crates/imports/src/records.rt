@@ -1,5 +1,10 @@
 //! The records of a CSV text.
 
+ghost use Rattle.std.specs.Prelude.{◌≡◌, ℕ, List, None, Some, IfOk};
+ghost use Rattle.csv.specs.Reading.{strip_bom};
+ghost use Rattle.csv.specs.declared.parser.State.TheVariants.{StartRecord};
+ghost use Rattle.imports.specs.Reading.{Rest, Csv, RowsStandAt, AdvancesRow, ChecksWidth};
+
 use crate::fault::RowFault;
 use crate::reader::CsvReader;
 use crate::watched::Watched;
@@ -36,7 +41,9 @@ impl<R: Read + Drop> CsvRows<R> {
     /// # Errors
     ///
     /// `Memory`.
-    pub fn new(alloc: Global, input: R) -> Result<CsvRows<R>, RowFault> {
+    pub fn new(alloc: Global, input: R) -> Result<CsvRows<R>, RowFault>
+        ensures { (text : List ℕ) → R.remaining input ≡ Some text → IfOk result (λ rows. RowsStandAt R.remaining rows (Csv None StartRecord (strip_bom text))) }
+    {
         Ok(CsvRows {
             reader: CsvReader::new(alloc, Watched::new(alloc, input))?,
             record: ByteRecord::new(alloc),
@@ -49,7 +56,9 @@ impl<R: Read + Drop> CsvRows<R> {
     /// # Errors
     ///
     /// `Read`; `Width` where it has another number of fields than the first record; `Memory`.
-    pub(crate) fn advance(&mut self) -> Result<bool, RowFault> {
+    pub(crate) fn advance(&mut self) -> Result<bool, RowFault>
+        ensures { (names : List (List ℕ)) (rest : Rest) → RowsStandAt R.remaining self.old rest → AdvancesRow R.remaining names rest self.new result }
+    {
         self.reader.source().watch_from(self.reader.next_byte());
         if !self.reader.read(&mut self.record)? {
             return Ok(false);
@@ -57,7 +66,9 @@ impl<R: Read + Drop> CsvRows<R> {
         self.check_width()
     }
 
-    fn check_width(&mut self) -> Result<bool, RowFault> {
+    fn check_width(&mut self) -> Result<bool, RowFault>
+        ensures { ChecksWidth self.old self.new result }
+    {
         let width = self.record.len();
         match self.width {
             Some(wanted) if wanted != width => Err(RowFault::Width(width, wanted)),
@@ -70,7 +81,9 @@ impl<R: Read + Drop> CsvRows<R> {
     }
 
     /// The record.
-    pub(crate) fn record(&self) -> &ByteRecord {
+    pub(crate) fn record(&self) -> &ByteRecord
+        ensures { result.now ≡ self.now.«record» }
+    {
         &self.record
     }
 

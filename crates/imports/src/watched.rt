@@ -1,5 +1,7 @@
 //! Reading, with an eye on the lines without a character that stand before a text's records.
 
+ghost use Rattle.std.specs.Prelude.{◌≡◌};
+
 use std::alloc::Global;
 use std::cell::Cell;
 use std::io;
@@ -113,7 +115,9 @@ pub(crate) struct Watched<R> {
 }
 
 impl<R> Watched<R> {
-    pub(crate) fn new(alloc: Global, reader: R) -> Watched<R> {
+    pub(crate) fn new(alloc: Global, reader: R) -> Watched<R>
+        ensures { result.reader ≡ reader }
+    {
         Watched {
             reader,
             seen: Seen::new(alloc),

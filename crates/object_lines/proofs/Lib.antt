@@ -1,2 +1,5 @@
+pub mod Marks
+pub mod Nexts
+pub mod Splits
 pub mod Texts
 pub mod Values

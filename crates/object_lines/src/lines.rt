@@ -1,5 +1,9 @@
 //! The lines of a text.
 
+ghost use Rattle.std.specs.Prelude.{◌≡◌, ℕ, List, map, Some, IfOk, IfErr};
+ghost use Rattle.csv.specs.Records.{fields_of};
+ghost use Rattle.object_lines.specs.Lines.{is_space, is_blank, line_said, lines_said, line_in, lines_left, StepsLine, FillsLine, IsOfText, AdvancesLine};
+
 use crate::fault::LineFault;
 use crate::room::Room;
 use crate::text::fill_from_text;
@@ -20,7 +24,9 @@ pub struct ObjectLines<R> {
 }
 
 /// What comes of an error of reading.
-fn read_fault(error: &io::Error) -> LineFault {
+fn read_fault(error: &io::Error) -> LineFault
+    ensures { IsOfText result }
+{
     match error.kind() {
         ErrorKind::OutOfMemory => LineFault::Memory,
         _ => LineFault::Read,
@@ -28,16 +34,30 @@ fn read_fault(error: &io::Error) -> LineFault {
 }
 
 /// Whether a byte is white space of JSON.
-fn is_space(byte: u8) -> bool {
+fn is_space(byte: u8) -> bool
+    ensures { result ≡ is_space byte }
+{
     matches!(byte, b' ' | b'\t' | b'\r' | b'\n')
 }
 
+/// Whether a line is blank.
+fn is_blank(line: &[u8]) -> bool
+    ensures { result ≡ is_blank line.now }
+{
+    line.iter().all(|byte| is_space(*byte))
+}
+
 /// A line without the byte order mark that the first may begin with.
-fn without_mark(line: &[u8], number: u64) -> &[u8] {
+fn without_mark(line: &[u8], number: u64) -> &[u8]
+    ensures { result.now ≡ line_said number line.now }
+{
     if number > 1 {
         return line;
     }
-    line.strip_prefix(b"\xef\xbb\xbf").unwrap_or(line)
+    match line.strip_prefix(b"\xef\xbb\xbf") {
+        Some(rest) => rest,
+        None => line,
+    }
 }
 
 impl<R: Read + Drop> ObjectLines<R> {
@@ -46,7 +66,9 @@ impl<R: Read + Drop> ObjectLines<R> {
     /// # Errors
     ///
     /// `Memory`.
-    pub fn new(alloc: Global, input: R) -> Result<ObjectLines<R>, LineFault> {
+    pub fn new(alloc: Global, input: R) -> Result<ObjectLines<R>, LineFault>
+        ensures { (text : List ℕ) → R.remaining input ≡ Some text → IfOk result (λ lines. lines_left R.remaining lines ≡ Some (lines_said 0 text)) }
+    {
         match BufReader::new(alloc, input) {
             Ok(reader) => Ok(ObjectLines {
                 alloc,
@@ -61,7 +83,10 @@ impl<R: Read + Drop> ObjectLines<R> {
     }
 
     /// Goes on to the next line, and tells whether there is one.
-    fn next_line(&mut self) -> Result<bool, LineFault> {
+    fn next_line(&mut self) -> Result<bool, LineFault>
+        ensures fault { IfErr result (λ fault. IsOfText fault) }
+        ensures steps { (left : List (List ℕ)) → lines_left R.remaining self.old ≡ Some left → IfOk result (λ is_there. StepsLine R.remaining left self.new is_there) }
+    {
         self.line.clear();
         match self.reader.read_until(b'\n', &mut self.line) {
             Ok(0) => Ok(false),
@@ -74,9 +99,13 @@ impl<R: Read + Drop> ObjectLines<R> {
     }
 
     /// Makes the record of the line, and tells whether there is one: a blank line has none.
-    fn fill(&mut self, names: &[&str]) -> Result<bool, LineFault> {
+    fn fill(&mut self, names: &[&str]) -> Result<bool, LineFault>
+        ensures line { line_in self.new ≡ line_in self.old }
+        ensures left { lines_left R.remaining self.new ≡ lines_left R.remaining self.old }
+        ensures fills { FillsLine (map (λ n. n.now) names.now) (line_in self.old) (fields_of self.new.record) result }
+    {
         let text = without_mark(&self.line, self.number);
-        if text.iter().all(|byte| is_space(*byte)) {
+        if is_blank(text) {
             return Ok(false);
         }
         fill_from_text(
@@ -94,20 +123,26 @@ impl<R: Read + Drop> ObjectLines<R> {
     /// # Errors
     ///
     /// `Read`; those of [`fill_record`](crate::fill_record), `NoObject` also where the line is no JSON text.
-    pub fn advance(&mut self, names: &[&str]) -> Result<bool, LineFault> {
+    pub fn advance(&mut self, names: &[&str]) -> Result<bool, LineFault>
+        ensures { (left : List (List ℕ)) → lines_left R.remaining self.old ≡ Some left → AdvancesLine R.remaining (map (λ n. n.now) names.now) left self.new result }
+    {
         for _ in 0..u64::MAX {
             if !self.next_line()? {
                 return Ok(false);
             }
-            if self.fill(names)? {
-                return Ok(true);
+            match self.fill(names) {
+                Ok(true) => return Ok(true),
+                Ok(false) => {}
+                Err(fault) => return Err(fault),
             }
         }
         Err(LineFault::Read)
     }
 
     /// The record.
-    pub fn record(&self) -> &ByteRecord {
+    pub fn record(&self) -> &ByteRecord
+        ensures { result.now ≡ self.now.record }
+    {
         &self.record
     }
 
