@@ -73,8 +73,11 @@ import_late_shape = record import_names_shape { rules = import_names_shape.rules
 abbrev pub import_aside_shape : Shape
 import_aside_shape = record import_late_shape { rules = import_late_shape.rules ++ option_rule (codes "bad") ∷ option_rule (codes "once") ∷ option_rule (codes "twice") ∷ [] }
 
+abbrev pub import_zone_shape : Shape
+import_zone_shape = record import_aside_shape { rules = import_aside_shape.rules ++ option_rule (codes "zone") ∷ option_rule (codes "fold") ∷ [] }
+
 abbrev pub import_shape : Shape
-import_shape = record import_aside_shape { rules = import_aside_shape.rules ++ option_rule (codes "report") ∷ option_rule (codes "zones") ∷ [] }
+import_shape = record import_zone_shape { rules = import_zone_shape.rules ++ option_rule (codes "report") ∷ option_rule (codes "zones") ∷ [] }
 
 -- the plan, the rows and the columns of an export, and its options
 abbrev pub export_files_shape : Shape

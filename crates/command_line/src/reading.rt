@@ -32,6 +32,8 @@ fn import_words<'m>(words: &'m ArgMatches<'_>) -> ImportWords<'m>
         bad: words.get_str("bad"),
         report: words.get_str("report"),
         zones: words.get_str("zones"),
+        zone: words.get_str("zone"),
+        fold: words.get_str("fold"),
         is_aligned: words.get_flag("align"),
         rows: words.get_str("rows"),
     }

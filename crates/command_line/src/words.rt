@@ -3,7 +3,7 @@
 ghost use Rattle.std.specs.Prelude.{◌≡◌, IfOk};
 ghost use Rattle.clap.specs.Words.{app_of, new_rule};
 ghost use Rattle.clap.specs.Simple.{new_shape};
-ghost use Rattle.command_line.specs.Words.{AddsRule, IsCommand, required_rule, option_rule, flag_rule, several_rule, run_shape, simulate_shape, leg_files_shape, leg_stops_shape, leg_shape, cuts_shape, layout_shape, check_files_shape, check_shape, import_files_shape, import_names_shape, import_late_shape, import_aside_shape, import_shape, show_shape, group_shape, explain_shape, version_shape, top, jobs, texts, tables, views, program};
+ghost use Rattle.command_line.specs.Words.{AddsRule, IsCommand, required_rule, option_rule, flag_rule, several_rule, run_shape, simulate_shape, leg_files_shape, leg_stops_shape, leg_shape, cuts_shape, layout_shape, check_files_shape, check_shape, import_files_shape, import_names_shape, import_late_shape, import_aside_shape, import_zone_shape, import_shape, show_shape, group_shape, explain_shape, version_shape, top, jobs, texts, tables, views, program};
 
 use crate::table_words::{diff_words, export_words};
 use clap::{Arg, ArgAction, Command};
@@ -473,10 +473,31 @@ fn import_aside<'a>(alloc: Global) -> Result<Command<'a>, AllocError>
     )
 }
 
+/// The same with those of times that have no zone.
+fn import_zone<'a>(alloc: Global) -> Result<Command<'a>, AllocError>
+    ensures { IfOk result (λ c. IsCommand import_zone_shape c) }
+{
+    let command = import_aside(alloc)?;
+    let command = option(
+        alloc,
+        command,
+        "zone",
+        "ZONE",
+        "Zone of the times that have none, as Europe/Berlin",
+    )?;
+    option(
+        alloc,
+        command,
+        "fold",
+        "WORD",
+        "Which instant of a time that its clocks show twice or never: first or second; without it the record is bad",
+    )
+}
+
 fn import_words<'a>(alloc: Global) -> Result<Command<'a>, AllocError>
     ensures { IfOk result (λ c. IsCommand import_shape c) }
 {
-    let command = import_aside(alloc)?;
+    let command = import_zone(alloc)?;
     let command = option(
         alloc,
         command,

@@ -55,14 +55,14 @@ Take a number in the range. For `check` name the input, too. A receipt goes besi
         r#"C3 Options (status 2)
 
 Words of `import` do not go together: `--twice` has a file for records that are there twice, and none is without
-`--once`.
+`--once`; `--fold` says which instant a time of `--zone` is that clocks show twice or never: `first` or `second`.
 
 ```console
 $ streamjob import plan.json new.json at,key calls=calls.csv --twice twice.csv
 C3 Options --twice stands without --once
 ```
 
-Name by `--once` the fields in which such records are the same.
+Name by `--once` the fields in which such records are the same, and by `--zone` the zone of times that have none.
 "#,
     ),
     (

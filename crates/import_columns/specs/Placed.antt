@@ -5,6 +5,9 @@ use Rattle.jiff_tz.specs.declared.timezone.TimeZone.{TimeZone}
 use Rattle.jiff_tz.specs.declared.tzif.Tzif.{Tzif as Table}
 use Rattle.calendar_numbers.specs.Named.{IsZoneOf, HasNoZone}
 use Rattle.calendar_numbers.specs.declared.part.CalendarPart.{CalendarPart}
+use Rattle.local_times.specs.declared.clocks.Clocks.{Clocks}
+use Rattle.local_times.specs.declared.unit.TimeUnit.{TimeUnit}
+use Rattle.local_times.specs.declared.unit.TimeUnit.TheVariants as unit
 use Rattle.import_columns.specs.declared.kind.ValueKind.{ValueKind}
 use Rattle.import_columns.specs.declared.kind.ValueKind.TheVariants as value
 use Rattle.import_columns.specs.declared.kind.ColumnKind.{ColumnKind}
@@ -36,21 +39,25 @@ pub record IsComparisonOf (tables : List Table) (part : CalendarPart) (zone : Ti
   pub says : said ≡ CalendarCompared part name cmp bound
   pub named : IsZoneOf tables name zone
 
--- what is done with a text is what was said
-abbrev pub IsValue : List Table → ValueKind → Kind → Type 0
-IsValue tables (value.Scaled places) said = said ≡ Scaled places
-IsValue tables value.Milliseconds said = said ≡ Milliseconds
-IsValue tables (value.Fine unit) said = said ≡ Fine unit
-IsValue tables (value.Calendar part zone) said = IsCalendarOf tables part zone said
-IsValue tables (value.Compared cmp bound) said = said ≡ Compared cmp bound
-IsValue tables (value.CalendarCompared part zone cmp bound) said = IsComparisonOf tables part zone cmp bound said
-IsValue tables (value.Same text) said = said ≡ Same text.now
-IsValue tables (value.Other text) said = said ≡ Other text.now
+-- what was said of a time that is counted in a unit
+abbrev pub unit_kind : TimeUnit → Kind
+unit_kind unit.Milliseconds = Milliseconds
+unit_kind (unit.Fine fine) = Fine fine
 
-abbrev pub IsKind : List Table → ColumnKind → Kind → Type 0
-IsKind tables (column.Value kind) said = IsValue tables kind said
-IsKind tables column.Name said = said ≡ Name
+-- what is done with a text is what was said, by these clocks where a time has no zone
+abbrev pub IsValue : List Table → Clocks → ValueKind → Kind → Type 0
+IsValue tables clocks (value.Scaled places) said = said ≡ Scaled places
+IsValue tables clocks (value.Time unit own) said = (own ≡ clocks) × (said ≡ unit_kind unit)
+IsValue tables clocks (value.Calendar part zone own) said = (own ≡ clocks) × IsCalendarOf tables part zone said
+IsValue tables clocks (value.Compared cmp bound) said = said ≡ Compared cmp bound
+IsValue tables clocks (value.CalendarCompared part zone own cmp bound) said = (own ≡ clocks) × IsComparisonOf tables part zone cmp bound said
+IsValue tables clocks (value.Same text) said = said ≡ Same text.now
+IsValue tables clocks (value.Other text) said = said ≡ Other text.now
+
+abbrev pub IsKind : List Table → Clocks → ColumnKind → Kind → Type 0
+IsKind tables clocks (column.Value kind) said = IsValue tables clocks kind said
+IsKind tables clocks column.Name said = said ≡ Name
 
 -- the column is what was said
-abbrev pub IsColumn : List Table → Column → Said → Type 0
-IsColumn tables read said = (read.field.now ≡ said.field) × IsKind tables read.kind said.kind
+abbrev pub IsColumn : List Table → Clocks → Column → Said → Type 0
+IsColumn tables clocks read said = (read.field.now ≡ said.field) × IsKind tables clocks read.kind said.kind

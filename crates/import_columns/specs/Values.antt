@@ -6,13 +6,14 @@ use Rattle.jiff_core.specs.Timestamp.{IsTimestampNanos}
 use Rattle.jiff_tz.specs.declared.timezone.TimeZone.{TimeZone}
 use Rattle.field_values.specs.declared.fault.FieldFault.{FieldFault}
 use Rattle.field_values.specs.declared.fault.FieldFault.TheVariants.{NoSuchTime}
-use Rattle.field_values.specs.Instants.{milliseconds_said}
 use Rattle.decimal_texts.specs.Exact.{exact_said}
-use Rattle.instant_texts.specs.Instants.{unit_digits, instant_said}
+use Rattle.local_times.specs.Local.{IsTimeOf}
+use Rattle.local_times.specs.declared.clocks.Clocks.{Clocks}
+use Rattle.local_times.specs.declared.unit.TimeUnit.TheVariants.{Milliseconds}
 use Rattle.calendar_numbers.specs.Calendars.{nanos_of, IsCalendarNumber}
 use Rattle.calendar_numbers.specs.declared.part.CalendarPart.{CalendarPart}
 use Rattle.import_columns.specs.declared.kind.ValueKind.{ValueKind}
-use Rattle.import_columns.specs.declared.kind.ValueKind.TheVariants.{Scaled, Milliseconds, Fine, Calendar, Compared, CalendarCompared, Same, Other}
+use Rattle.import_columns.specs.declared.kind.ValueKind.TheVariants.{Scaled, Time, Calendar, Compared, CalendarCompared, Same, Other}
 
 -- 1 for what holds, and else 0
 abbrev pub bit : Bool → ℤ
@@ -32,19 +33,23 @@ abbrev pub IsPartAt : CalendarPart → TimeZone → Result ℤ FieldFault → Re
 IsPartAt part zone (Ok milliseconds) answer = IsPart part zone milliseconds answer
 IsPartAt part zone (Err fault) answer = answer ≡ Err fault
 
+pub record IsPartOf (part : CalendarPart) (zone : TimeZone) (clocks : Clocks) (text : List ℕ) (answer : Result ℤ FieldFault) : Type 0 where
+  pub instant : Result ℤ FieldFault
+  pub said : IsTimeOf clocks Milliseconds text instant
+  pub counted : IsPartAt part zone instant answer
+
 -- its comparison with a bound
-pub record IsComparedPart (part : CalendarPart) (zone : TimeZone) (cmp : Cmp) (bound : ℤ) (text : List ℕ) (answer : Result ℤ FieldFault) : Type 0 where
+pub record IsComparedPart (part : CalendarPart) (zone : TimeZone) (clocks : Clocks) (cmp : Cmp) (bound : ℤ) (text : List ℕ) (answer : Result ℤ FieldFault) : Type 0 where
   pub number : Result ℤ FieldFault
-  pub counted : IsPartAt part zone (milliseconds_said text) number
+  pub counted : IsPartOf part zone clocks text number
   pub compared : answer ≡ compared_value cmp bound number
 
 -- the number that the text is, or the first fault
 abbrev pub IsValueOf : ValueKind → List ℕ → Result ℤ FieldFault → Type 0
 IsValueOf (Scaled places) text answer = answer ≡ exact_said places text
-IsValueOf Milliseconds text answer = answer ≡ milliseconds_said text
-IsValueOf (Fine unit) text answer = answer ≡ instant_said (unit_digits unit) text
-IsValueOf (Calendar part zone) text answer = IsPartAt part zone (milliseconds_said text) answer
+IsValueOf (Time unit clocks) text answer = IsTimeOf clocks unit text answer
+IsValueOf (Calendar part zone clocks) text answer = IsPartOf part zone clocks text answer
 IsValueOf (Compared cmp bound) text answer = answer ≡ compared_value cmp bound (exact_said 0 text)
-IsValueOf (CalendarCompared part zone cmp bound) text answer = IsComparedPart part zone cmp bound text answer
+IsValueOf (CalendarCompared part zone clocks cmp bound) text answer = IsComparedPart part zone clocks cmp bound text answer
 IsValueOf (Same wanted) text answer = answer ≡ Ok (bit (bytes_eq text wanted.now))
 IsValueOf (Other wanted) text answer = answer ≡ Ok (bit (not (bytes_eq text wanted.now)))

@@ -1,6 +1,6 @@
 //! From a word to a column, by the zones that are known.
 
-ghost use Rattle.std.specs.Prelude.{◌≡◌, MatchOption, option_map};
+ghost use Rattle.std.specs.Prelude.{◌≡◌, Some, MatchOption, option_map};
 ghost use Rattle.import_columns.specs.Columns.{view_kind, view_column};
 ghost use Rattle.import_columns.specs.Placed.{zone_named, IsKind, IsColumn, NamesNoZone};
 
@@ -8,6 +8,7 @@ use crate::column::Column;
 use crate::kind::{ColumnKind, ValueKind};
 use crate::word::{ColumnWord, WordKind};
 use calendar_numbers::Zones;
+use local_times::{Clocks, TimeUnit};
 
 /// The zone that a column needs.
 fn zone_named<'w>(kind: &WordKind<'w>) -> Option<&'w str>
@@ -27,16 +28,24 @@ pub fn zone_of<'w>(said: &ColumnWord<'w>) -> Option<&'w str>
     zone_named(&said.kind)
 }
 
-/// How the text of a field becomes a number, with the zone in place of its name, or `None` where no zone has the name.
-fn placed<'w>(kind: &WordKind<'w>, zones: &'w Zones) -> Option<ColumnKind<'w>>
-    ensures { MatchOption result (NamesNoZone zones.now.tables.items (view_kind kind.now)) (λ placed. IsKind zones.now.tables.items placed (view_kind kind.now)) }
+/// A time that is counted in a unit, and read by clocks where it has no zone.
+fn timed<'w>(unit: TimeUnit, clocks: Clocks<'w>) -> Option<ColumnKind<'w>>
+    ensures { result ≡ Some (ColumnKind.Value (ValueKind.Time unit clocks.entry)) }
+{
+    Some(ColumnKind::Value(ValueKind::Time(unit, clocks)))
+}
+
+/// How the text of a field becomes a number, with the zone in place of its name, or `None` where no zone has the name. A time that
+/// has no zone is read by the clocks.
+fn placed<'w>(kind: &WordKind<'w>, zones: &'w Zones, clocks: Clocks<'w>) -> Option<ColumnKind<'w>>
+    ensures { MatchOption result (NamesNoZone zones.now.tables.items (view_kind kind.now)) (λ placed. IsKind zones.now.tables.items clocks.entry placed (view_kind kind.now)) }
 {
     match kind {
         WordKind::Scaled(places) => Some(ColumnKind::Value(ValueKind::Scaled(*places))),
-        WordKind::Milliseconds => Some(ColumnKind::Value(ValueKind::Milliseconds)),
-        WordKind::Fine(unit) => Some(ColumnKind::Value(ValueKind::Fine(*unit))),
+        WordKind::Milliseconds => timed(TimeUnit::Milliseconds, clocks),
+        WordKind::Fine(unit) => timed(TimeUnit::Fine(*unit), clocks),
         WordKind::Calendar(part, zone) => match zones.find(zone) {
-            Some(zone) => Some(ColumnKind::Value(ValueKind::Calendar(*part, zone))),
+            Some(zone) => Some(ColumnKind::Value(ValueKind::Calendar(*part, zone, clocks))),
             None => None,
         },
         WordKind::Compared(cmp, bound) => Some(ColumnKind::Value(ValueKind::Compared(
@@ -44,7 +53,7 @@ fn placed<'w>(kind: &WordKind<'w>, zones: &'w Zones) -> Option<ColumnKind<'w>>
         ))),
         WordKind::CalendarCompared(part, zone, cmp, bound) => match zones.find(zone) {
             Some(zone) => Some(ColumnKind::Value(ValueKind::CalendarCompared(
-                *part, zone, *cmp, *bound,
+                *part, zone, clocks, *cmp, *bound,
             ))),
             None => None,
         },
@@ -54,11 +63,16 @@ fn placed<'w>(kind: &WordKind<'w>, zones: &'w Zones) -> Option<ColumnKind<'w>>
     }
 }
 
-/// The column that a word says, with the zone in place of its name, or `None` where no zone has the name.
-pub fn place_column<'w>(said: &ColumnWord<'w>, zones: &'w Zones) -> Option<Column<'w>>
-    ensures { MatchOption result (NamesNoZone zones.now.tables.items (view_kind said.now.kind)) (λ column. IsColumn zones.now.tables.items column (view_column said.now)) }
+/// The column that a word says, with the zone in place of its name, or `None` where no zone has the name. Its times that have no
+/// zone are read by the clocks.
+pub fn place_column<'w>(
+    said: &ColumnWord<'w>,
+    zones: &'w Zones,
+    clocks: Clocks<'w>,
+) -> Option<Column<'w>>
+    ensures { MatchOption result (NamesNoZone zones.now.tables.items (view_kind said.now.kind)) (λ column. IsColumn zones.now.tables.items clocks.entry column (view_column said.now)) }
 {
-    match placed(&said.kind, zones) {
+    match placed(&said.kind, zones, clocks) {
         Some(kind) => Some(Column {
             field: said.field,
             kind,

@@ -2,16 +2,15 @@
 
 ghost use Rattle.std.specs.Prelude.{◌≡◌};
 ghost use Rattle.decimal_texts.specs.Exact.{exact_said};
-ghost use Rattle.field_values.specs.Instants.{milliseconds_said};
-ghost use Rattle.import_columns.specs.Values.{compared_value, IsPart, IsPartAt, IsComparedPart, IsValueOf};
+ghost use Rattle.import_columns.specs.Values.{compared_value, IsPart, IsPartOf, IsComparedPart, IsValueOf};
 
 use crate::kind::ValueKind;
 use calendar_numbers::{CalendarPart, calendar_number};
 use decimal_texts::exact;
-use field_values::{FieldFault, Places, milliseconds};
-use instant_texts::instant;
+use field_values::{FieldFault, Places};
 use jiff_tz::TimeZone;
 use lane_kernels::Cmp;
+use local_times::{Clocks, TimeUnit, time_of};
 
 /// 1 where a number compares so with the bound, else 0.
 fn compared(cmp: Cmp, bound: i64, number: Result<i64, FieldFault>) -> Result<i64, FieldFault>
@@ -32,10 +31,15 @@ fn part_of(part: CalendarPart, zone: &TimeZone<'_>, milliseconds: i64) -> Result
 }
 
 /// The number of the calendar at the instant that a text says.
-fn part_at(part: CalendarPart, zone: &TimeZone<'_>, text: &[u8]) -> Result<i64, FieldFault>
-    ensures { IsPartAt part zone.now (milliseconds_said text.now) result }
+fn part_at(
+    part: CalendarPart,
+    zone: &TimeZone<'_>,
+    clocks: &Clocks<'_>,
+    text: &[u8],
+) -> Result<i64, FieldFault>
+    ensures { IsPartOf part zone.now clocks.now text.now result }
 {
-    match milliseconds(text) {
+    match time_of(text, TimeUnit::Milliseconds, clocks) {
         Ok(instant) => part_of(part, zone, instant),
         Err(fault) => Err(fault),
     }
@@ -45,13 +49,14 @@ fn part_at(part: CalendarPart, zone: &TimeZone<'_>, text: &[u8]) -> Result<i64, 
 fn compared_part(
     part: CalendarPart,
     zone: &TimeZone<'_>,
+    clocks: &Clocks<'_>,
     cmp: Cmp,
     bound: i64,
     text: &[u8],
 ) -> Result<i64, FieldFault>
-    ensures { IsComparedPart part zone.now cmp bound text.now result }
+    ensures { IsComparedPart part zone.now clocks.now cmp bound text.now result }
 {
-    let number = part_at(part, zone, text);
+    let number = part_at(part, zone, clocks, text);
     compared(cmp, bound, number)
 }
 
@@ -59,19 +64,18 @@ fn compared_part(
 ///
 /// # Errors
 ///
-/// Those of [`exact`], [`milliseconds`] and [`instant`]; `NoSuchTime` also for an instant that has no civil date in each zone, which
-/// are those in the last day of the year 9999.
+/// Those of [`exact`] and [`time_of`]; `NoSuchTime` also for an instant that has no civil date in each zone, which are those in
+/// the last day of the year 9999.
 pub fn value_of(kind: &ValueKind<'_>, text: &[u8]) -> Result<i64, FieldFault>
     ensures { IsValueOf kind.now text.now result }
 {
     match kind {
         ValueKind::Scaled(places) => exact(text, *places),
-        ValueKind::Milliseconds => milliseconds(text),
-        ValueKind::Fine(unit) => instant(text, *unit),
-        ValueKind::Calendar(part, zone) => part_at(*part, zone, text),
+        ValueKind::Time(unit, clocks) => time_of(text, *unit, clocks),
+        ValueKind::Calendar(part, zone, clocks) => part_at(*part, zone, clocks, text),
         ValueKind::Compared(cmp, bound) => compared(*cmp, *bound, exact(text, Places::WHOLE)),
-        ValueKind::CalendarCompared(part, zone, cmp, bound) => {
-            compared_part(*part, zone, *cmp, *bound, text)
+        ValueKind::CalendarCompared(part, zone, clocks, cmp, bound) => {
+            compared_part(*part, zone, clocks, *cmp, *bound, text)
         }
         ValueKind::Same(wanted) => Ok(i64::from(text == wanted.as_bytes())),
         ValueKind::Other(wanted) => Ok(i64::from(text != wanted.as_bytes())),

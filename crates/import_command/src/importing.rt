@@ -7,7 +7,7 @@ use crate::apart::check_apart;
 use crate::keeping::{BesideFiles, named, written};
 use crate::names::{NameFile, no_names, random_state};
 use crate::words::{ImportWords, entry_rule, once_columns};
-use crate::zoning::{placed_columns, zones_of};
+use crate::zoning::{clocks_of, placed_columns, zones_of};
 use column_files::columns_text;
 use import_columns::{Column, ColumnWord};
 use import_copies::{ImportRule, Ledger, LedgerWants, OnceRule, import_files};
@@ -187,8 +187,9 @@ pub fn import<R: Files + Print + RandomSource + AllocGlobal>(
 {
     let written = columns_text(rt, words.columns)?;
     let said = read_columns(rt.alloc(), written.as_deref().unwrap_or(words.columns))?;
-    let zones = zones_of(rt, words.zones, &said)?;
-    let columns = placed_columns(rt.alloc(), &said, &zones)?;
+    let zones = zones_of(rt, words.zones, words.zone, &said)?;
+    let clocks = clocks_of(rt.alloc(), words.zone, words.fold, &zones)?;
+    let columns = placed_columns(rt.alloc(), &said, &zones, clocks)?;
     let rule = rule_of(rt, plan, words, &said, &columns)?;
     import_once(rt, rule, words)?;
     Ok(())

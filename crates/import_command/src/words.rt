@@ -30,6 +30,10 @@ pub struct ImportWords<'a> {
     pub late: Option<&'a str>,
     /// The folder of the zones: that of the system, where no word says so.
     pub zones: Option<&'a str>,
+    /// The zone of times that have none.
+    pub zone: Option<&'a str>,
+    /// Which of two instants such a time is that the zone's clocks show twice or never: `first` or `second`.
+    pub fold: Option<&'a str>,
     /// The fields that tell records from one another, with commas between: of those that are the same the first counts.
     pub once: Option<&'a str>,
     /// The file for the others of those.

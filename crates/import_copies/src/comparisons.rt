@@ -24,7 +24,7 @@ fn is_comparison(kind: &ColumnKind<'_>) -> bool {
         ColumnKind::Value(kind) => matches!(
             kind,
             ValueKind::Compared(_, _)
-                | ValueKind::CalendarCompared(_, _, _, _)
+                | ValueKind::CalendarCompared(_, _, _, _, _)
                 | ValueKind::Same(_)
                 | ValueKind::Other(_)
         ),

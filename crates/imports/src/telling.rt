@@ -14,6 +14,7 @@ use import_columns::{Column, ColumnKind, ValueKind};
 use import_entries::PlaceFault;
 use import_words::{ImportCode, ImportFault, refused};
 use instant_texts::FineUnit;
+use local_times::{Clocks, TimeUnit};
 use object_lines::MemberFault;
 use std::alloc::{AllocError, Global};
 use std::io::Read;
@@ -56,7 +57,7 @@ fn unit_of(columns: &[Column<'_>], column: usize) -> &'static str {
     match columns.get(column) {
         Some(
             Column {
-                kind: ColumnKind::Value(ValueKind::Fine(unit)),
+                kind: ColumnKind::Value(ValueKind::Time(TimeUnit::Fine(unit), _)),
                 ..
             },
         ) => match unit {
@@ -67,17 +68,52 @@ fn unit_of(columns: &[Column<'_>], column: usize) -> &'static str {
     }
 }
 
+/// The clocks by which the times of a column are read that have no zone.
+fn clocks_of<'c>(columns: &[Column<'c>], column: usize) -> Clocks<'c> {
+    let Some(column) = columns.get(column) else {
+        return Clocks::Zoned;
+    };
+    match column.kind {
+        ColumnKind::Value(ValueKind::Time(_, clocks)) => clocks,
+        ColumnKind::Value(ValueKind::Calendar(_, _, clocks)) => clocks,
+        ColumnKind::Value(ValueKind::CalendarCompared(_, _, clocks, _, _)) => clocks,
+        _ => Clocks::Zoned,
+    }
+}
+
+/// What is wrong with a text that is a time, but none that there is.
+fn no_such_time(clocks: Clocks<'_>) -> &'static str {
+    match clocks {
+        Clocks::Local(_, None) => {
+            "is a time that no calendar shows, or clocks of the zone show never or twice, and no --fold says which is meant"
+        }
+        _ => "is a time that no calendar or clock shows",
+    }
+}
+
+/// What is wrong with a text that is no time.
+fn no_time(clocks: Clocks<'_>) -> &'static str {
+    match clocks {
+        Clocks::Local(_, _) => "is no time, as 2026-03-01T12:00:00.5",
+        Clocks::Zoned => "is no time with a zone, as 2026-03-01T12:00:00.5Z",
+    }
+}
+
 /// What is wrong with the text of a field.
-fn wrong(alloc: Global, fault: FieldFault, places: u32, unit: &str) -> Result<String, AllocError> {
+fn wrong(
+    alloc: Global,
+    fault: FieldFault,
+    places: u32,
+    unit: &str,
+    clocks: Clocks<'_>,
+) -> Result<String, AllocError> {
     match fault {
         FieldFault::NoNumber => format!(in alloc; "is no number"),
         FieldFault::MorePlaces => format!(in alloc; "has more than {places} decimal places"),
         FieldFault::TooLarge => format!(in alloc; "does not fit 64 bits"),
-        FieldFault::NoTime => {
-            format!(in alloc; "is no time with a zone, as 2026-03-01T12:00:00.5Z")
-        }
+        FieldFault::NoTime => String::from_str(alloc, no_time(clocks)),
         FieldFault::TooFine => format!(in alloc; "is finer than {unit}"),
-        FieldFault::NoSuchTime => format!(in alloc; "is a time that no calendar or clock shows"),
+        FieldFault::NoSuchTime => String::from_str(alloc, no_such_time(clocks)),
         FieldFault::EmptyName => format!(in alloc; "is an empty name"),
     }
 }
@@ -104,7 +140,7 @@ fn refused_value(
 {
     let name = name_of(columns, column);
     let (places, unit) = (places_kept(columns, column), unit_of(columns, column));
-    match wrong(alloc, fault, places, unit) {
+    match wrong(alloc, fault, places, unit, clocks_of(columns, column)) {
         Ok(wrong) => refused(
             ImportCode::Value,
             value_sentence(alloc, name, text, wrong.as_str()),

@@ -31,8 +31,12 @@ fn fraction_units(digits: &[u8], count: usize) -> u64
     raised_digits(kept, count - kept.len()).unwrap_or(0)
 }
 
-/// A number of 64 bits.
-fn held(number: i128) -> Result<i64, FieldFault>
+/// A number, if 64 bits hold it.
+///
+/// # Errors
+///
+/// `TooLarge`.
+pub fn held(number: i128) -> Result<i64, FieldFault>
     ensures { result ≡ held number }
 {
     if number < i128::from(i64::MIN) || number > i128::from(i64::MAX) {

@@ -1,4 +1,4 @@
-//! Times that are finer than milliseconds, and times without a zone. Nothing is rounded and nothing is allocated.
+//! Times that are finer than milliseconds. Nothing is rounded and nothing is allocated.
 #![tactic(auto)]
 
 mod fine;
@@ -8,5 +8,5 @@ mod seconds;
 mod tests;
 mod unit;
 
-pub use fine::instant;
+pub use fine::{held, instant};
 pub use unit::FineUnit;
