@@ -63,7 +63,7 @@ limit_save size until [] m x q l = absurd (omega (arith, l))
 limit_save size until (cut ∷ cuts) zero x q l = refl
 limit_save size until (cut ∷ cuts) (suc m) x q l = limit_save size until cuts m x q (omega (arith, l))
 
-saves_at : (p : PlanData) (i : InputData) (n : ℕ) (saves : List (List (List ℕ))) (until : Until) (stages : List Stage) (m : ℕ) → m < length saves → Deals (input_of p i) (leg_of n saves until (entries_of i).size) (layout_to p i n saves until stages)
+pub saves_at : (p : PlanData) (i : InputData) (n : ℕ) (saves : List (List (List ℕ))) (until : Until) (stages : List Stage) (m : ℕ) → m < length saves → Deals (input_of p i) (leg_of n saves until (entries_of i).size) (layout_to p i n saves until stages)
     → SavesAt p i (layout_to p i n saves until stages) m (slice_index_or saves m [])
 saves_at p i n saves until stages m few deals t k b a kl =
     let d = deals.there t k b a kl in

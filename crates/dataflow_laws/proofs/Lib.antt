@@ -49,3 +49,5 @@ mod Keeping
 mod Completing
 mod Halting
 mod Comings
+mod Counted
+mod KeptPanes

@@ -251,7 +251,7 @@ module _ (p : PlanData) (l : AbstractLayout) (ok : IsLayout l) (start : ℕ → 
       same_end ((l.task s).first + m) gv.0 (ahead.0 ++ tk.0) (given j (part s).steps (part s).state) (taken i (part t).steps) e (ps.gave_last j (ok.ring_out s t r).0)
       (subst (λ n. Closed (n + m) (taken i (part t).steps)) same (pt.took_last ns i (ok.ring_in s t r).0))
 
-  cut_flow : Flow p l start
+  pub cut_flow : Flow p l start
   cut_flow = record {
     steps = λ t. (part t).steps;
     end = λ t. (part t).state;
@@ -259,9 +259,21 @@ module _ (p : PlanData) (l : AbstractLayout) (ok : IsLayout l) (start : ℕ → 
     ahead = λ s t r. ([], rings s t r);
   }
 
-  cut_drained : IsDrained cut_flow
+  pub cut_drained : IsDrained cut_flow
   unfolding cut_flow
   cut_drained = record { rings = rings; opened = λ t b a. (((part t).is (let w = ok.some_windows in omega arith)).source a).0 }
+
+  -- at the barrier of a savepoint on the way, each source has come to its cut, and each task keeps what it has
+  pub cut_reads : m < (l.task l.sink).saves → AreSameCuts l (cut_of cut_flow.end) (save_cut l m)
+  unfolding cut_flow
+  cut_reads few t q b a k =
+      let some = ok.some_windows in
+      let le : t ≤ l.sink = omega arith in
+      (((part t).is le).source a).1 (subst (λ n. m < n) (sym (leg.alike t le).1) few) q k
+
+  pub cut_kept : m < (l.task l.sink).saves → (t : ℕ) → t ≤ l.sink → kept_at m (h.end t) ≡ kept_of (cut_flow.end t)
+  unfolding cut_flow
+  cut_kept few t le = ((part t).is le).kept (subst (λ n. m < n) (sym (leg.alike t le).1) few) (kept_of (h.end t))
 
 pub savepoint_is_exact : SavepointIsExact
 unfolding cut_flow
@@ -269,13 +281,11 @@ savepoint_is_exact p l start w v m ok orderly leg st h few passed mg =
     let f : Flow p l start = cut_flow p l ok start leg st.opens h m passed in
     let dry : IsDrained f = cut_drained p l ok start leg st.opens h m passed in
     let some = ok.some_windows in
-    let is : (t : ℕ) → t ≤ l.sink → IsCut (l.task t) m (h.steps t) (h.end t) (f.steps t) (f.end t) = λ t le. (part p l ok start leg st.opens h m passed t).is le in
-    let fewer : (t : ℕ) → t ≤ l.sink → m < (l.task t).saves = λ t le. subst (λ n. m < n) (sym (leg.alike t le).1) few in
-    let same : AreSameCuts l (cut_of f.end) (save_cut l m) = λ t q b a k. let le : t ≤ l.sink = omega arith in ((is t le).source a).1 (fewer t le) q k in
+    let same : AreSameCuts l (cut_of f.end) (save_cut l m) = cut_reads p l ok start leg st.opens h m passed few in
     let x : IsExact p l w v (save_cut l m) f.end = exact_there p l w v (cut_of f.end) (save_cut l m) f.end same
     (drained_is_exact p l start w v ok orderly leg st f dry (same_merged l (save_cut l m) (cut_of f.end) v (λ t q b a k. sym (same t q b a k)) mg)) in
-    let kept : (t : ℕ) → t ≤ l.sink → kept_at m (h.end t) ≡ kept_of (f.end t) = λ t le. (is t le).kept (fewer t le) (kept_of (h.end t)) in
-    let all : (y : List Row) × ((h.end l.sink).rows ≡ (f.end l.sink).rows ++ y) = (is l.sink (omega arith)).rows in
+    let kept : (t : ℕ) → t ≤ l.sink → kept_at m (h.end t) ≡ kept_of (f.end t) = cut_kept p l ok start leg st.opens h m passed few in
+    let all : (y : List Row) × ((h.end l.sink).rows ≡ (f.end l.sink).rows ++ y) = ((part p l ok start leg st.opens h m passed l.sink).is (omega arith)).rows in
     let had : take (kept_at m (h.end l.sink)).rows (h.end l.sink).rows ≡ (f.end l.sink).rows =
     (λ j. take (kept l.sink (omega arith) j).rows (all.1 j)) ∙ take-append_seam (f.end l.sink).rows all.0 in
     record {

@@ -10,8 +10,10 @@ use Rattle.dataflow_model.specs.declared.role.Role.TheVariants.{Source}
 use Rattle.dataflow_model.specs.declared.message.Message.{Message}
 use Rattle.dataflow_model.specs.declared.message.Message.TheVariants.{Rows, Fired, Watermark, Barrier, End}
 use Rattle.dataflow_model.specs.Leg.{Leg, Until}
+use Rattle.dataflow_model.specs.AbstractTask.{AbstractTask}
 use Rattle.dataflow_model.specs.AbstractLayout.{AbstractLayout, IsLayout, Deals, partition_read}
 use Rattle.dataflow_model.specs.State.{State, kept_at}
+use Rattle.dataflow_model.specs.Steps.{barriers}
 use Rattle.dataflow_model.specs.OneLeg.{IsOneLeg}
 use Rattle.dataflow_model.specs.Cuts.{save_cut}
 use Rattle.dataflow_model.specs.Start.{AreOpenings, IsLegStart}
@@ -79,3 +81,14 @@ abbrev pub CompiledSavepointDelivers : Type 0
 CompiledSavepointDelivers = (p : PlanData) (c : ScaleData) (i : InputData) (n : ℕ) (b : List (List ℕ)) (saves : List (List (List ℕ))) (until : Until) (stages : List Stage) (start : ℕ → State) (m : ℕ)
     → IsPlan p → IsScale p c → IsCompiled p c stages → IsInput i → IsOrderly i.time i.sources → BelongsTo p i → IsCut i.sources b → m < length saves → IsCut i.sources (slice_index_or saves m [])
     → let l = layout_to p i n saves until stages in IsLegStart p l start → HaveCut p i l start b → (h : History p l start) → HaveAligned l m h.end → HaveKept p i l b (slice_index_or saves m []) m h.end
+
+-- a task has passed no more barriers than the leg has; it has kept itself at each of those on the way that it has passed, and at no other; and while it goes on it has passed none but those
+pub record IsCounted (k : AbstractTask) (s : State) : Type 0 where
+  pub few : length s.kept ≤ k.saves
+  pub passed : s.next ≤ barriers k
+  pub all : (m : ℕ) → m < s.next → m < k.saves → m < length s.kept
+  pub going : s.over ≡ false → length s.kept ≡ s.next
+
+-- so it is at every moment of a leg
+abbrev pub KeptIsCounted : Type 0
+KeptIsCounted = (p : PlanData) (l : AbstractLayout) (start : ℕ → State) → IsLayout l → IsLegStart p l start → (h : History p l start) (t : ℕ) → t ≤ l.sink → IsCounted (l.task t) (h.end t)

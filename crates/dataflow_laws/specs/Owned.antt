@@ -1,5 +1,5 @@
 -- What stands in the windows of a leg, whatever it began with.
-use Rattle.std.specs.Prelude.{◌≡◌, ℕ, ◌<◌, ◌≤◌, List, length, Some}
+use Rattle.std.specs.Prelude.{◌≡◌, ℕ, ◌<◌, ◌≤◌, List, [], length, slice_index_or, Some}
 use Rattle.std.specs.FinMap.{get}
 use Rattle.plan_model.specs.declared.spec.Pane.{Pane}
 use Rattle.plan_model.specs.Aggregates.{Aggregated}
@@ -18,6 +18,7 @@ use Rattle.layout_rules.specs.Scale.{ScaleData, IsScale}
 use Rattle.input_flow.specs.InputEntries.{input_of, counts_at}
 use Rattle.dataflow_laws.specs.Legs.{AreAt, HaveMarks}
 use Rattle.dataflow_laws.specs.Compiled.{cut_to, layout_to}
+use Rattle.dataflow_laws.specs.Kept.{kept_state, HaveAligned}
 
 -- a window task has panes of the keys that it owns alone, of at most n records each
 abbrev pub HaveOwnPanes : AbstractLayout → (ℕ → State) → ℕ → Type 0
@@ -36,3 +37,10 @@ CompiledLegKeepsPanesAt = (p : PlanData) (c : ScaleData) (i : InputData) (n : �
     → IsPlan p → IsScale p c → IsCompiled p c stages → IsInput i → IsOrderly i.time i.sources → BelongsTo p i → IsCut i.sources b
     → let l = layout_to p i n saves until stages in IsLegStart p l start → AreAt (input_of p i) l start (counts_at p b) → HaveOwnPanes l start (length (records_before i.sources b)) → (h : History p l start) → IsComplete h
     → (cut : List (List ℕ)) → IsCut i.sources cut → AreAt (input_of p i) l h.end (counts_at p cut) → HaveMarks (input_of p i) l h.end (counts_at p cut) × HaveOwnPanes l h.end (length (records_before i.sources cut))
+
+-- once every task has aligned on the barrier of savepoint m, at whatever moment, what window tasks have kept there are their own panes, of no more records than stand before the savepoint's cut
+abbrev pub CompiledSavepointKeepsPanes : Type 0
+CompiledSavepointKeepsPanes = (p : PlanData) (c : ScaleData) (i : InputData) (n : ℕ) (b : List (List ℕ)) (saves : List (List (List ℕ))) (until : Until) (stages : List Stage) (start : ℕ → State) (m : ℕ)
+    → IsPlan p → IsScale p c → IsCompiled p c stages → IsInput i → IsOrderly i.time i.sources → BelongsTo p i → IsCut i.sources b → m < length saves → IsCut i.sources (slice_index_or saves m [])
+    → let l = layout_to p i n saves until stages in IsLegStart p l start → AreAt (input_of p i) l start (counts_at p b) → HaveOwnPanes l start (length (records_before i.sources b)) → (h : History p l start) → HaveAligned l m h.end
+    → HaveOwnPanes l (λ t. kept_state m (h.end t)) (length (records_before i.sources (slice_index_or saves m [])))

@@ -16,8 +16,8 @@ ghost use Rattle.dataflow_laws.specs.Savepoints.{SavepointIsExact};
 ghost use Rattle.dataflow_laws.specs.Inputs.{InputIsAdmitted, LegDelivers, SoFarDelivers, LegsDeliverDue, LegsDeliverAll};
 ghost use Rattle.dataflow_laws.specs.Compiled.{CompiledLegDelivers, CompiledLegDeliversAt, CompiledLegDeliversAll, CompiledLegSoFar};
 ghost use Rattle.dataflow_laws.specs.Moments.{CompiledLegIsAtACut, CompiledEdgesKeepWatermarks, CompiledWindowsHaveTheWatermark, CompiledWindowsFireOnce};
-ghost use Rattle.dataflow_laws.specs.Kept.{SavepointDelivers, CompiledSavepointDelivers, AlignedIsComplete};
-ghost use Rattle.dataflow_laws.specs.Owned.{CompiledLegKeepsPanes, CompiledLegKeepsPanesAt};
+ghost use Rattle.dataflow_laws.specs.Kept.{SavepointDelivers, CompiledSavepointDelivers, AlignedIsComplete, KeptIsCounted};
+ghost use Rattle.dataflow_laws.specs.Owned.{CompiledLegKeepsPanes, CompiledLegKeepsPanesAt, CompiledSavepointKeepsPanes};
 ghost use Rattle.dataflow_laws.specs.Stopped.{SinkTellsStops, StoppedIsComplete, CompiledLegComes};
 
 /// A task makes a step only where the step's conditions hold.
@@ -252,6 +252,17 @@ pub fn compiled_leg_keeps_panes()
 /// However it is to end, so it is at the cut that its tasks have come to when all are done.
 pub fn compiled_leg_keeps_panes_at()
     ensures { CompiledLegKeepsPanesAt }
+{}
+
+/// So it is of what the window's tasks have kept at a savepoint on the way, once every task has aligned on its barrier, at
+/// the savepoint's cut.
+pub fn compiled_savepoint_keeps_panes()
+    ensures { CompiledSavepointKeepsPanes }
+{}
+
+/// At every moment of a leg, each task has kept itself once at each barrier on the way that it has passed, and at no other.
+pub fn kept_is_counted()
+    ensures { KeptIsCounted }
 {}
 
 /// Once all tasks of a leg are done, its sink tells whether it has stopped: where it has passed no barrier of a stop, every
