@@ -3,7 +3,6 @@ pub mod Dealing
 pub mod Limits
 pub mod Sending
 pub mod Keeping
-pub mod KeptView
 pub mod TaskData
 pub mod Answers
 pub mod Passing
@@ -12,4 +11,5 @@ pub mod Firing
 pub mod Running
 pub mod Reading
 pub mod Puts
+pub mod Seen
 pub mod Beginning

@@ -1,5 +1,5 @@
 -- A task as contracts see it.
-use Rattle.std.specs.Prelude.{◌≡◌, ◌==◌, ◌&&◌, ℕ, ◌+◌, ◌*◌, ◌^◌, ◌≤◌, ◌<◌, ℤ, List, [], length, Option, Some, None, option_map, slice_index, Bool, true, false}
+use Rattle.std.specs.Prelude.{◌≡◌, ◌==◌, ◌&&◌, ℕ, ◌+◌, ◌*◌, ◌^◌, ◌≤◌, ◌<◌, ℤ, length, map, Option, Some, None, option_map, slice_index, Bool, true, false}
 use Rattle.std.specs.List.{All}
 use Rattle.std.specs.FinMap.{get, empty}
 use Rattle.std.specs.VecDeque.{deque_capacity}
@@ -11,8 +11,6 @@ use Rattle.plan_model.specs.Windows.{passes}
 use Rattle.plan_model.specs.Aggregates.{Aggregated}
 use Rattle.plan_model.specs.declared.limits.TheConstants.{MOST_RECORDS}
 use Rattle.window_state.specs.State.{StateData}
-use Rattle.window_state.specs.Parts.{IsPartOf}
-use Rattle.window_state.specs.declared.parts.Part.{Part}
 use Rattle.window_state.specs.Windows.{CanAggregate}
 use Rattle.input_state.specs.Inputs.{all_shut, any_held}
 use Rattle.dataflow_model.specs.declared.role.Role.{Role}
@@ -27,6 +25,7 @@ use Rattle.task_steps.specs.declared.task.Task.TheInside.{Inside}
 use Rattle.task_steps.specs.Limits.{barriers_in, limit_in}
 use Rattle.task_steps.specs.Dealing.{owner}
 use Rattle.task_steps.specs.Sending.{IsSplit}
+use Rattle.task_steps.specs.Keeping.{kept_value, IsKept}
 
 -- what it was told when it was made, its window operator if it has one, its state, and whether a step found no memory
 pub record TaskData : Type 0 where
@@ -54,7 +53,7 @@ task_view t = record {
     windows = windows_in t.window;
     rows = t.rows.items;
     next = t.next;
-    kept = t.kept.items;
+    kept = map kept_value t.kept.items;
   };
   has_failed = t.has_failed;
 }
@@ -62,11 +61,6 @@ task_view t = record {
 -- no window has more than n records
 abbrev pub HasCounts : ℕ → Windows → Type 0
 HasCounts n windows = (q : Pane) (a : Aggregated) → get windows q ≡ Some a → a.count ≤ n
-
--- parts of the windows of a task that has this operator; without one it has none
-abbrev pub ArePartsOf : Option WindowSpec → List Part → Type 0
-ArePartsOf None parts = parts ≡ []
-ArePartsOf (Some w) parts = All (IsPartOf w) parts
 
 -- whether the next batch has an output to go to
 abbrev pub IsTurn : Role → ℕ → ℕ → Type 0
@@ -101,6 +95,7 @@ pub record IsTask (t : Inside) : Type 0 where
   pub failed : t.has_failed ≡ true → t.over ≡ false
   -- where a barrier holds an input of a task that goes on, it is the leg's next
   pub held : t.over ≡ false → is_source t.setup.role ≡ false → any_held t.inputs.shut ≡ true → t.next < barriers_in t.setup
+  pub kept : All (IsKept t.setup (option_map (λ w. w.window) t.window)) t.kept.items
 
 -- the edge of a layout's task that a split stands for
 abbrev pub IsRouting : Option Split → Routing → Type 0

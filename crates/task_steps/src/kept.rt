@@ -1,41 +1,27 @@
 //! What a task keeps of itself for a savepoint while it goes on.
 
-ghost use Rattle.std.specs.Prelude.{◌≡◌, IfOk, length};
-ghost use Rattle.dataflow_model.specs.State.{Kept as KeptValue};
-ghost use Rattle.task_steps.specs.Keeping.{windows_of};
-ghost use Rattle.task_steps.specs.TaskData.{windows_in as in_windows};
+ghost use Rattle.std.specs.Prelude.{◌≡◌, IfOk, option_map};
+ghost use Rattle.std.specs.FinMap.{entries};
+ghost use Rattle.window_state.specs.Parts.{entries_of};
+ghost use Rattle.task_steps.specs.Keeping.{kept_value, ArePartsOf};
+ghost use Rattle.task_steps.specs.TaskData.{windows_in};
 
 use std::alloc::{AllocError, Global};
-use std::marker::Model;
 use window_state::{Part, WindowState};
 
 /// How far a source had read its partitions, the watermarks, what stood in the windows, and how many rows the sink had.
 #[derive(Drop)]
-pub struct Kept {
-    offsets: Vec<u64>,
-    marks: Vec<i64>,
-    parts: Vec<Part>,
-    rows: u64,
+pub(crate) struct Kept {
+    pub(crate) offsets: Vec<u64>,
+    pub(crate) marks: Vec<i64>,
+    pub(crate) parts: Vec<Part>,
+    pub(crate) rows: u64,
 }
 
-impl Model for Kept {
-    ghost use Rattle.dataflow_model.specs.State.{Kept};
-
-    ghost Value = { Kept };
-
-    ghost use Rattle.std.specs.Coded.{codes};
-    ghost use Rattle.window_state.specs.Codes.{windows_code};
-
-    ghost coded = { Prim.hlevel (codes, windows_code) };
-
-    ghost use Rattle.task_steps.specs.KeptView.{kept_view};
-
-    ghost view = { kept_view };
-}
-
-/// What stands in the windows of a task, if it has any.
-fn parts_of(alloc: Global, window: &Option<WindowState>) -> Result<Vec<Part>, AllocError>
-    ensures { IfOk result (λ parts. windows_of parts.items ≡ in_windows window.now) }
+/// What stands in the windows of a task, if it has any, in the order of start and key.
+pub(crate) fn parts_of(alloc: Global, window: &Option<WindowState>) -> Result<Vec<Part>, AllocError>
+    ensures says { IfOk result (λ parts. entries_of parts.items ≡ entries (windows_in window.now)) }
+    ensures sound { IfOk result (λ parts. ArePartsOf (option_map (λ w. w.window) window.now) parts.items) }
 {
     let Some(window) = window else {
         return Ok(Vec::new(alloc));
@@ -47,21 +33,21 @@ fn parts_of(alloc: Global, window: &Option<WindowState>) -> Result<Vec<Part>, Al
 }
 
 impl Kept {
-    ghost use Rattle.task_steps.specs.TaskData.{windows_in};
-
     /// What there is to keep.
     ///
     /// # Errors
     ///
     /// Only where memory runs out.
-    pub fn new(
+    pub(crate) fn new(
         alloc: Global,
         offsets: &[u64],
         marks: &[i64],
         window: &Option<WindowState>,
         rows: usize,
     ) -> Result<Kept, AllocError>
-        ensures { IfOk result (λ kept. kept ≡ record { offsets = offsets.now; marks = marks.now; windows = windows_in window.now; rows = rows }) }
+        ensures is { IfOk result (λ kept. kept_value kept ≡ record { offsets = offsets.now; marks = marks.now; windows = windows_in window.now; rows = rows }) }
+        ensures says { IfOk result (λ kept. entries_of kept.parts.items ≡ entries (windows_in window.now)) }
+        ensures sound { IfOk result (λ kept. ArePartsOf (option_map (λ w. w.window) window.now) kept.parts.items) }
     {
         Ok(Kept {
             offsets: Vec::from_slice(alloc, offsets)?,

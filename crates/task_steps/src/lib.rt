@@ -9,10 +9,12 @@ mod firing;
 mod kept;
 mod pending;
 mod reading;
+mod seen;
 mod sending;
 mod setup;
 mod task;
 
 pub use fault::StepFault;
+pub use seen::Moment;
 pub use setup::{Setup, Split};
 pub use task::Task;

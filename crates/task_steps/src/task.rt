@@ -19,7 +19,7 @@ use std::alloc::{AllocError, Global};
 use std::collections::VecDeque;
 use std::marker::Model;
 use stream_model::Input;
-use window_state::{Part, WindowState};
+use window_state::WindowState;
 
 /// One task of a leg: a source, a chain of filters, a window or the sink. It borrows nothing.
 #[derive(Drop)]
@@ -29,16 +29,16 @@ pub struct Task {
     pending: VecDeque<(u32, Message)>,
     opened: bool,
     over: bool,
-    offsets: Vec<u64>,
+    pub(crate) offsets: Vec<u64>,
     /// Of a source: the place of the partition that it read last.
     reads: u32,
-    inputs: Inputs,
+    pub(crate) inputs: Inputs,
     cursor: u32,
     taken: u64,
-    window: Option<WindowState>,
-    rows: Vec<Row>,
+    pub(crate) window: Option<WindowState>,
+    pub(crate) rows: Vec<Row>,
     next: u64,
-    kept: Vec<Kept>,
+    pub(crate) kept: Vec<Kept>,
     has_failed: bool,
 }
 
@@ -76,11 +76,7 @@ impl Task {
     ghost use Rattle.task_steps.specs.Reading.{HasPartitions, IsReadable, IsMine, HasMine};
     ghost use Rattle.task_steps.specs.Running.{IsOpenable, IsRunning, HasCome, IsSavable, IsStoppable, IsClosable};
     ghost use Rattle.task_steps.specs.Taking.{IsReady, AreAdmitted};
-    ghost use Rattle.std.specs.FinMap.{entries};
-    ghost use Rattle.plan_model.specs.declared.spec.WindowSpec.{WindowSpec};
-    ghost use Rattle.dataflow_model.specs.declared.role.Role.TheVariants as role;
-    ghost use Rattle.window_state.specs.Parts.{entries_of};
-    ghost use Rattle.task_steps.specs.TaskData.{Stands, ArePartsOf, is_last_in};
+    ghost use Rattle.task_steps.specs.TaskData.{Stands, is_last_in};
 
     /// A task that has done nothing: of a source with the offsets and watermarks of its partitions, of others with
     /// the least watermark of each input, and of the window's with what stands in its windows.
@@ -149,41 +145,6 @@ impl Task {
         ensures { result.items ≡ self.state.rows }
     {
         self.rows
-    }
-
-    /// How many entries of each of its partitions a source has read.
-    pub fn offsets(&self) -> &[u64]
-        ensures says { result.now ≡ self.now.state.offsets }
-        ensures each { self.now.setup.role ≡ role.Source → length self.now.state.offsets ≡ self.now.setup.inputs }
-    {
-        self.offsets.as_slice()
-    }
-
-    /// The watermark of each input, or of each of a source's partitions.
-    pub fn marks(&self) -> &[i64]
-        ensures says { result.now ≡ self.now.state.inputs.marks }
-        ensures each { length self.now.state.inputs.marks ≡ self.now.setup.inputs }
-    {
-        self.inputs.marks()
-    }
-
-    /// What stands in the task's windows, in the order of start and key: nothing, but in a window's task.
-    ///
-    /// # Errors
-    ///
-    /// Where memory runs out, and in a task that has failed for want of it.
-    pub fn parts(&self, alloc: Global) -> Result<Vec<Part>, AllocError>
-        ensures says { IfOk result (λ parts. entries_of parts.items ≡ entries self.now.state.windows) }
-        ensures sound { IfOk result (λ parts. ArePartsOf self.now.window parts.items) }
-        ensures operator { self.now.setup.role ≡ role.Window → (w : WindowSpec) × (self.now.window ≡ Some w) }
-    {
-        let Some(window) = &self.window else {
-            return Ok(Vec::new(alloc));
-        };
-        match window.parts(alloc) {
-            Ok(parts) => Ok(parts),
-            Err(_) => Err(AllocError),
-        }
     }
 
     /// How many of the leg's barriers the task has passed.

@@ -37,7 +37,7 @@ pub invariant_of-self-in-Err : goal.invariant_of-self-in-Err
 invariant_of-self-in-Err c =
     let s = c.self.inside in
     failed_so s (record s { cursor = c.records_through.new.cursor; pending = c.records_through.new.pending; has_failed = true }) c.self.invariant (going s c.args.self.now c.args.i c.self.invariant c.self.view_is c.requires.ready) refl c.records_through.ensures.capacity c.in-Err.ensures.kept_turn
-    (windowing_failed s.setup s.taken s.has_failed s.window c.self.invariant.windowing)
+    (windowing_failed s.setup s.taken s.has_failed s.window c.self.invariant.windowing) refl
 
 pub returns-in-Err : goal.returns-in-Err
 returns-in-Err c =

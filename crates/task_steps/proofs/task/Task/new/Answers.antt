@@ -4,6 +4,7 @@ use Rattle.std.proofs.lemmas.List.{length-replicate}
 use Rattle.input_state.specs.Inputs.{InputsData, any_held}
 use Rattle.input_state.specs.declared.inputs.Shut.{Shut}
 use Rattle.input_state.specs.declared.inputs.Shut.TheVariants.{Free}
+use Rattle.task_steps.specs.declared.kept.Kept.{Kept}
 use Rattle.task_steps.proofs.Beginnings.{none_held}
 use Rattle.task_steps.proofs.task.Task.new.Goals as goal
 
@@ -30,4 +31,5 @@ invariant_of-result c =
       ended = λ over. absurd (false≢true over);
       failed = λ fails. absurd (false≢true fails);
       held = λ _ _ any. absurd (false≢true (sym (ap any_held free ∙ none_held n) ∙ any));
+      kept = λ k d l. absurd (let none = ap (λ (ks : List Kept). length ks) c.new-2.ensures.items in omega (arith, l, none));
     }

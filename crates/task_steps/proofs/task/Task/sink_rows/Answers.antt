@@ -9,7 +9,7 @@ use Rattle.task_steps.proofs.task.Task.sink_rows.Goals as goal
 pub invariant_of-self-in-Err : goal.invariant_of-self-in-Err
 invariant_of-self-in-Err c =
     let s = c.self.inside in
-    failed_so s (record s { rows = c.collect.new.rows; has_failed = true }) c.self.invariant (going s c.args.self.now c.args.i c.self.invariant c.self.view_is c.requires.ready) refl refl refl (windowing_failed s.setup s.taken s.has_failed s.window c.self.invariant.windowing)
+    failed_so s (record s { rows = c.collect.new.rows; has_failed = true }) c.self.invariant (going s c.args.self.now c.args.i c.self.invariant c.self.view_is c.requires.ready) refl refl refl (windowing_failed s.setup s.taken s.has_failed s.window c.self.invariant.windowing) refl
 
 pub returns-in-Ok : goal.returns-in-Ok
 returns-in-Ok c =

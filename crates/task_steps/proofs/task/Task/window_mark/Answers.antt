@@ -13,6 +13,7 @@ use Rattle.dataflow_model.specs.Steps.{with_mark}
 use Rattle.task_steps.specs.TaskData.{TaskData, task_view, windows_in, IsWindowing}
 use Rattle.task_steps.specs.Firing.{FiresHere}
 use Rattle.task_steps.proofs.Marks.{windowing_fired, window_stays, mark_step, takes_mark_here}
+use Rattle.task_steps.proofs.Keeping.{kept_still, operator_still}
 use Rattle.task_steps.proofs.Over.{going, windowing_spoiled}
 use Rattle.task_steps.proofs.Shutting.{failed_so}
 use Rattle.task_steps.proofs.task.Task.window_mark.Goals as goal
@@ -40,6 +41,7 @@ invariant_of-self-in-Ok c =
       windowing = windowing_fired s.setup s.taken s.has_failed c.rise-low.result c.in-Some.window c.fire_at.new.window s.setup.outputs c.fire_at.new.pending.items c.in-Ok.ensures.fires was;
       marks = let e = ap (λ (v : InputsData). length v.marks) c.watermark.ensures.moved in omega (arith, length-set {A = ℤ}, inv.marks);
       shut = ap (λ (v : InputsData). length v.shut) c.watermark.ensures.moved ∙ inv.shut;
+      kept = kept_still s c.in-Some.window c.fire_at.new.window c.in-Some.is (window_stays c.rise-low.result c.in-Some.window c.fire_at.new.window s.setup.outputs c.fire_at.new.pending.items c.in-Ok.ensures.fires) inv.kept;
     }
 
 pub returns-in-Ok : goal.returns-in-Ok
@@ -77,6 +79,7 @@ invariant_of-self-in-Err c =
     let was : IsWindowing s.setup s.taken s.has_failed (Some c.in-Some.window) = rw c.in-Some.is at c.self.invariant.windowing in
     failed_so s (record s { window = Some c.fire_at.new.window; pending = c.fire_at.new.pending; has_failed = true }) c.self.invariant (going s c.args.self.now c.args.i c.self.invariant c.self.view_is c.requires.ready) refl c.fire_at.ensures.capacity refl
     (windowing_spoiled s.setup s.taken s.has_failed c.in-Some.window c.fire_at.new.window was (ap (λ (v : StateData). v.window) c.in-Err.ensures.same))
+    (operator_still s c.in-Some.window c.fire_at.new.window c.in-Some.is (ap (λ (v : StateData). v.window) c.in-Err.ensures.same))
 
 pub returns-in-Err : goal.returns-in-Err
 returns-in-Err c =

@@ -6,6 +6,7 @@ use Rattle.dataflow_model.specs.State.{State}
 use Rattle.task_steps.specs.TaskData.{TaskData, task_view, windows_in, IsWindowing}
 use Rattle.task_steps.proofs.Counts.{windowing_after, room_for}
 use Rattle.task_steps.proofs.Standing.{window_step, takes_rows_here}
+use Rattle.task_steps.proofs.Keeping.{kept_still, operator_still}
 use Rattle.task_steps.proofs.Over.{going, windowing_spoiled}
 use Rattle.task_steps.proofs.Shutting.{failed_so}
 use Rattle.task_steps.proofs.task.Task.window_rows.Goals as goal
@@ -45,6 +46,7 @@ invariant_of-self-in-Ok c =
       shut = inv.shut;
       windowing = windowing_after s.setup s.taken c.len-count.result s.has_failed c.in-Some.window c.add.new.self c.args.batch.rows was c.add.ensures.window_stays (omega arith) c.in-Ok.ensures.added;
       taken = omega arith;
+      kept = kept_still s c.in-Some.window c.add.new.self c.in-Some.is c.add.ensures.window_stays inv.kept;
     }
 
 pub returns-in-Ok : goal.returns-in-Ok
@@ -73,6 +75,7 @@ invariant_of-self-in-Err c =
     let was : IsWindowing s.setup s.taken s.has_failed (Some c.in-Some.window) = rw c.in-Some.is at c.self.invariant.windowing in
     failed_so s (record s { window = Some c.add.new.self; has_failed = true }) c.self.invariant (going s c.args.self.now c.args.i c.self.invariant c.self.view_is c.requires.ready) refl refl refl
     (windowing_spoiled s.setup s.taken s.has_failed c.in-Some.window c.add.new.self was c.add.ensures.window_stays)
+    (operator_still s c.in-Some.window c.add.new.self c.in-Some.is c.add.ensures.window_stays)
 
 pub returns : goal.returns
 returns c =
