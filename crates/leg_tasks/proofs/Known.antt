@@ -17,7 +17,8 @@ use Rattle.window_state.specs.Parts.{entries_of, IsPartOf}
 use Rattle.redistribute.specs.declared.task_start.PartitionStart.{PartitionStart}
 use Rattle.redistribute.specs.declared.task_start.TaskStart.TheVariants.{Window}
 use Rattle.redistribute.specs.Parts.{start_of_role, with_windows}
-use Rattle.task_steps.specs.TaskData.{ArePartsOf, IsWindowOf}
+use Rattle.task_steps.specs.Keeping.{ArePartsOf}
+use Rattle.task_steps.specs.TaskData.{IsWindowOf}
 use Rattle.leg_tasks.specs.Leaving.{kinds_in, part_at, parts_left, part_left, starts_left}
 
 with_kinds : (w : WindowSpec) (parts : List Part) → All (IsPartOf w) parts → parts ≡ map (part_at (kinds_in (Some w))) (entries_of parts)

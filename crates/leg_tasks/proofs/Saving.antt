@@ -36,7 +36,8 @@ use Rattle.redistribute.specs.declared.task_start.TaskStart.TheVariants.{Chain}
 use Rattle.gather.specs.Saved.{is_in_group}
 use Rattle.gather.specs.Parts.{ArePanes, IsPartOf, AreParts}
 use Rattle.task_steps.specs.TaskData.{TaskData}
-use Rattle.leg_tasks.specs.Leaving.{start_left, starts_left, part_at, parts_left, part_left, all_left, HaveStates, CanSave}
+use Rattle.task_steps.specs.declared.seen.Moment.{Moment}
+use Rattle.leg_tasks.specs.Leaving.{start_left, starts_left, part_at, parts_left, part_left, all_left, state_at, HaveStates, CanSave}
 use Rattle.gather.proofs.Facts.{t_both, less}
 
 -- ---- a map's entries, in their order
@@ -131,14 +132,14 @@ no_state = opening 0 [] [] empty
 abbrev pub states_in : List TaskData → ℕ → State
 states_in tasks t = option_map_or (λ (d : TaskData). d.state) (slice_get tasks t) no_state
 
-pub have_states : (p : PlanData) (stages : List Stage) (tasks : List TaskData) → CanSave p stages tasks → HaveStates stages tasks (states_in tasks)
-have_states p stages tasks can t d l = sym (ap (λ o. option_map_or (λ (x : TaskData). x.state) o no_state) (slice_get-get_or tasks t d (let c = can.count in omega (arith, c, l))))
+pub have_states : (p : PlanData) (stages : List Stage) (at : Moment) (tasks : List TaskData) → CanSave p stages at tasks → HaveStates stages tasks (states_in tasks)
+have_states p stages at tasks can t d l = sym (ap (λ o. option_map_or (λ (x : TaskData). x.state) o no_state) (slice_get-get_or tasks t d (let c = can.count in omega (arith, c, l))))
 
-pub parts_saved : (p : PlanData) (stages : List Stage) (tasks : List TaskData) → CanSave p stages tasks → AreParts p stages (all_left p stages (states_in tasks))
-parts_saved p stages tasks can =
-    are_parts p stages (states_in tasks) (λ t l h q a e.
+pub parts_saved : (p : PlanData) (stages : List Stage) (at : Moment) (tasks : List TaskData) → CanSave p stages at tasks → AreParts p stages (all_left p stages (λ t. state_at at (states_in tasks t)))
+parts_saved p stages at tasks can =
+    are_parts p stages (λ t. state_at at (states_in tasks t)) (λ t l h q a e.
     let d = task_at tasks t (let c = can.count in omega (arith, c, l)) in
-    (can.each t d l).panes q a h (ap (λ (s : State). get s.windows q) (have_states p stages tasks can t d l) ∙ e))
+    (can.each t d l).panes q a h (ap (λ (s : State). get (state_at at s).windows q) (have_states p stages at tasks can t d l) ∙ e))
   where
     -- a task of a list that has one there
     task_at : (xs : List TaskData) (k : ℕ) → k < length xs → TaskData

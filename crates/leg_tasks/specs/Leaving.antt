@@ -9,6 +9,7 @@ use Rattle.plan_model.specs.PlanData.{PlanData}
 use Rattle.plan_model.specs.declared.limits.TheConstants.{MOST_RECORDS}
 use Rattle.key_groups.specs.Groups.{key_group}
 use Rattle.key_groups.specs.Laws.{Has}
+use Rattle.input_state.specs.Inputs.{inputs_from}
 use Rattle.dataflow_model.specs.State.{Windows, State}
 use Rattle.dataflow_model.specs.declared.role.Role.TheVariants.{Source, Window}
 use Rattle.layout_rules.specs.Layouts.{partition_counts}
@@ -25,6 +26,8 @@ use Rattle.redistribute.specs.Parts.{start_of_role, with_windows}
 use Rattle.gather.specs.Saved.{savepoint_of}
 use Rattle.gather.specs.Parts.{sources_in, windows_in}
 use Rattle.task_steps.specs.TaskData.{TaskData, IsWindowOf}
+use Rattle.task_steps.specs.declared.seen.Moment.{Moment}
+use Rattle.task_steps.specs.Seen.{seen_at}
 
 -- how far the partition at place k was read, of those with these numbers
 abbrev pub start_of : List ℕ → List ℕ → List ℤ → ℕ → PartitionStart
@@ -60,18 +63,22 @@ all_left p stages states = each_task stages (λ t. part_left (partition_counts p
 abbrev pub savepoint_left : PlanData → List Stage → (ℕ → State) → ℕ → Contents
 savepoint_left p stages states number = savepoint_of p (sources_in p stages (all_left p stages states)) (windows_in (all_left p stages states)) number
 
+-- a task in this state as it stands now, or as it stood when it aligned on a barrier, as far as a savepoint has it
+abbrev pub state_at : Moment → State → State
+state_at at s = record s { offsets = (seen_at at s).offsets; inputs = inputs_from (seen_at at s).marks s.inputs.shut; windows = (seen_at at s).windows }
+
 -- tasks are in these states
 abbrev pub HaveStates : List Stage → List TaskData → (ℕ → State) → Type 0
 HaveStates stages tasks states = (t : ℕ) (d : TaskData) → t < task_count stages → (slice_index_or tasks t d).state ≡ states t
 
--- a task with this number in a layout: a source's task has its partitions, and in the windows of a window's task stands what is of its own key groups, in no pane more records than may be saved
-pub record CanLeave (p : PlanData) (stages : List Stage) (t : ℕ) (d : TaskData) : Type 0 where
+-- a task with this number in a layout: a source's task has its partitions, and in the windows of a window's task stands, or stood then, what is of its own key groups, in no pane more records than may be saved
+pub record CanLeave (p : PlanData) (stages : List Stage) (at : Moment) (t : ℕ) (d : TaskData) : Type 0 where
   pub role : d.setup.role ≡ task_role stages t
   pub inputs : task_role stages t ≡ Source → d.setup.inputs ≡ length (partitions_of (partition_counts p) stages t)
   pub window : IsWindowOf p d.window
-  pub panes : (q : Pane) (a : Aggregated) → task_role stages t ≡ Window → get d.state.windows q ≡ Some a → Has (groups_of p.max stages t) (key_group p.max q.key) × (a.count ≤ MOST_RECORDS)
+  pub panes : (q : Pane) (a : Aggregated) → task_role stages t ≡ Window → get (state_at at d.state).windows q ≡ Some a → Has (groups_of p.max stages t) (key_group p.max q.key) × (a.count ≤ MOST_RECORDS)
 
 -- all tasks of a layout are such
-pub record CanSave (p : PlanData) (stages : List Stage) (tasks : List TaskData) : Type 0 where
+pub record CanSave (p : PlanData) (stages : List Stage) (at : Moment) (tasks : List TaskData) : Type 0 where
   pub count : length tasks ≡ task_count stages
-  pub each : (t : ℕ) (d : TaskData) → t < task_count stages → CanLeave p stages t (slice_index_or tasks t d)
+  pub each : (t : ℕ) (d : TaskData) → t < task_count stages → CanLeave p stages at t (slice_index_or tasks t d)

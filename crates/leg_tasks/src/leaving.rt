@@ -15,7 +15,7 @@ use plan_model::Plan;
 use redistribute::{PartitionStart, TaskStart};
 use savepoint_codec::Savepoint;
 use std::alloc::{AllocError, Global};
-use task_steps::Task;
+use task_steps::{Moment, Task};
 
 /// How far the partition at a place was read.
 fn start_of(partitions: &[u32], offsets: &[u64], marks: &[i64], place: usize) -> PartitionStart
@@ -31,18 +31,19 @@ fn start_of(partitions: &[u32], offsets: &[u64], marks: &[i64], place: usize) ->
     }
 }
 
-/// How far a source's task has read each of its partitions, which have these numbers.
+/// How far a source's task has read each of its partitions, which have these numbers, or had then.
 fn starts_left(
     alloc: Global,
     partitions: &[u32],
     task: &Task,
+    at: Moment,
 ) -> Result<Items<PartitionStart>, AllocError>
     requires role { task.now.setup.role ≡ role.Source }
     requires inputs { task.now.setup.inputs ≡ length partitions.now }
-    ensures { IfOk result (λ starts. starts ≡ left.starts_left partitions.now task.now.state) }
+    ensures { IfOk result (λ starts. starts ≡ left.starts_left partitions.now (left.state_at at task.now.state)) }
 {
-    let offsets = task.offsets();
-    let marks = task.marks();
+    let offsets = task.offsets(at);
+    let marks = task.marks(at);
     let mut starts = Vec::new(alloc);
     for place in 0..partitions.len() {
         starts.push(start_of(partitions, offsets, marks, place))?;
@@ -50,72 +51,75 @@ fn starts_left(
     Ok(Items::from_vec(starts))
 }
 
-/// What the task with this number leaves: a source's task how far it has read its partitions, a window's task what stands in
-/// its windows, in the order of start and key, and any other nothing.
+/// What the task with this number leaves, or would have left then: a source's task how far it has read its partitions, a
+/// window's task what stands in its windows, in the order of start and key, and any other nothing.
 fn part_left(
     alloc: Global,
     layout: &Layout,
     number: u32,
     task: &Task,
+    at: Moment,
 ) -> Result<TaskStart, AllocError>
     requires number { number < rule.task_count layout.now.stages }
     requires role { task.now.setup.role ≡ rule.task_role layout.now.stages number }
     requires inputs { rule.task_role layout.now.stages number ≡ role.Source → task.now.setup.inputs ≡ length (rule.partitions_of layout.now.partitions layout.now.stages number) }
-    ensures says { IfOk result (λ part. part ≡ left.part_left layout.now.partitions (left.kinds_in task.now.window) layout.now.stages number task.now.state) }
+    ensures says { IfOk result (λ part. part ≡ left.part_left layout.now.partitions (left.kinds_in task.now.window) layout.now.stages number (left.state_at at task.now.state)) }
     ensures operator { IfOk result (λ part. rule.task_role layout.now.stages number ≡ role.Window → (w : WindowSpec) × (task.now.window ≡ Some w)) }
 {
     let stage = layout.stage(number);
     match stage.role() {
         Role::Source => {
             let partitions = layout.partitions_of(number);
-            Ok(TaskStart::Source(starts_left(alloc, partitions, task)?))
+            Ok(TaskStart::Source(starts_left(alloc, partitions, task, at)?))
         }
         Role::Chain => Ok(TaskStart::Chain),
-        Role::Window => Ok(TaskStart::Window(Items::from_vec(task.parts(alloc)?))),
+        Role::Window => Ok(TaskStart::Window(Items::from_vec(task.parts(alloc, at)?))),
         Role::Sink => Ok(TaskStart::Sink),
     }
 }
 
-/// What all tasks of a layout leave, in task order.
+/// What all tasks of a layout leave, or would have left then, in task order.
 fn parts_left(
     alloc: Global,
     plan: &Plan,
     layout: &Layout,
     tasks: &[Task],
+    at: Moment,
 ) -> Result<Vec<TaskStart>, AllocError>
     requires laid_out { IsLayoutOf plan.now layout.now }
-    requires tasks { left.CanSave plan.now layout.now.stages tasks.now }
-    ensures { IfOk result (λ parts. (states : ℕ → State) → left.HaveStates layout.now.stages tasks.now states → parts.items ≡ left.all_left plan.now layout.now.stages states) }
+    requires tasks { left.CanSave plan.now layout.now.stages at tasks.now }
+    ensures { IfOk result (λ parts. (states : ℕ → State) → left.HaveStates layout.now.stages tasks.now states → parts.items ≡ left.all_left plan.now layout.now.stages (λ t. left.state_at at (states t))) }
 {
     let _aggregates = plan.window();
     let mut parts = Vec::new(alloc);
     for number in 0..layout.task_count() {
-        parts.push(part_left(alloc, layout, number, &tasks[number as usize])?)?;
+        parts.push(part_left(alloc, layout, number, &tasks[number as usize], at)?)?;
     }
     Ok(parts)
 }
 
-/// The savepoint of this number that the tasks of a layout leave: how far the sources have read their partitions, and what stands
-/// in the windows.
+/// The savepoint of this number that the tasks of a layout leave, or that of a barrier which they have passed: how far the
+/// sources have read their partitions, and what stands in the windows, or had when the task passed the barrier.
 ///
-/// The tasks are those of the layout, and what stands in the windows of each is of its own key groups, with at most 2^40 records
-/// in each pane.
+/// The tasks are those of the layout, and what stands in the windows of each then is of its own key groups, with at most 2^40
+/// records in each pane.
 ///
 /// # Errors
 ///
-/// Where memory runs out, and of tasks that have failed for want of it.
+/// Where memory runs out, and of what stands now in tasks that have failed for want of it.
 pub fn save(
     alloc: Global,
     plan: &Plan,
     layout: &Layout,
     tasks: &[Task],
+    at: Moment,
     number: u64,
 ) -> Result<Savepoint, AllocError>
     requires laid_out { IsLayoutOf plan.now layout.now }
-    requires tasks { left.CanSave plan.now layout.now.stages tasks.now }
+    requires tasks { left.CanSave plan.now layout.now.stages at tasks.now }
     requires number { 1 ≤ number }
-    ensures { IfOk result (λ savepoint. (states : ℕ → State) → left.HaveStates layout.now.stages tasks.now states → savepoint ≡ left.savepoint_left plan.now layout.now.stages states number) }
+    ensures { IfOk result (λ savepoint. (states : ℕ → State) → left.HaveStates layout.now.stages tasks.now states → savepoint ≡ left.savepoint_left plan.now layout.now.stages (λ t. left.state_at at (states t)) number) }
 {
-    let parts = parts_left(alloc, plan, layout, tasks)?;
+    let parts = parts_left(alloc, plan, layout, tasks, at)?;
     gather(alloc, plan, layout, parts.as_slice(), number)
 }

@@ -4,14 +4,14 @@ use Rattle.layout_rules.specs.Stages.{task_role, partitions_of}
 use Rattle.dataflow_model.specs.declared.role.Role.TheVariants as role
 use Rattle.redistribute.specs.declared.task_start.TaskStart.TheVariants.{Window}
 use Rattle.redistribute.specs.Parts.{start_of_role, with_windows}
-use Rattle.leg_tasks.specs.Leaving.{kinds_in, parts_left, starts_left}
+use Rattle.leg_tasks.specs.Leaving.{kinds_in, parts_left, starts_left, state_at}
 use Rattle.leg_tasks.proofs.Known.{parts_are}
 use Rattle.leg_tasks.proofs.leaving.part_left.Goals as goal
 
 pub returns-in_ok-parts-in-Window-clause-says : goal.returns-in_ok-parts-in-Window-clause-says
 returns-in_ok-parts-in-Window-clause-says c =
     let l = c.args.layout.now in
-    let s = c.args.task.now.state in
+    let s = state_at c.args.at c.args.task.now.state in
     let kinds = kinds_in c.args.task.now.window in
     let role_is : role.Window ≡ task_role l.stages c.args.number = search rules in
     let parts = c.in_ok-parts-in-Window.field-0.items in

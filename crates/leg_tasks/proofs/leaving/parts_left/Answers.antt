@@ -8,7 +8,7 @@ use Rattle.plan_compiler.specs.LayoutData.{LayoutData}
 use Rattle.aggregates.specs.Kinds.{kind_of}
 use Rattle.redistribute.specs.declared.task_start.TaskStart.{TaskStart}
 use Rattle.task_steps.specs.TaskData.{TaskData, IsWindowOf}
-use Rattle.leg_tasks.specs.Leaving.{kinds_in, part_left}
+use Rattle.leg_tasks.specs.Leaving.{kinds_in, part_left, state_at}
 use Rattle.leg_tasks.proofs.Known.{kinds_are, same_part}
 use Rattle.leg_tasks.proofs.leaving.parts_left.Goals as goal
 
@@ -18,15 +18,15 @@ loop-number-preserved c = λ states have.
     let l = c.args.layout.now in
     let t = c.loop-number.number in
     let kinds = map kind_of p.window.aggregates in
-    let f : ℕ → TaskStart = λ t. part_left (partition_counts p) kinds l.stages t (states t) in
+    let f : ℕ → TaskStart = λ t. part_left (partition_counts p) kinds l.stages t (state_at c.args.at (states t)) in
     let task : TaskData = c.index-tasks-number.result in
     let here : t < task_count l.stages = search rules in
     let task_is : slice_index_or c.args.tasks.now t task ≡ task = search rules in
     let window : IsWindowOf p task.window = subst (λ (x : TaskData). IsWindowOf p x.window) task_is (c.requires.tasks.each t task here).window in
-    let state_is = sym (ap (λ (x : TaskData). x.state) task_is) ∙ have t task here in
+    let state_is = ap (state_at c.args.at) (sym (ap (λ (x : TaskData). x.state) task_is) ∙ have t task here) in
     let part_is : c.in_ok-part_left.field-0 ≡ f t =
     c.in_ok-part_left.ensures.says
-    ∙ same_part l.partitions (partition_counts p) (kinds_in task.window) kinds l.stages t task.state (states t) (ap (λ (x : LayoutData). x.partitions) c.requires.laid_out.is) (λ w. kinds_are p task.window window (c.in_ok-part_left.ensures.operator w)) state_is in
+    ∙ same_part l.partitions (partition_counts p) (kinds_in task.window) kinds l.stages t (state_at c.args.at task.state) (state_at c.args.at (states t)) (ap (λ (x : LayoutData). x.partitions) c.requires.laid_out.is) (λ w. kinds_are p task.window window (c.in_ok-part_left.ensures.operator w)) state_is in
     c.in_ok-push.ensures.items
     ∙ ap (λ x. c.loop-number.parts.items ++ x ∷ []) part_is
     ∙ ap (λ xs. xs ++ f t ∷ []) (c.loop-number.invariant states have)
@@ -36,6 +36,6 @@ pub returns : goal.returns
 returns c = λ states have.
     let p = c.args.plan.now in
     let l = c.args.layout.now in
-    let f : ℕ → TaskStart = λ t. part_left (partition_counts p) (map kind_of p.window.aggregates) l.stages t (states t) in
+    let f : ℕ → TaskStart = λ t. part_left (partition_counts p) (map kind_of p.window.aggregates) l.stages t (state_at c.args.at (states t)) in
     let all : c.loop-number.number ≡ task_count l.stages = search rules in
     c.loop-number.invariant states have ∙ ap (λ n. map f (range_with_len 0 n)) all
