@@ -62,7 +62,7 @@ module _ (g : GivenData) (states : ℕ → State) (ended : HasEnded g states) wh
   snapshot_at has = (tasks_have_snapshot g.plan g.layout g.input g.start g.saves g.until given.plan given.laid_out given.belongs given.starts has).0
 
   -- what a leg delivers and leaves whose start has the snapshot of its cut
-  leg : HasSnapshot g.plan g.input g.start
+  pub leg : HasSnapshot g.plan g.input g.start
       → AreRowsOf (due_between g.plan g.input.sources (offsets_of g.start) cut) (rows_of g states) × HaveCut g.plan g.input (layout_in g) states cut × HaveMarks (input_of g.plan g.input) (layout_in g) states (counts_at g.plan cut)
   leg has =
       let to = came g states ended in

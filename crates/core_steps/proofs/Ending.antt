@@ -37,9 +37,10 @@ use Rattle.redistribute.specs.Stopping.{CanGo, CanStop}
 use Rattle.redistribute.proofs.Facts.{places, has, owns, tasks_have_own_panes}
 use Rattle.task_steps.specs.TaskData.{TaskData}
 use Rattle.savepoint_codec.specs.declared.savepoint.Contents.{Contents}
-use Rattle.leg_tasks.specs.Leaving.{CanSave, HaveStates, savepoint_left}
+use Rattle.task_steps.specs.declared.seen.Moment.{Moment}
+use Rattle.leg_tasks.specs.Leaving.{CanSave, HaveStates, savepoint_left, state_at as looked_at}
 use Rattle.core_steps.specs.Given.{GivenData, layout_in, start_in}
-use Rattle.core_steps.specs.World.{WorldData, world_in, state_at, IsGiven, IsSound, IsWorld}
+use Rattle.core_steps.specs.World.{WorldData, world_in, state_at, IsGiven, IsPlaced, IsSound, IsWorld}
 use Rattle.core_steps.specs.declared.finish.Finish.TheVariants.{Ended, Stopped}
 use Rattle.core_steps.specs.Finishing.{AreAtEnd, HasEnded, HasFinished, finish_of, finish_with, has_stopped, number_after, rows_of, savepoint_of}
 use Rattle.core_steps.proofs.States.{state_here}
@@ -92,7 +93,7 @@ module _ (g : GivenData) (states : ℕ → State) (ended : HasEnded g states) wh
   comes = subst (λ (f : ℕ → State). ComesTo g.input (offsets_of g.start) g.until (has_stopped g f) came.0) ended.ends came.1
 
   -- each of the window's tasks has its own panes, of few records
-  own_panes : HaveOwnPanes (layout_in g) states MOST_RECORDS
+  pub own_panes : HaveOwnPanes (layout_in g) states MOST_RECORDS
   own_panes u lo hi q a here =
       let kept = compiled_leg_keeps_panes_at g.plan was.laid_out.scale g.input g.start.number (offsets_of g.start) g.saves g.until g.layout.stages (start_in g) was.plan was.laid_out.fits (compiled g was) was.input was.orderly was.belongs
       was.starts.cut (sound g was).start begins.0 begins.1 ended.history ended.complete came.0 came.1.is_cut came.2 in
@@ -102,18 +103,15 @@ module _ (g : GivenData) (states : ℕ → State) (ended : HasEnded g states) wh
 
 -- ---- its tasks
 
-module _ (g : GivenData) (tasks : List TaskData) (at : AreAtEnd g tasks) where
+module _ (g : GivenData) (given : IsGiven g) (tasks : List TaskData) (count : length tasks ≡ task_count g.layout.stages) (placed : (t : ℕ) (d : TaskData) → t < task_count g.layout.stages → IsPlaced g.plan g.input ((layout_in g).task t) (slice_index_or tasks t d)) where
   abbrev l : AbstractLayout
   l = layout_in g
 
   abbrev stages : List Stage
   stages = g.layout.stages
 
-  abbrev given : IsGiven g
-  given = at.ended.given
-
   is_sound : IsSound g
-  is_sound = sound g at.ended.given
+  is_sound = sound g given
 
   -- a window's task stands between the tasks before the windows and the sink
   is_window : (t : ℕ) → t < task_count stages → task_role stages t ≡ role.Window → (l.before ≤ t) × (t < l.sink)
@@ -148,24 +146,25 @@ module _ (g : GivenData) (tasks : List TaskData) (at : AreAtEnd g tasks) where
       by_scale (λ m. let a = layout_to g.plan g.input g.start.number g.saves g.until m.stages in (u : ℕ) (key : ℤ) → a.before ≤ u → u < a.sink → a.owner key ≡ u → Has (groups_of g.plan.max m.stages u) (key_group g.plan.max key))
       (λ u key lo hi own. has (groups_of g.plan.max (stages_of g.plan c) u) (key_group g.plan.max key) (owns g.plan c u key given.plan given.laid_out.fits lo hi ∙ eq-eqb _ u own))
 
-  pub can_save : CanSave g.plan stages tasks
-  can_save = record {
-    count = at.count;
+  -- where the windows of each of the window's tasks have its own panes at a moment, of few records, all can be saved
+  pub can_save : (at : Moment) → HaveOwnPanes l (λ t. looked_at at (state_at g tasks t)) MOST_RECORDS → CanSave g.plan stages at tasks
+  can_save at own = record {
+    count = count;
     each = λ t d k.
-        let placed = at.placed t d k in
+        let here = placed t d k in
         record {
-          role = placed.stands.role;
-          inputs = λ h. placed.stands.inputs ∙ sym (partitions_read t h);
-          window = placed.stands.window;
+          role = here.stands.role;
+          inputs = λ h. here.stands.inputs ∙ sym (partitions_read t h);
+          window = here.stands.window;
           panes = λ q a h e.
               let m = is_window t k h in
-              let one = own_panes g (state_at g tasks) at.ended t m.0 m.1 q a (subst (λ (s : State). get s.windows q ≡ Some a) (sym (state_here g tasks t d (let n = at.count in omega (arith, k, n)))) e) in
+              let one = own t m.0 m.1 q a (subst (λ (s : State). get (looked_at at s).windows q ≡ Some a) (sym (state_here g tasks t d (omega (arith, k, count)))) e) in
               (groups_are t q.key m.0 m.1 one.0, one.1);
         };
   }
 
   pub have_states : HaveStates stages tasks (state_at g tasks)
-  have_states t d k = sym (state_here g tasks t d (let n = at.count in omega (arith, k, n)))
+  have_states t d k = sym (state_here g tasks t d (omega (arith, k, count)))
 
 -- ---- a world whose tasks are all done
 
@@ -210,5 +209,5 @@ module _ (g : GivenData) (tasks : List TaskData) (at : AreAtEnd g tasks) (rows :
   pub stopped_is : (savepoint : Contents) (held : List TaskData) (n : ℕ) → held ≡ tasks → ((states : ℕ → State) → HaveStates g.layout.stages held states → savepoint ≡ savepoint_left g.plan g.layout.stages states n) → n ≡ number_after g.start.number g.saves → has_stopped g (state_at g tasks) ≡ true
       → Stopped rows savepoint ≡ finish_of g (state_at g tasks)
   stopped_is savepoint held n same is number stopped =
-      let saved : savepoint ≡ savepoint_of g (state_at g tasks) = is (state_at g tasks) (subst (λ ts. HaveStates g.layout.stages ts (state_at g tasks)) (sym same) (have_states g tasks at)) ∙ ap (savepoint_left g.plan g.layout.stages (state_at g tasks)) number in
+      let saved : savepoint ≡ savepoint_of g (state_at g tasks) = is (state_at g tasks) (subst (λ ts. HaveStates g.layout.stages ts (state_at g tasks)) (sym same) (have_states g at.ended.given tasks at.count at.placed)) ∙ ap (savepoint_left g.plan g.layout.stages (state_at g tasks)) number in
       (λ j. Stopped (rows_are j) (saved j)) ∙ ap (λ (b : Bool). finish_with b (rows_of g (state_at g tasks)) (savepoint_of g (state_at g tasks))) (sym stopped)

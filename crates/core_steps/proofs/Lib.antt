@@ -15,3 +15,5 @@ pub mod Sound
 pub mod Ending
 pub mod Delivered
 pub mod Legs
+pub mod Passed
+pub mod Sealings

@@ -7,4 +7,5 @@ pub mod Answers
 pub mod RingSteps
 pub mod Finishing
 pub mod Ending
+pub mod Sealing
 pub mod Laws

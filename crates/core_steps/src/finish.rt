@@ -19,7 +19,7 @@ use plain_data::Items;
 use plan_model::Row;
 use savepoint_codec::Savepoint;
 use std::alloc::{AllocError, Global};
-use task_steps::Task;
+use task_steps::{Moment, Task};
 
 /// How a leg ended, with the rows that it delivered, in the order in which they came.
 #[derive(Drop)]
@@ -83,6 +83,6 @@ pub fn finish_of(
     if !has_stopped(tasks.as_slice(), saves.len()) {
         return Ok(Finish::Ended(sink_rows(tasks)));
     }
-    let savepoint = save(alloc, plan, layout, tasks.as_slice(), number)?;
+    let savepoint = save(alloc, plan, layout, tasks.as_slice(), Moment::Now, number)?;
     Ok(Finish::Stopped(sink_rows(tasks), savepoint))
 }

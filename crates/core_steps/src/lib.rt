@@ -9,9 +9,11 @@ mod finish;
 mod given;
 pub mod laws;
 mod rings;
+mod sealing;
 mod world;
 
 pub use asked::tasks_asked;
 pub use finish::{Finish, finish_of};
 pub use given::Given;
+pub use sealing::{Sealed, sealed_of};
 pub use world::World;

@@ -6,6 +6,7 @@ ghost use Rattle.core_steps.specs.Answers.{is_memory};
 use crate::finish::{Finish, finish_of};
 use crate::given::Given;
 use crate::rings::Rings;
+use crate::sealing::{Sealed, sealed_of};
 use dataflow_laws::Step;
 use leg_tasks::tasks;
 use legs::{LegFault, Stop, Until};
@@ -64,6 +65,7 @@ impl<'a> World<'a> {
     ghost use Rattle.core_steps.specs.Beginning.{IsNewWorld};
     ghost use Rattle.core_steps.specs.Finishing.{finish_in, HasFinished};
     ghost use Rattle.core_steps.specs.Ending.{IsEndOf, IsWholeRun};
+    ghost use Rattle.core_steps.specs.Sealing.{IsSealOf, IsSealed};
     ghost use Rattle.core_steps.specs.Answers.{LeadsTo, CanMake, StepAnswers};
     ghost use Rattle.core_steps.specs.RingSteps.{IsPuttable, IsTakeable};
 
@@ -392,6 +394,19 @@ impl<'a> World<'a> {
     {
         let World { has_failed, .. } = self;
         *has_failed
+    }
+
+    /// What the leg has sealed by the steps that it has made, also where a step found no memory: the savepoint of the last
+    /// barrier that every task has passed, and the rows that the sink had before it; `None` where there is no such barrier.
+    ///
+    /// # Errors
+    ///
+    /// Only where memory runs out.
+    pub fn sealed(&self, alloc: Global) -> Result<Option<Sealed>, AllocError>
+        ensures is { IfOk result (IsSealed self.now.given (world_in self.now).tasks) }
+        ensures exact { IfOk result (λ answer. IfSome answer (IsSealOf self.now.given (world_in self.now).tasks)) }
+    {
+        sealed_of(alloc, self.given, &self.leg.until, self.tasks.as_slice())
     }
 
     /// How the leg ended, with the rows that it has delivered and the savepoint that it leaves where it stopped; `None` where

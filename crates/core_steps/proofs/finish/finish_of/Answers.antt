@@ -6,13 +6,14 @@ use Rattle.legs.specs.declared.cut.Cut.{Cut}
 use Rattle.legs.specs.Stops.{until_in}
 use Rattle.task_setups.specs.Legs.{counts_of}
 use Rattle.task_steps.specs.TaskData.{TaskData}
+use Rattle.task_steps.specs.declared.seen.Moment.TheVariants.{Now}
 use Rattle.leg_tasks.specs.Leaving.{CanSave}
 use Rattle.core_steps.specs.declared.finish.Finish.TheVariants.{Ended, Stopped}
 use Rattle.core_steps.specs.Given.{GivenData, given_data, layout_in}
 use Rattle.core_steps.specs.World.{state_at}
 use Rattle.core_steps.specs.Finishing.{AreAtEnd, has_stopped, number_after}
 use Rattle.core_steps.proofs.Sound.{sound}
-use Rattle.core_steps.proofs.Ending.{can_save, ended_is, numbered, of_sink, stopped_is}
+use Rattle.core_steps.proofs.Ending.{can_save, ended_is, numbered, of_sink, own_panes, stopped_is}
 use Rattle.core_steps.proofs.Delivered.{end_of, whole_run}
 use Rattle.core_steps.proofs.finish.finish_of.Goals as goal
 
@@ -56,7 +57,8 @@ sink_rows-requires-2 c =
 pub save-requires-clause-tasks : goal.save-requires-clause-tasks
 save-requires-clause-tasks c =
     let g = given_data c.args.given (until_in c.args.until.now) in
-    subst (CanSave g.plan g.layout.stages) (sym c.as_slice-2.ensures.value) (can_save g c.args.tasks.items c.requires)
+    let r = c.requires in
+    subst (CanSave g.plan g.layout.stages Now) (sym c.as_slice-2.ensures.value) (can_save g r.ended.given c.args.tasks.items r.count r.placed Now (own_panes g (state_at g c.args.tasks.items) r.ended))
 
 pub returns-then-not-has_stopped-clause-is : goal.returns-then-not-has_stopped-clause-is
 returns-then-not-has_stopped-clause-is c =
