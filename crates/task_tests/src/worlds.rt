@@ -7,7 +7,7 @@ ghost use Rattle.redistribute.specs.Stopping.{CanSaveAt};
 ghost use Rattle.task_setups.specs.Legs.{IsLayoutOf, counts_of};
 
 use crate::making::{layout_at, stop_at};
-use core_steps::{Finish, Given, World};
+use core_steps::{Finish, Given, Sealed, World};
 use dataflow_laws::Step;
 use legs::{LegFault, Stop};
 use logical_plan::ReadPlan;
@@ -109,18 +109,49 @@ enum Part {
     Listed(&'static [(Step, bool)]),
     /// Steps in turn until one finds no memory, and steps that cannot be made after that.
     Failing(&'static [(Step, Option<StepFault>)], &'static [(Step, bool)]),
+    /// What has been sealed by now.
+    Sealed(Option<Seal>),
 }
 
-fn play_part<R: Abort>(rt: &R, world: &mut World, part: &Part) {
+/// The number of a barrier, the rows before it, and the key groups that its savepoint has.
+#[derive(Clone, Copy)]
+struct Seal {
+    barrier: u64,
+    rows: &'static [Shown],
+    groups: usize,
+}
+
+fn is_sealed_so(sealed: &Option<Sealed>, seal: &Option<Seal>) -> bool {
+    match (sealed, seal) {
+        (None, None) => true,
+        (Some(sealed), Some(seal)) => {
+            let contents = sealed.savepoint.contents();
+            sealed.barrier == seal.barrier
+                && are_shown(sealed.rows.as_slice(), seal.rows)
+                && contents.number == seal.barrier
+                && contents.groups.len() == seal.groups
+        }
+        _ => false,
+    }
+}
+
+fn play_part<R: AllocGlobal + Abort>(
+    rt: &R,
+    world: &mut World,
+    part: &Part,
+) -> Result<(), AllocError> {
     match part {
         Part::Steps(steps) => play(rt, world, steps),
         Part::Listed(listed) => check_refused(rt, world, listed),
         Part::Failing(steps, listed) => {
             if finds_no_memory(world, steps) {
                 check_failed(rt, world, listed);
+                assert!(rt; is_sealed_so(&world.sealed(rt.alloc())?, &None));
             }
         }
+        Part::Sealed(seal) => assert!(rt; is_sealed_so(&world.sealed(rt.alloc())?, seal)),
     }
+    Ok(())
 }
 
 /// The start, the key and the numbers of a row.
@@ -195,7 +226,7 @@ fn check_world<R: AllocGlobal + Abort>(
 {
     let mut world = World::new(rt.alloc(), keys, given, stop)?;
     for part in case.parts {
-        play_part(rt, &mut world, part);
+        play_part(rt, &mut world, part)?;
     }
     check_end(rt, world, &case.ending)?;
     Ok(())
@@ -337,7 +368,7 @@ fn only_sources_can_do_something_as_it_opens(rt: HostRuntime) -> Result<(), Fail
         scale: TWO_THREE,
         stop: None,
         goes_on: false,
-        parts: &[Part::Listed(OPENS)],
+        parts: &[Part::Listed(OPENS), Part::Sealed(None)],
         ending: Ending::GoesOn,
     };
     assert_eq!(rt; check(&rt, case)?, Ok(()));
@@ -489,7 +520,11 @@ fn it_ends_with_all_rows(rt: HostRuntime) -> Result<(), Fail> {
         scale: ONE_ONE,
         stop: None,
         goes_on: false,
-        parts: &[Part::Steps(TO_THE_CUT), Part::Steps(TO_THE_END)],
+        parts: &[
+            Part::Steps(TO_THE_CUT),
+            Part::Steps(TO_THE_END),
+            Part::Sealed(None),
+        ],
         ending: Ending::Ended(ROWS),
     };
     assert_eq!(rt; check(&rt, case)?, Ok(()));
@@ -510,13 +545,25 @@ const AT_THE_CUT: &[(Step, Option<StepFault>)] = &[
 
 const FIRST_ROWS: &[Shown] = &[(0, 0, [1, 4]), (0, 1, [1, 5])];
 
+/// What is sealed where two entries of each partition were read: one pane is left.
+const FIRST_SEAL: Seal = Seal {
+    barrier: 1,
+    rows: FIRST_ROWS,
+    groups: 1,
+};
+
 #[test]
 fn it_stops_at_its_cut(rt: HostRuntime) -> Result<(), Fail> {
     let case = Case {
         scale: ONE_ONE,
         stop: Some(&[2, 2]),
         goes_on: false,
-        parts: &[Part::Steps(TO_THE_CUT), Part::Steps(AT_THE_CUT)],
+        parts: &[
+            Part::Steps(TO_THE_CUT),
+            Part::Sealed(None),
+            Part::Steps(AT_THE_CUT),
+            Part::Sealed(Some(FIRST_SEAL)),
+        ],
         ending: Ending::Stopped(FIRST_ROWS),
     };
     assert_eq!(rt; check(&rt, case)?, Ok(()));
@@ -535,6 +582,9 @@ const ON_THE_WAY: &[(Step, Option<StepFault>)] = &[
     (Step::Save(0), REFUSED),
     (Step::Take(1, 0), DONE),
     (Step::Put(1), DONE),
+];
+
+const BARRIER_AT_THE_SINK: &[(Step, Option<StepFault>)] = &[
     (Step::Take(2, 0), DONE),
     (Step::Take(2, 0), REFUSED),
 ];
@@ -549,7 +599,11 @@ fn it_takes_a_savepoint_and_goes_on(rt: HostRuntime) -> Result<(), Fail> {
             Part::Steps(&[(Step::Save(0), REFUSED)]),
             Part::Steps(TO_THE_CUT),
             Part::Steps(ON_THE_WAY),
+            Part::Sealed(None),
+            Part::Steps(BARRIER_AT_THE_SINK),
+            Part::Sealed(Some(FIRST_SEAL)),
             Part::Steps(TO_THE_END),
+            Part::Sealed(Some(FIRST_SEAL)),
         ],
         ending: Ending::Ended(ROWS),
     };
