@@ -84,9 +84,9 @@ parts_keep_their_own plan parts i input =
     let keep = is_in_part plan parts i in
     record {
       records = each (map (entries_kept keep)) (map records_in) (map (λ es. filter keep (records_in es)))
-      (each (entries_kept keep) records_in (λ es. filter keep (records_in es)) (records_kept keep)) input.sources;
+          (each (entries_kept keep) records_in (λ es. filter keep (records_in es)) (records_kept keep)) input.sources;
       watermarks = each (map (entries_kept keep)) (map watermarks_in) (map watermarks_in)
-      (each (entries_kept keep) watermarks_in watermarks_in (watermarks_kept keep)) input.sources;
+          (each (entries_kept keep) watermarks_in watermarks_in (watermarks_kept keep)) input.sources;
       some = sources_some keep input.sources;
     }
 

@@ -56,11 +56,10 @@ above a b = omega (arith, ints, clamps)
 -- so it is from each lower watermark on
 from_lower : (time : ℕ) (low high : ℤ) (es : List Entry) → low ≤ℤ high → AreTimelyFrom time high es → AreTimelyFrom time low es
 from_lower time low high [] le h = tt
-from_lower time low high (e ∷ es) le h =
-    (
-      All-weaker (λ r. high <ℤ at time r) (λ r. low <ℤ at time r) (λ r lt. below low high (at time r) le lt) (records_of_entry e) h.0,
-      from_lower time (after low e) (after high e) es (raised low high (watermark_of_entry e) le) h.1,
-    )
+from_lower time low high (e ∷ es) le h = (
+  All-weaker (λ r. high <ℤ at time r) (λ r. low <ℤ at time r) (λ r lt. below low high (at time r) le lt) (records_of_entry e) h.0,
+  from_lower time (after low e) (after high e) es (raised low high (watermark_of_entry e) le) h.1,
+)
 
 from_rows : (time : ℕ) (w : ℤ) (width : ℕ) (rs : List Record) (es : List Entry) → All (λ r. w <ℤ at time r) rs → AreTimelyFrom time (int_max w lowest) es
     → AreTimelyFrom time w (entry_of_rows width rs ++ es)

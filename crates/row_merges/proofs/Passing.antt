@@ -13,29 +13,18 @@ use Rattle.plan_model.specs.declared.spec.Pane.{Pane}
 use Rattle.plan_model.specs.declared.spec.Row.{Row}
 use Rattle.plan_model.specs.Rows.{pane_of}
 use Rattle.row_lines.specs.Text.{line_of, text_of_rows}
-use Rattle.row_lines.specs.Sequences.{has_width, is_after, AreRows, rows_left, width_of, last_of, IsNext}
+use Rattle.row_lines.specs.Sequences.{has_width, is_after, AreRows, IsNext}
 use Rattle.row_lines.specs.declared.rows.RowLines.{RowLines}
-use Rattle.row_changes.specs.Merging.{IsTextOf, AreLeft, IsBehind, IsAtHand}
-use Rattle.row_changes.proofs.Merges.{behind_of, passed, next_at_hand}
+use Rattle.row_changes.specs.Merging.{AreLeft, IsBehind, IsAtHand}
+use Rattle.row_changes.proofs.Merges.{passed, next_at_hand}
 use Rattle.row_merges.specs.Merges.{IsRowsText, rows_in, MergesRows, IsOpened, AreAllLeft, AreBehind, AreAllBehind, HoldsTexts, HasRowAt, IsAdmitted, AreBefore, Steps, NothingLeft}
 use Rattle.row_merges.specs.declared.head.Head.{Head}
 use Rattle.row_merges.specs.declared.merge.Merge.{Merge}
-
--- ---- a text of which the first row was read
 
 -- a row that is at hand is so wherever it may stand
 anywhere : {R : Type 0} (last : Option Pane) (rows : RowLines R) (row : Option Row) → IsBehind last rows row → IsBehind None rows row
 anywhere last rows None h = tt
 anywhere last rows (Some row) h = record { after = refl; is = h.is; last_is = h.last_is; width_is = h.width_is }
-
-pub opened : {R : Type 0} (remaining : R → Option (List ℕ)) (text : Option (List ℕ)) (rows : RowLines R) (head : Head R) → rows_left remaining rows ≡ text → width_of rows ≡ None → last_of rows ≡ None
-    → IsNext remaining rows head.rows (Ok head.row) → IsOpened remaining text head
-opened remaining text rows head text_is width last next = record {
-  rows = λ left h.
-      let behind = behind_of remaining rows head.rows head.row left next h in
-      (subst (λ w. AreRows w None left) width (subst (λ l. AreRows (width_of rows) l left) last behind.0), subst (λ t. IsTextOf t left) text_is behind.1);
-  behind = next_at_hand remaining rows head.rows head.row None last next;
-}
 
 -- ---- texts that are taken
 
@@ -63,7 +52,7 @@ taken {R} remaining texts text old new head holds opens heads width last =
           let one = last_of_zip Left old.heads.items head lists (subst (λ hs. AllZip Left hs lists) heads left) in
           subst (AllZip IsRowsText (texts ++ text ∷ [])) (sym one.2) (push_zip IsRowsText texts one.0 text one.1 (holds.rows one.0 one.3) (opens.rows one.1 one.4));
       behind = subst (AreBehind {R = R}) (sym heads)
-      (All-append (λ (h : Head R). IsBehind None h.rows h.row) old.heads.items (head ∷ []) holds.behind (All-cons (λ (h : Head R). IsBehind None h.rows h.row) head [] opens.behind (All-nil (λ (h : Head R). IsBehind None h.rows h.row))));
+          (All-append (λ (h : Head R). IsBehind None h.rows h.row) old.heads.items (head ∷ []) holds.behind (All-cons (λ (h : Head R). IsBehind None h.rows h.row) head [] opens.behind (All-nil (λ (h : Head R). IsBehind None h.rows h.row))));
       width = width ∙ holds.width;
       last = last ∙ holds.last;
     }
@@ -196,19 +185,6 @@ pub record Continues {R : Type 0} (remaining : R → Option (List ℕ)) (texts :
   pub behind : AreAllBehind merge
   pub whole : (lists : List (List Row)) (rows : List Row) (after : Option (List ℕ)) → AreAllLeft remaining merge.heads.items lists → IsPermutation (rows_in lists) rows → AreRows merge.width merge.last rows
       → Appends out after (text ++ text_of_rows rows) → MergesRows texts start after
-
-pub started : {R : Type 0} (remaining : R → Option (List ℕ)) (texts : List (Option (List ℕ))) (start : Option (List ℕ)) (merge : Merge R) (text : List ℕ) → HoldsTexts remaining texts merge → text ≡ [] → Continues remaining texts start merge start text
-started remaining texts start merge text holds empty = record {
-  behind = holds.behind;
-  whole = λ lists rows after left same ordered appends. record {
-      lists = lists;
-      rows = rows;
-      of_texts = holds.rows lists left;
-      all = same;
-      ordered = subst (λ w. AreRows w None rows) holds.width (subst (λ l. AreRows merge.width l rows) holds.last ordered);
-      written = subst (λ t. Appends start after (t ++ text_of_rows rows)) empty appends;
-    };
-}
 
 pub goes_on : {R : Type 0} (remaining : R → Option (List ℕ)) (texts : List (Option (List ℕ))) (start : Option (List ℕ)) (merge next : Merge R) (out : Option (List ℕ)) (text more : List ℕ)
     → Continues remaining texts start merge out text → Steps remaining merge next text more → Continues remaining texts start next out more

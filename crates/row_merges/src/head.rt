@@ -11,10 +11,7 @@ use std::alloc::Global;
 use std::io::Read;
 
 /// The next row of the text at a place.
-fn next_row<R: Read + Drop>(
-    rows: &mut RowLines<R>,
-    place: usize,
-) -> Result<Option<Row>, MergeFault>
+fn next_row<R: Read + Drop>(rows: &mut RowLines<R>, place: usize) -> Result<Option<Row>, MergeFault>
     ensures { IfOk result (λ row. IsNext R.remaining rows.old rows.new (Ok row)) }
 {
     match rows.advance() {

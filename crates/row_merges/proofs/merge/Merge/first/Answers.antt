@@ -17,7 +17,7 @@ loop-place-preserved g c =
     let inside : place < length heads = omega (arith, c.loop-place-test.true, c.len-place-end.ensures) in
     record {
       some = found_some heads place head found c.earlier-found.result inside c.index-head.ensures c.loop-place.invariant.some
-      (subst (λ (p : Option Pane). IfSome c.earlier-found.result (λ at. (found ≡ Some at) ⊎ ((at.0 ≡ place) × (p ≡ Some at.1)))) c.pane.ensures c.earlier-found.ensures.some);
+          (subst (λ (p : Option Pane). IfSome c.earlier-found.result (λ at. (found ≡ Some at) ⊎ ((at.0 ≡ place) × (p ≡ Some at.1)))) c.pane.ensures c.earlier-found.ensures.some);
       none = λ e.
           let both = c.earlier-found.ensures.none e in
           found_none heads place head inside c.index-head.ensures (c.loop-place.invariant.none both.0) (sym c.pane.ensures ∙ both.1);

@@ -1,0 +1,115 @@
+//! The parts of an input, each in a file.
+
+ghost use Rattle.std.specs.Prelude.{◌≡◌, ◌⊎◌, ◌≤◌, IfErr};
+ghost use Rattle.stream_model.specs.InputData.{BelongsTo};
+ghost use Rattle.part_command.specs.Splitting.{IsUnwritten, AnswersSplit, SplitsTexts};
+
+use crate::parting::{parts_of, read_input, text_of_part};
+use command_files::{file, save};
+use job_texts::JobFault;
+use key_groups::Parallelism;
+use logical_plan::ReadPlan;
+use plan_model::Plan;
+use std::alloc::{AllocError, Global};
+use std::random::RandomSource;
+use std::rt::Files;
+use stream_model::Input;
+
+/// The words of `split`.
+#[derive(Clone, Copy)]
+pub struct SplitWords<'a> {
+    /// The file of the plan.
+    pub plan: &'a str,
+    /// The file of the input.
+    pub input: &'a str,
+    /// In how many parts.
+    pub parts: &'a str,
+    /// What the names of the parts' files begin with.
+    pub out: &'a str,
+}
+
+/// The path of the part at a place.
+fn path_of(alloc: Global, out: &str, place: u32) -> Result<String, AllocError> {
+    format!(in alloc; "{out}.{place}")
+}
+
+/// Refuses to write a part over the plan or the input. Two names of one file are not told apart.
+fn check_apart(words: &SplitWords<'_>, path: &str) -> Result<(), JobFault>
+    ensures { IfErr result (λ fault. fault ≡ JobFault.Write) }
+{
+    if path == words.plan || path == words.input {
+        return Err(JobFault::Write);
+    }
+    Ok(())
+}
+
+/// The same for each part.
+fn check_all_apart<R: AllocGlobal>(
+    rt: &R,
+    words: &SplitWords<'_>,
+    parts: Parallelism,
+) -> Result<(), JobFault>
+    ensures { IfErr result IsUnwritten }
+{
+    for place in 0..parts.get() {
+        let path = path_of(rt.alloc(), words.out, place)?;
+        check_apart(words, path.as_str())?;
+    }
+    Ok(())
+}
+
+/// Writes the text of each part to its file.
+fn write_parts<R: Files + Print + RandomSource + AllocGlobal>(
+    rt: &R,
+    words: &SplitWords<'_>,
+    plan: &Plan,
+    parts: Parallelism,
+    input: &Input,
+) -> Result<(), JobFault>
+    requires fits { parts ≤ plan.now.max }
+    requires belongs { BelongsTo plan.now input.now }
+    ensures { IfErr result IsUnwritten }
+{
+    check_all_apart(rt, words, parts)?;
+    for place in 0..parts.get() {
+        let path = path_of(rt.alloc(), words.out, place)?;
+        let text = text_of_part(rt.alloc(), plan, parts, place, input)?;
+        save(rt, path.as_str(), text.as_bytes())?;
+    }
+    Ok(())
+}
+
+/// The same of a plan and an input that texts tell.
+#[tactic(auto, unfolding(crate::specs::Splitting::split_said))]
+fn split_texts<R: Files + Print + RandomSource + AllocGlobal>(
+    rt: &R,
+    words: &SplitWords<'_>,
+    plan: &[u8],
+    input: Vec<u8>,
+) -> Result<(), JobFault>
+    ensures { SplitsTexts plan.now input.items words.now.parts.now result }
+{
+    let plan = Plan::read(rt.alloc(), plan)?;
+    let parts = parts_of(&plan, words.parts)?;
+    let input = read_input(rt.alloc(), &plan, input)?;
+    write_parts(rt, words, &plan, parts, &input)
+}
+
+/// Writes the parts of an input, so many as a word spells, to files of one name with a point and the place of the part from 0
+/// behind it: each key's records in one of them, and all watermarks in each.
+///
+/// # Errors
+///
+/// `Read` where a file cannot be read; the plan's fault; `Number` where the number of parts is not 1 to the lesser of 64 and the
+/// plan's key groups; the input's fault; `Write` where a part's file cannot be written, or is the plan's or the input's; `Memory`.
+/// Each file then holds what it held or its part.
+pub fn split<R: Files + Print + RandomSource + AllocGlobal>(
+    rt: &R,
+    words: &SplitWords<'_>,
+) -> Result<(), JobFault>
+    ensures { AnswersSplit words.now.parts.now result }
+{
+    let plan = file(rt, words.plan)?;
+    let input = file(rt, words.input)?;
+    split_texts(rt, words, &plan, input)
+}
