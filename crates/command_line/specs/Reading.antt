@@ -5,11 +5,13 @@ use Rattle.clap.specs.Matches.{matched_of, one_text, raw_values}
 use Rattle.clap.specs.declared.parser.matches.Found.{Found}
 use Rattle.import_command.specs.declared.words.ImportWords.{ImportWords}
 use Rattle.leg_command.specs.declared.words.LegWords.{LegWords}
+use Rattle.part_command.specs.declared.splitting.SplitWords.{SplitWords}
 use Rattle.row_commands.specs.declared.exporting.ExportWords.{ExportWords}
+use Rattle.row_commands.specs.declared.merging.MergeWords.{MergeWords}
 use Rattle.commands.specs.declared.check_words.CheckWords.{CheckWords}
 use Rattle.commands.specs.declared.run_words.RunWords.{RunWords}
 use Rattle.commands.specs.declared.command.Command.{Command}
-use Rattle.commands.specs.declared.command.Command.TheVariants.{Run, Simulate, Leg, Cuts, Layout, Check, Import, Export, Diff, Show, Group, Explain, Version}
+use Rattle.commands.specs.declared.command.Command.TheVariants.{Run, Simulate, Leg, Cuts, Layout, Check, Import, Split, Export, Diff, Merge, Show, Group, Explain, Version}
 
 -- the word under a name
 abbrev pub word : Found → List ℕ → List ℕ
@@ -24,8 +26,10 @@ name_of (Cuts _ _ _ _) = codes "cuts"
 name_of (Layout _ _) = codes "layout"
 name_of (Check _) = codes "check"
 name_of (Import _ _) = codes "import"
+name_of (Split _) = codes "split"
 name_of (Export _ _) = codes "export"
 name_of (Diff _) = codes "diff"
+name_of (Merge _) = codes "rows"
 name_of (Show _) = codes "show"
 name_of (Group _ _ _) = codes "group"
 name_of (Explain _) = codes "explain"
@@ -90,6 +94,15 @@ HasExportWords words said =
     (said.rows.now ≡ word words (codes "ROWS")) × (said.columns.now ≡ word words (codes "COLUMNS")) × (option_map (λ w. w.now) said.names ≡ first_value words (codes "names"))
     × (option_map (λ w. w.now) said.header ≡ first_value words (codes "header")) × IsFlag words (codes "json") said.json
 
+-- the words of a split, each by its name
+abbrev pub HasSplitWords : Found → SplitWords → Type 0
+HasSplitWords words said =
+    (said.plan.now ≡ word words (codes "PLAN")) × (said.input.now ≡ word words (codes "INPUT")) × (said.parts.now ≡ word words (codes "N")) × (said.out.now ≡ word words (codes "OUT"))
+
+-- the words of a merge
+abbrev pub HasMergeWords : Found → MergeWords → Type 0
+HasMergeWords words said = map (λ w. w.now) said.files.now ≡ words_under words (codes "FILE")
+
 -- the words of a command, each by its name
 abbrev pub HasWords : Found → Command → Type 0
 HasWords words (Run said) = HasRunWords words said
@@ -101,8 +114,10 @@ HasWords words (Cuts plan input until stays_open) =
 HasWords words (Layout plan scale) = (plan.now ≡ word words (codes "PLAN")) × (scale.now ≡ word words (codes "SCALE"))
 HasWords words (Check said) = HasCheckWords words said
 HasWords words (Import plan said) = (plan.now ≡ word words (codes "PLAN")) × HasImportWords words said
+HasWords words (Split said) = HasSplitWords words said
 HasWords words (Export plan said) = (plan.now ≡ word words (codes "PLAN")) × HasExportWords words said
 HasWords words (Diff said) = (said.old.now ≡ word words (codes "OLD")) × (said.new.now ≡ word words (codes "NEW"))
+HasWords words (Merge said) = HasMergeWords words said
 HasWords words (Show savepoint) = savepoint.now ≡ word words (codes "SAVEPOINT")
 HasWords words (Group key max par) = (key.now ≡ word words (codes "KEY")) × (max.now ≡ word words (codes "MAX")) × (par.now ≡ word words (codes "PAR"))
 HasWords words (Explain code) = code.now ≡ word words (codes "CODE")
@@ -112,7 +127,7 @@ HasWords words Version = Unit {0}
 abbrev pub is_command : List ℕ → Bool
 is_command name =
     bytes_eq name (codes "run") || (bytes_eq name (codes "simulate") || (bytes_eq name (codes "leg") || (bytes_eq name (codes "cuts") || (bytes_eq name (codes "layout") || (bytes_eq name (codes "check") || (bytes_eq name (codes "import")
-    || (bytes_eq name (codes "export") || (bytes_eq name (codes "diff") || (bytes_eq name (codes "show") || (bytes_eq name (codes "group") || (bytes_eq name (codes "explain") || bytes_eq name (codes "version"))))))))))))
+    || (bytes_eq name (codes "split") || (bytes_eq name (codes "export") || (bytes_eq name (codes "diff") || (bytes_eq name (codes "rows") || (bytes_eq name (codes "show") || (bytes_eq name (codes "group") || (bytes_eq name (codes "explain") || bytes_eq name (codes "version"))))))))))))))
 
 -- the command of a name, with the words after it; no other name has one
 abbrev pub IsRead : List ℕ → Found → Option Command → Type 0

@@ -89,6 +89,13 @@ export_shape = record export_files_shape { rules = export_files_shape.rules ++ o
 abbrev pub diff_shape : Shape
 diff_shape = command_shape (codes "diff") (codes "OLD" ∷ codes "NEW" ∷ [])
 
+-- one file of rows, or more
+abbrev pub rows_shape : Shape
+rows_shape = record (new_shape (codes "rows")) { rules = several_rule (codes "FILE") ∷ [] }
+
+abbrev pub split_shape : Shape
+split_shape = command_shape (codes "split") (codes "PLAN" ∷ codes "INPUT" ∷ codes "N" ∷ codes "OUT" ∷ [])
+
 abbrev pub show_shape : Shape
 show_shape = command_shape (codes "show") (codes "SAVEPOINT" ∷ [])
 
@@ -110,19 +117,19 @@ abbrev pub jobs : App
 jobs = with_subcommand (with_subcommand (with_subcommand top run_shape) simulate_shape) leg_shape
 
 abbrev pub texts : App
-texts = with_subcommand (with_subcommand (with_subcommand (with_subcommand jobs import_shape) cuts_shape) layout_shape) check_shape
+texts = with_subcommand (with_subcommand (with_subcommand (with_subcommand (with_subcommand jobs import_shape) split_shape) cuts_shape) layout_shape) check_shape
 
 abbrev pub tables : App
-tables = with_subcommand (with_subcommand texts export_shape) diff_shape
+tables = with_subcommand (with_subcommand (with_subcommand texts export_shape) diff_shape) rows_shape
 
 abbrev pub views : App
 views = with_subcommand (with_subcommand tables show_shape) group_shape
 
--- and that is one of thirteen
+-- and that is one of fifteen
 abbrev pub program : App
 program = record {
   top = record top.top { is_leaf = false };
-  subs = run_shape ∷ simulate_shape ∷ leg_shape ∷ import_shape ∷ cuts_shape ∷ layout_shape ∷ check_shape ∷ export_shape ∷ diff_shape ∷ show_shape ∷ group_shape ∷ explain_shape ∷ version_shape ∷ [];
+  subs = run_shape ∷ simulate_shape ∷ leg_shape ∷ import_shape ∷ split_shape ∷ cuts_shape ∷ layout_shape ∷ check_shape ∷ export_shape ∷ diff_shape ∷ rows_shape ∷ show_shape ∷ group_shape ∷ explain_shape ∷ version_shape ∷ [];
 }
 
 -- a command of such a shape, without commands below it

@@ -3,6 +3,7 @@
 
 mod advice;
 mod outcomes;
+mod part_words;
 mod reading;
 mod statuses;
 mod table_words;

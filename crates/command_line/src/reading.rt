@@ -2,13 +2,14 @@
 
 ghost use Rattle.std.specs.Prelude.{◌≡◌, option_map};
 ghost use Rattle.clap.specs.Words.{found_of, subcommand_name_of};
-ghost use Rattle.command_line.specs.Reading.{word, scale_word, HasCheckWords, HasExportWords, HasImportWords, HasLegWords, HasRunWords, IsFound, IsRead};
+ghost use Rattle.command_line.specs.Reading.{word, scale_word, HasCheckWords, HasExportWords, HasImportWords, HasLegWords, HasMergeWords, HasRunWords, HasSplitWords, IsFound, IsRead};
 
 use clap::ArgMatches;
 use commands::{CheckWords, Command, RunWords};
 use import_command::ImportWords;
 use leg_command::LegWords;
-use row_commands::{DiffWords, ExportWords};
+use part_command::SplitWords;
+use row_commands::{DiffWords, ExportWords, MergeWords};
 
 fn named<'a>(words: &ArgMatches<'a>, name: &str) -> &'a str
     ensures { result.now ≡ word (found_of words.now) name.now }
@@ -76,6 +77,27 @@ fn export_words<'m>(words: &'m ArgMatches<'_>) -> ExportWords<'m>
     }
 }
 
+/// The words of a split.
+fn split_words<'m>(words: &'m ArgMatches<'_>) -> SplitWords<'m>
+    ensures { HasSplitWords (found_of words.now) result }
+{
+    SplitWords {
+        plan: named(words, "PLAN"),
+        input: named(words, "INPUT"),
+        parts: named(words, "N"),
+        out: named(words, "OUT"),
+    }
+}
+
+/// The words of a merge.
+fn merge_words<'m>(words: &'m ArgMatches<'_>) -> MergeWords<'m>
+    ensures { HasMergeWords (found_of words.now) result }
+{
+    MergeWords {
+        files: words.get_strs("FILE").unwrap_or(&[]),
+    }
+}
+
 /// The words of a run.
 fn run_words<'m>(words: &'m ArgMatches<'_>) -> RunWords<'m>
     ensures { HasRunWords (found_of words.now) result }
@@ -122,6 +144,16 @@ fn command_in<'m>(name: &str, words: &'m ArgMatches<'_>) -> Option<Command<'m>>
         return Some(Command::Export {
             plan: named(words, "PLAN"),
             words: export_words(words),
+        });
+    }
+    if name == "split" {
+        return Some(Command::Split {
+            words: split_words(words),
+        });
+    }
+    if name == "rows" {
+        return Some(Command::Merge {
+            words: merge_words(words),
         });
     }
     if name == "check" {

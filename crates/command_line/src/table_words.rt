@@ -1,9 +1,9 @@
 //! The words of the commands on texts of rows.
 
 ghost use Rattle.std.specs.Prelude.{IfOk};
-ghost use Rattle.command_line.specs.Words.{IsCommand, diff_shape, export_files_shape, export_shape};
+ghost use Rattle.command_line.specs.Words.{IsCommand, diff_shape, export_files_shape, export_shape, rows_shape};
 
-use crate::words::{PLAN, flag, named, option, required};
+use crate::words::{PLAN, flag, named, option, required, several};
 use clap::Command;
 use std::alloc::{AllocError, Global};
 
@@ -77,4 +77,24 @@ pub(crate) fn diff_words<'a>(alloc: Global) -> Result<Command<'a>, AllocError>
     let command = named(alloc, "diff", about, DIFF);
     let command = required(alloc, command, "OLD", "File of the old rows")?;
     required(alloc, command, "NEW", "File of the new rows")
+}
+
+const ROWS: &str = "\
+The rows of all files come in the order of START and KEY, as `run` prints those of one job. No two
+files have a row of one START and KEY. Each file is read once, side by side with the others.
+
+Example: streamjob rows rows.0 rows.1 rows.2
+Page: docs/FORMATS.md, under Rows";
+
+pub(crate) fn rows_words<'a>(alloc: Global) -> Result<Command<'a>, AllocError>
+    ensures { IfOk result (λ c. IsCommand rows_shape c) }
+{
+    let about = "Print the rows of several texts as one";
+    let command = named(alloc, "rows", about, ROWS);
+    several(
+        alloc,
+        command,
+        "FILE",
+        "File of rows, as `run` prints them; may be repeated",
+    )
 }

@@ -5,7 +5,8 @@ ghost use Rattle.clap.specs.Words.{app_of, new_rule};
 ghost use Rattle.clap.specs.Simple.{new_shape};
 ghost use Rattle.command_line.specs.Words.{AddsRule, IsCommand, required_rule, option_rule, flag_rule, several_rule, run_shape, simulate_shape, leg_files_shape, leg_stops_shape, leg_shape, cuts_shape, layout_shape, check_files_shape, check_shape, import_files_shape, import_names_shape, import_late_shape, import_aside_shape, import_zone_shape, import_shape, show_shape, group_shape, explain_shape, version_shape, top, jobs, texts, tables, views, program};
 
-use crate::table_words::{diff_words, export_words};
+use crate::part_words::split_words;
+use crate::table_words::{diff_words, export_words, rows_words};
 use clap::{Arg, ArgAction, Command};
 use std::alloc::{AllocError, Global};
 
@@ -41,7 +42,7 @@ fn optional<'a>(
 }
 
 /// With one word more, that has to be there and may come several times.
-fn several<'a>(
+pub(crate) fn several<'a>(
     alloc: Global,
     command: Command<'a>,
     name: &'a str,
@@ -83,7 +84,7 @@ pub(crate) fn flag<'a>(
 pub(crate) const PLAN: &str =
     "JSON file of the job: sources, filters, and one window with its aggregates";
 
-const INPUT: &str =
+pub(crate) const INPUT: &str =
     "JSON file of the records: for each source its partitions, with rows and watermarks";
 
 const SCALE: &str = "JSON file of the scale: a ring's capacity and each operator's parallelism";
@@ -608,6 +609,7 @@ fn with_texts<'a>(alloc: Global) -> Result<Command<'a>, AllocError>
 {
     with_jobs(alloc)?
         .subcommand(import_words(alloc)?)?
+        .subcommand(split_words(alloc)?)?
         .subcommand(cuts_words(alloc)?)?
         .subcommand(layout_words(alloc)?)?
         .subcommand(check_words(alloc)?)
@@ -619,7 +621,8 @@ fn with_tables<'a>(alloc: Global) -> Result<Command<'a>, AllocError>
 {
     with_texts(alloc)?
         .subcommand(export_words(alloc)?)?
-        .subcommand(diff_words(alloc)?)
+        .subcommand(diff_words(alloc)?)?
+        .subcommand(rows_words(alloc)?)
 }
 
 /// The same with those that show a savepoint and a key's group.

@@ -11,9 +11,10 @@ use Rattle.commands.specs.Running.{AnswersRun}
 use Rattle.commands.specs.Answers.{AnswersSimulate, AnswersCuts, AnswersLayout, AnswersShow, AnswersGroup, AnswersExplain}
 use Rattle.commands.specs.Checking.{AnswersCheck}
 use Rattle.commands.specs.Importing.{AnswersImport}
-use Rattle.commands.specs.Tables.{AnswersDiff, AnswersExport}
+use Rattle.commands.specs.Tables.{AnswersDiff, AnswersExport, AnswersMerge}
+use Rattle.part_command.specs.Splitting.{AnswersSplit}
 use Rattle.commands.specs.declared.command.Command.{Command}
-use Rattle.commands.specs.declared.command.Command.TheVariants.{Run, Simulate, Leg, Cuts, Layout, Check, Import, Export, Diff, Show, Group, Explain, Version}
+use Rattle.commands.specs.declared.command.Command.TheVariants.{Run, Simulate, Leg, Cuts, Layout, Check, Import, Split, Export, Diff, Merge, Show, Group, Explain, Version}
 use Rattle.commands.specs.declared.fault.CommandFault.{CommandFault}
 use Rattle.commands.specs.declared.fault.CommandFault.TheVariants.{Job, Receipt, NoPage}
 
@@ -50,8 +51,10 @@ Performs (Cuts plan input until stays_open) result = Comes after_command (Answer
 Performs (Layout plan scale) result = Comes after_command AnswersLayout result
 Performs (Check words) result = Comes after_command (AnswersCheck words) result
 Performs (Import plan words) result = AnswersImport result
+Performs (Split words) result = Comes after_command (AnswersSplit words.parts.now) result
 Performs (Export plan words) result = AnswersExport result
 Performs (Diff words) result = AnswersDiff result
+Performs (Merge words) result = AnswersMerge result
 Performs (Show savepoint) result = Comes after_command AnswersShow result
 Performs (Group key max par) result = Comes after_command (AnswersGroup key.now max.now par.now) result
 Performs (Explain code) result = Comes after_text (AnswersExplain code.now) result

@@ -19,3 +19,7 @@ AnswersExport result =
 -- this is what comes of some comparison
 abbrev pub AnswersDiff : Result (Unit {0}) CommandFault → Type 0
 AnswersDiff result = (answer : Result (Unit {0}) RowsRefusal) × (result ≡ after_rows answer)
+
+-- this is what comes of some merge
+abbrev pub AnswersMerge : Result (Unit {0}) CommandFault → Type 0
+AnswersMerge result = (answer : Result (Unit {0}) RowsRefusal) × (result ≡ after_rows answer)

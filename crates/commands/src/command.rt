@@ -4,7 +4,8 @@ use crate::check_words::CheckWords;
 use crate::run_words::RunWords;
 use import_command::ImportWords;
 use leg_command::LegWords;
-use row_commands::{DiffWords, ExportWords};
+use part_command::SplitWords;
+use row_commands::{DiffWords, ExportWords, MergeWords};
 
 /// What the program is to do.
 #[derive(Drop)]
@@ -45,6 +46,10 @@ pub enum Command<'a> {
         plan: &'a str,
         words: ImportWords<'a>,
     },
+    /// Write the parts of an input, so that several jobs come to the rows of one.
+    Split {
+        words: SplitWords<'a>,
+    },
     /// Print the rows of a plan as a table, by the columns that they were imported from.
     Export {
         plan: &'a str,
@@ -53,6 +58,10 @@ pub enum Command<'a> {
     /// Print what changed between two texts of rows.
     Diff {
         words: DiffWords<'a>,
+    },
+    /// Print the rows of several texts as one.
+    Merge {
+        words: MergeWords<'a>,
     },
     /// Print what a savepoint holds.
     Show {

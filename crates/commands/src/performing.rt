@@ -7,8 +7,9 @@ use crate::checking::check;
 use crate::command::Command;
 use crate::fault::{CommandFault, after_job, after_leg, after_page};
 use crate::importing::import;
-use crate::tables::{diff, export};
+use crate::tables::{diff, export, merge};
 use leg_command::leg;
+use part_command::split;
 use std::random::RandomSource;
 use std::rt::Files;
 use std::sync::Wait;
@@ -50,8 +51,10 @@ pub fn performed<
         Command::Layout { plan, scale } => after_job(layout(rt, plan, scale)),
         Command::Check { words } => after_job(check(rt, words)),
         Command::Import { plan, words } => import(rt, plan, words),
+        Command::Split { words } => after_job(split(rt, words)),
         Command::Export { plan, words } => export(rt, plan, words),
         Command::Diff { words } => diff(rt, words),
+        Command::Merge { words } => merge(rt, words),
         Command::Show { savepoint } => after_job(show(rt, savepoint)),
         Command::Group { key, max, par } => after_job(group(rt, key, max, par)),
         Command::Explain { code } => after_page(explain(rt, code)),

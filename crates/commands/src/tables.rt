@@ -1,12 +1,12 @@
 //! What the commands on texts of rows do.
 
 ghost use Rattle.std.specs.Prelude.{◌≡◌};
-ghost use Rattle.commands.specs.Tables.{AnswersDiff, AnswersExport, after_rows};
+ghost use Rattle.commands.specs.Tables.{AnswersDiff, AnswersExport, AnswersMerge, after_rows};
 
 use crate::fault::CommandFault;
 use crate::importing::plan_at;
 use plan_model::Plan;
-use row_commands::{DiffWords, ExportWords, RowsRefusal};
+use row_commands::{DiffWords, ExportWords, MergeWords, RowsRefusal};
 use std::io::{Write, writer};
 use std::random::RandomSource;
 use std::rt::Files;
@@ -64,4 +64,18 @@ pub fn diff<R: Files + Print + AllocGlobal>(
     ensures { AnswersDiff result }
 {
     after_rows(row_commands::diff(rt, words, &mut writer(rt)))
+}
+
+/// Prints the rows of several texts as one.
+///
+/// # Errors
+///
+/// The fault of the first text that is none of rows in order, or of one that has a row where another has.
+pub fn merge<R: Files + Print + AllocGlobal>(
+    rt: &R,
+    words: &MergeWords<'_>,
+) -> Result<(), CommandFault>
+    ensures { AnswersMerge result }
+{
+    after_rows(row_commands::merge(rt, words, &mut writer(rt)))
 }

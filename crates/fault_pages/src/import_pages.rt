@@ -321,6 +321,8 @@ $ streamjob diff rows.txt rows.txt
 T2 Order rows.txt:2: the row is not behind the one before it, by its start and then its key
 ```
 
+`rows` also says it of a row whose start and key another file has a row of.
+
 Sort the rows, as by `sort -n -k1,1 -k3,3`; a start and key that stand there twice are those of several runs.
 "#,
     ),

@@ -94,7 +94,8 @@ Standard output took no more: the disk is full, or the other end of a pipe is cl
 is not known. `leg --save` also says it where the file cannot be written: a folder stands there, its folder is missing
 or takes no files of yours, or the disk is full. Then no row was printed, and the file is as it was. So does `import`,
 of INPUT and of the files of `--names` and `--late`; and where one of them is named twice, or is a file of a source too,
-since one would be written over the other. Two names of one file are not told apart there. `leg --save FILE > FILE`
+since one would be written over the other. `split` says it of a part's file that cannot be written, or is PLAN or INPUT.
+Two names of one file are not told apart there. `leg --save FILE > FILE`
 is refused so before anything is written, by each name of the file but a hard link.
 
 What is no regular file of a name of its own is written to as it stands, behind what it holds: a pipe, a device,

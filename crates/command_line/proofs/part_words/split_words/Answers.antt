@@ -1,0 +1,5 @@
+use Rattle.command_line.proofs.Shapes.{last}
+use Rattle.command_line.proofs.part_words.split_words.Goals as goal
+
+pub returns : goal.returns
+returns c = last _ _ _ _ c.required-4.ensures (c.in_ok-command-3.ensures _ (c.in_ok-command-2.ensures _ (c.in_ok-command.ensures _ c.named-command.ensures)))
