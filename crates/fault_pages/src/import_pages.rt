@@ -124,8 +124,9 @@ Put a text with a comma between double quotes, and double a quote within.
 
 The text of a field, or of a member, is not what its column says: it is no number, has more decimal places than the
 column keeps, does not fit 64 bits, is no time in ISO 8601 with its zone, is finer than milliseconds or in no calendar,
-is one that clocks of `--zone` show twice or never where no `--fold` says which is meant, or is an empty name, or one that is no UTF-8. Nothing is rounded, and an empty field is no number. Of an NDJSON file a
-member that a column asks for may also be null, a list or an object, which have no text.
+is one that clocks of `--zone` show twice or never where no `--fold` says which is meant, or is an empty name, or one
+that is no UTF-8. Nothing is rounded, and an empty field is no number. Of an NDJSON file a member that a column asks for
+may also be null, a list or an object, which have no text.
 
 ```csv calls.csv
 at,key

@@ -36,7 +36,8 @@ says it of `--parallelism` where it is not 1 to 5 digits, and beside a list of l
 `--from` and `--stop` where no INPUT is named; `leg` of `--since` without `--from`, and where `--save` and `--receipt`
 name one file; `leg` and `run` of `--names` where no receipt is named; `run` of `--receipt` beside a list of legs;
 `export` of `--header` where it is neither `yes` nor `no`, or beside `--json`, and of `--json` where two numbers of a
-row would be called the same.
+row would be called the same; `split` of N where it is not 1 to 5 digits, from 1 to 64 and at most the plan's
+`maxParallelism`.
 
 ```console
 $ streamjob group 7 128 65
