@@ -2,13 +2,13 @@
 use Rattle.std.proofs.Common.{◌≡◌, ℕ, zero, suc, ◌+◌, ◌<◌, ◌≤◌, Bool, true, false, List, [], ◌∷◌, length, get_or, take, refl, sym, ap, subst, ◌∙◌, inl, inr, arith, if◌then◌else◌}
 use Rattle.std.specs.Prelude.{slice_index, slice_index_or}
 use Rattle.std.specs.FinMap.{get}
-use Rattle.std.specs.List.{AllByRecursion}
+use Rattle.std.specs.List.{AllByRecursion, AllZip}
 use Rattle.std.proofs.lemmas.Bool.{cases_Bool, cases_eq, cases_lt, eq-eqb, ne_eqb, false≢true}
 use Rattle.std.proofs.lemmas.List.{get_or_default, take_all}
 use Rattle.plan_model.specs.declared.spec.Row.{Row}
 use Rattle.plan_model.specs.declared.limits.TheConstants.{MOST_RECORDS}
 use Rattle.plan_model.specs.Rows.{AreRowsOf}
-use Rattle.stream_model.specs.Watermarks.{IsCut}
+use Rattle.stream_model.specs.Watermarks.{IsCut, IsBefore}
 use Rattle.dataflow_model.specs.AbstractLayout.{AbstractLayout}
 use Rattle.dataflow_model.specs.Ending.{may_stop}
 use Rattle.dataflow_model.specs.Steps.{barriers}
@@ -21,6 +21,7 @@ use Rattle.dataflow_laws.specs.World.{with_task}
 use Rattle.dataflow_laws.proofs.Facts.{aligned_is_complete, compiled_savepoint_delivers, compiled_savepoint_keeps_panes, few_before, kept_is_counted, stopped_is_complete, worlds_are_histories}
 use Rattle.redistribute.specs.StartData.{offsets_of}
 use Rattle.redistribute.specs.Begins.{HasSnapshot}
+use Rattle.redistribute.specs.Stopping.{Rises}
 use Rattle.redistribute.proofs.Facts.{tasks_have_own_panes, tasks_have_snapshot}
 use Rattle.task_steps.specs.TaskData.{TaskData}
 use Rattle.leg_tasks.specs.Leaving.{HaveStates, savepoint_left}
@@ -46,6 +47,29 @@ all_at : {X : Type 0} (P : X → Type 0) (xs : List X) (n : ℕ) (d : X) → All
 all_at P [] n d all l = absurd (omega (arith, l))
 all_at P (x ∷ xs) zero d all l = all.0
 all_at P (x ∷ xs) (suc n) d all l = all_at P xs n d all.1 (omega (arith, l))
+
+-- of three cuts that rise the first is no later than the last
+before_both : (a b c : List ℕ) → AllZip (λ m n. m ≤ n) a b → AllZip (λ m n. m ≤ n) b c → AllZip (λ m n. m ≤ n) a c
+before_both [] [] [] x y = tt
+before_both [] [] (n ∷ ns) x y = absurd y
+before_both [] (m ∷ ms) c x y = absurd x
+before_both (k ∷ ks) [] c x y = absurd x
+before_both (k ∷ ks) (m ∷ ms) [] x y = absurd y
+before_both (k ∷ ks) (m ∷ ms) (n ∷ ns) x y = (let one = x.0 in let two = y.0 in omega (arith, one, two), before_both ks ms ns x.1 y.1)
+
+earlier_both : (a b c : List (List ℕ)) → IsBefore a b → IsBefore b c → IsBefore a c
+earlier_both [] [] [] x y = tt
+earlier_both [] [] (n ∷ ns) x y = absurd y
+earlier_both [] (m ∷ ms) c x y = absurd x
+earlier_both (k ∷ ks) [] c x y = absurd x
+earlier_both (k ∷ ks) (m ∷ ms) [] x y = absurd y
+earlier_both (k ∷ ks) (m ∷ ms) (n ∷ ns) x y = (before_both k m n x.0 y.0, earlier_both ks ms ns x.1 y.1)
+
+-- each of cuts that rise from one is no earlier
+rises_to : (begin : List (List ℕ)) (cuts : List (List (List ℕ))) (m : ℕ) → Rises begin cuts → m < length cuts → IsBefore begin (get_or cuts m [])
+rises_to begin [] m rises l = absurd (omega (arith, l))
+rises_to begin (c ∷ cs) zero rises l = rises.0
+rises_to begin (c ∷ cs) (suc m) rises l = earlier_both begin c (get_or cs m []) rises.0 (rises_to c cs m rises.1 (omega (arith, l)))
 
 -- ---- at a barrier that every task has passed
 
@@ -101,7 +125,7 @@ module _ (g : GivenData) (given : IsGiven g) (states : ℕ → State) (come : Ha
       let most = few_before g.input c given.input in
       record {
         at = c;
-        is = record { is_cut = is_cut; on_the_way = λ _. refl; at_the_stop = λ end past _. absurd (omega (arith, few, past)) };
+        is = record { is_cut = is_cut; no_earlier = rises_to (offsets_of g.start) g.saves m given.saves.rises few; on_the_way = λ _. refl; at_the_stop = λ end past _. absurd (omega (arith, few, past)) };
         own = λ u lo hi q a e. let y = own u lo hi q a e in (y.0, omega (arith, y.1, most));
         kept = λ has. compiled_savepoint_delivers g.plan given.laid_out.scale g.input g.start.number (offsets_of g.start) g.saves g.until g.layout.stages (start_in g) m given.plan given.laid_out.fits (compiled g given) given.input given.orderly given.belongs
             given.starts.cut few is_cut is_sound.start (opens has) h passed;
@@ -131,7 +155,7 @@ module _ (g : GivenData) (given : IsGiven g) (states : ℕ → State) (come : Ha
       let some = is_sound.layout.some_windows in
       record {
         at = cut g h.end e;
-        is = record { is_cut = (came g h.end e).1.is_cut; on_the_way = λ few. absurd (omega (arith, few, past)); at_the_stop = λ end _ to. ((came g h.end e).1.to_cut end to).1 };
+        is = record { is_cut = (came g h.end e).1.is_cut; no_earlier = (came g h.end e).1.no_earlier; on_the_way = λ few. absurd (omega (arith, few, past)); at_the_stop = λ end _ to. ((came g h.end e).1.to_cut end to).1 };
         own = λ u lo hi q a here. own u lo hi q a (ap (λ (k : Kept). get k.windows q) (sym (now u (omega (arith, hi)))) ∙ here);
         kept = λ has.
             let all = leg g h.end e has in

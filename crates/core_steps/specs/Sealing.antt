@@ -2,7 +2,7 @@
 use Rattle.std.specs.Prelude.{◌≡◌, ℕ, suc, ◌+◌, ◌<◌, ◌≤◌, List, [], length, slice_index_or, Option, Some, None, true}
 use Rattle.std.specs.List.{All}
 use Rattle.plan_model.specs.Rows.{AreRowsOf}
-use Rattle.stream_model.specs.Watermarks.{IsCut}
+use Rattle.stream_model.specs.Watermarks.{IsCut, IsBefore}
 use Rattle.dataflow_model.specs.Leg.Until.{ToCut}
 use Rattle.dataflow_model.specs.State.{State}
 use Rattle.dataflow_model.specs.History.{History}
@@ -49,9 +49,10 @@ pub record AreOnTheWay (g : GivenData) (tasks : List TaskData) : Type 0 where
   pub placed : (t : ℕ) (d : TaskData) → t < task_count g.layout.stages → IsPlaced g.plan g.input ((layout_in g).task t) (slice_index_or tasks t d)
   pub come : HasCome g (state_at g tasks)
 
--- the cut of a leg's barrier m, counted from 0: of a savepoint on the way the one that it was to be taken at, and of the stop the one that the leg was to stop at
+-- the cut of a leg's barrier m, counted from 0, which is no earlier than where the leg began: of a savepoint on the way the one that it was to be taken at, and of the stop the one that the leg was to stop at
 pub record IsBarrierCut (g : GivenData) (m : ℕ) (cut : List (List ℕ)) : Type 0 where
   pub is_cut : IsCut g.input.sources cut
+  pub no_earlier : IsBefore (offsets_of g.start) cut
   pub on_the_way : m < length g.saves → cut ≡ slice_index_or g.saves m []
   pub at_the_stop : (end : List (List ℕ)) → length g.saves ≤ m → g.until ≡ ToCut end → cut ≡ end
 
