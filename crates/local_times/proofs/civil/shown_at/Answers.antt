@@ -1,9 +1,7 @@
-use Rattle.std.proofs.Common.{rules, ◌≡◌, ◌+ℤ◌, ℤ, pos, ap, ◌∙◌}
+use Rattle.std.proofs.Common.{rules, ◌≡◌, ◌+ℤ◌, pos, ◌∙◌}
 use Rattle.std.proofs.Math.IntN.{+ℤ_idr}
 use Rattle.jiff_core.specs.DateTime.{civil_nanos}
-use Rattle.jiff_core.specs.Timestamp.{nanos_of_seconds}
 use Rattle.jiff_tz.specs.Zone.{offset_at}
-use Rattle.jiff_tz.specs.declared.timezone.TimeZone.TheVariants.{UTC}
 use Rattle.local_times.proofs.civil.shown_at.Goals as goal
 
 pub returns-in-Ok : goal.returns-in-Ok

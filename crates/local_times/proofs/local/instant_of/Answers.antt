@@ -1,7 +1,6 @@
-use Rattle.std.proofs.Common.{rules, ◌≡◌, pos, ℤ, None, Some, Err, inl, sym, ap, ◌∙◌}
+use Rattle.std.proofs.Common.{rules, ◌≡◌, None, Some, inl, sym, ap, ◌∙◌}
 use Rattle.jiff_core.specs.DateTime.{civil_nanos}
 use Rattle.jiff_tz.specs.Zone.{ambiguous_at}
-use Rattle.field_values.specs.declared.fault.FieldFault.TheVariants.{NoSuchTime}
 use Rattle.local_times.specs.Local.{chosen_offset, at_offset}
 use Rattle.local_times.specs.Units.{nanos_in}
 use Rattle.local_times.proofs.local.instant_of.Goals as goal
