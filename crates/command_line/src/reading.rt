@@ -35,6 +35,7 @@ fn import_words<'m>(words: &'m ArgMatches<'_>) -> ImportWords<'m>
         zones: words.get_str("zones"),
         zone: words.get_str("zone"),
         fold: words.get_str("fold"),
+        separator: words.get_str("separator"),
         is_aligned: words.get_flag("align"),
         rows: words.get_str("rows"),
     }

@@ -506,12 +506,19 @@ fn import_words<'a>(alloc: Global) -> Result<Command<'a>, AllocError>
         "FILE",
         "File to write to how many records of each file went where",
     )?;
-    option(
+    let command = option(
         alloc,
         command,
         "zones",
         "FOLDER",
         "Folder of the time zones (/usr/share/zoneinfo)",
+    )?;
+    option(
+        alloc,
+        command,
+        "separator",
+        "C",
+        "What stands between the fields of CSV: one character, or `tab` (,)",
     )
 }
 

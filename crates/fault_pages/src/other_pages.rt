@@ -63,7 +63,9 @@ $ streamjob import plan.json new.json at,key calls=calls.csv --twice twice.csv
 C3 Options --twice stands without --once
 ```
 
-Name by `--once` the fields in which such records are the same, and by `--zone` the zone of times that have none.
+Name by `--once` the fields in which such records are the same, and by `--zone` the zone of times that have none. So it
+is with the word of `--separator`, where it is neither `tab` nor one character of ASCII that is no quotation mark and
+ends no line.
 "#,
     ),
     (

@@ -4,12 +4,14 @@ ghost use Rattle.std.specs.Prelude.{◌≡◌};
 ghost use Rattle.import_words.specs.Files.{parts};
 ghost use Rattle.import_words.specs.Judging.{IsRefusal};
 ghost use Rattle.import_command.specs.Once.{column_of, GivesPlaces, GivesOnce};
+ghost use Rattle.import_command.specs.Separating.{GivesSeparator};
 
 use columns::MOST_ROWS;
 use field_values::are_digits;
 use import_columns::Column;
 use import_entries::{EntryRule, WindowEnds};
 use import_words::{ImportCode, ImportFault, refused};
+use imports::Separator;
 use plan_model::WindowSpec;
 use std::alloc::Global;
 
@@ -28,6 +30,8 @@ pub struct ImportWords<'a> {
     pub bound: Option<&'a str>,
     /// The file for late records.
     pub late: Option<&'a str>,
+    /// What stands between the fields of CSV: a comma, where no word says so.
+    pub separator: Option<&'a str>,
     /// The folder of the zones: that of the system, where no word says so.
     pub zones: Option<&'a str>,
     /// The zone of times that have none.
@@ -108,6 +112,34 @@ pub(crate) fn entry_rule(
     match rule_with(rows, bound) {
         Some(rule) => Ok(rule_at_ends(rule, words, window)),
         None => Err(refused_number(alloc, "--rows", words.rows.unwrap_or(""), "1 to 4096")),
+    }
+}
+
+fn refused_separator(alloc: Global, word: &str) -> ImportFault
+    ensures { IsRefusal ImportCode.Options result }
+{
+    refused(
+        ImportCode::Options,
+        format!(in alloc;
+            "--separator: {word:?} is neither `tab` nor one character of ASCII that is no quotation mark"
+        ),
+    )
+}
+
+/// What stands between the fields of CSV.
+///
+/// # Errors
+///
+/// `Options` where a word says no separator; `Memory`.
+pub(crate) fn separator_of(alloc: Global, word: Option<&str>) -> Result<Separator, ImportFault>
+    ensures { GivesSeparator word.entry result }
+{
+    let Some(word) = word else {
+        return Ok(Separator::COMMA);
+    };
+    match Separator::said_by(word) {
+        Some(separator) => Ok(separator),
+        None => Err(refused_separator(alloc, word)),
     }
 }
 

@@ -15,7 +15,7 @@ use import_columns::Column;
 use import_entries::EntryRule;
 use import_fates::FateCounts;
 use import_words::{ImportFault, files_of};
-use imports::{FirstHeader, Records, RowFault, fields_of, refused_file, refused_row};
+use imports::{FirstHeader, Records, RowFault, Separator, fields_of, refused_file, refused_row};
 use name_table::NameTable;
 use plan_model::SourceSpec;
 use std::alloc::Global;
@@ -45,6 +45,8 @@ pub struct ImportRule<'i> {
     pub columns: &'i [Column<'i>],
     /// Which of them is the time.
     pub time: usize,
+    /// What stands between the fields of CSV.
+    pub separator: Separator,
     /// What is asked of the entries.
     pub entries: EntryRule,
     /// What tells records from one another, if anything does: of those that are the same the first is a row.
@@ -130,7 +132,7 @@ fn copy_file<'f, R: Files + AllocGlobal, W: Write, L: Write + Drop>(
         Ok(opened) => opened,
         Err(error) => return Err(open_fault(rt.alloc(), file, &error)),
     };
-    let Ok(mut rows) = Records::new(rt.alloc(), file, opened) else {
+    let Ok(mut rows) = Records::new(rt.alloc(), file, opened, rule.separator) else {
         return Err(ImportFault::Memory);
     };
     match copy_rows(

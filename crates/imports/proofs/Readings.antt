@@ -28,13 +28,13 @@ known config state text (Some rest) is_there fields later is = (rest, refl, is)
 known_source : {R : Type 0} (remaining : R → Option (List ℕ)) (new : Reader R) → new.bom_checked ≡ true → source_of remaining new ≡ pending_of (remaining new.rdr) new
 known_source remaining new is = rw is refl
 
-pub read_row : {R : Type 0} (remaining : R → Option (List ℕ)) (old new : CsvReader R) (is_there : Bool) (fields : List (List ℕ)) (state : State) (text : List ℕ)
-    → StandsIn remaining old state text → ReadRecord remaining (reader_in old) (reader_in new) is_there fields → (is_there ≡ true → ReadsOn (reader_in old) (reader_in new))
-    → ReadsRow remaining state text new is_there fields
-read_row remaining old new false fields state text stands read on =
+pub read_row : {R : Type 0} (remaining : R → Option (List ℕ)) (old new : CsvReader R) (is_there : Bool) (fields : List (List ℕ)) (separator : ℕ) (state : State) (text : List ℕ)
+    → StandsIn remaining separator old state text → ReadRecord remaining (reader_in old) (reader_in new) is_there fields → (is_there ≡ true → ReadsOn (reader_in old) (reader_in new))
+    → ReadsRow remaining separator state text new is_there fields
+read_row remaining old new false fields separator state text stands read on =
     let next = known _ _ _ _ _ _ _ (rw (stands.config, stands.state_is, stands.source) at read.0) in
     found _ false fields _ _ next.2
-read_row remaining old new true fields state text stands read on =
+read_row remaining old new true fields separator state text stands read on =
     let next = known _ _ _ _ _ _ _ (rw (stands.config, stands.state_is, stands.source) at read.0) in
     let goes = on refl in (
       reader_state (reader_in new),

@@ -2,7 +2,7 @@
 use Rattle.std.specs.Prelude.{◌≡◌, ◌≢◌, ◌==◌, ◌||◌, codes, if◌then◌else◌, ℕ, List, [], length, Bool, true, false, Option, Some, None, option_map, Result, Ok, Err}
 use Rattle.std.specs.List.{ends_with}
 use Rattle.csv.specs.Machine.{next_record}
-use Rattle.csv.specs.Reading.{Ready, default_config, reader_config, reader_state, reader_trim, source_of, strip_bom}
+use Rattle.csv.specs.Reading.{Ready, reader_config, reader_state, reader_trim, source_of, strip_bom}
 use Rattle.csv.specs.Records.{Row, fields_of}
 use Rattle.csv.specs.declared.parser.State.{State}
 use Rattle.csv.specs.declared.parser.State.TheVariants.{StartRecord}
@@ -12,6 +12,7 @@ use Rattle.object_lines.specs.Lines.{next_line, lines_left, lines_said}
 use Rattle.object_lines.specs.Records.{IsRead}
 use Rattle.object_lines.specs.declared.fault.LineFault.TheVariants as line
 use Rattle.imports.specs.Faults.{is_final}
+use Rattle.imports.specs.Separators.{separated}
 use Rattle.imports.specs.declared.fault.RowFault.{RowFault}
 use Rattle.imports.specs.declared.fault.RowFault.TheVariants.{Width, NoObject, Member}
 use Rattle.imports.specs.declared.kinds.Records.{Records}
@@ -24,9 +25,9 @@ pub data RecordText : Type 0 where
   Fields : List (List ℕ) → RecordText
   Line : List ℕ → RecordText
 
--- what a file has left: of CSV how many fields a record has, if one was read, the state of the reader and the text; of NDJSON the lines
+-- what a file has left: of CSV the separator, how many fields a record has, if one was read, the state of the reader and the text; of NDJSON the lines
 pub data Rest : Type 0 where
-  Csv : Option ℕ → State → List ℕ → Rest
+  Csv : ℕ → Option ℕ → State → List ℕ → Rest
   Lines : List (List ℕ) → Rest
 
 -- how many fields a record has, once one was read
@@ -35,38 +36,38 @@ width_with None count = Some count
 width_with (Some width) count = Some width
 
 abbrev pub width_left : Rest → Option ℕ
-width_left (Csv width state text) = width
+width_left (Csv separator width state text) = width
 width_left (Lines lines) = None
 
 -- the next record, and what is left behind it
 abbrev pub next_of : Rest → Option (RecordText × Rest)
-next_of (Csv width state text) = option_map (λ read. (Fields read.0, Csv (width_with width (length read.0)) read.1 read.2)) (next_record default_config state [] [] text)
+next_of (Csv separator width state text) = option_map (λ read. (Fields read.0, Csv separator (width_with width (length read.0)) read.1 read.2)) (next_record (separated separator) state [] [] text)
 next_of (Lines lines) = option_map (λ read. (Line read.0, Lines read.1)) (next_line lines)
 
 abbrev pub reader_in : {R : Type 0} → CsvReader R → Reader R
 reader_in reader = reader.reader.value
 
--- a reader reads on with the defaults of its crate in a state, and this text is left
-pub record StandsIn {R : Type 0} (remaining : R → Option (List ℕ)) (reader : CsvReader R) (state : State) (text : List ℕ) : Type 0 where
+-- a reader reads on with a separator in a state, and this text is left
+pub record StandsIn {R : Type 0} (remaining : R → Option (List ℕ)) (separator : ℕ) (reader : CsvReader R) (state : State) (text : List ℕ) : Type 0 where
   pub ready : Ready (reader_in reader)
   pub trim : reader_trim (reader_in reader) ≡ trim.None
-  pub config : reader_config (reader_in reader) ≡ default_config
+  pub config : reader_config (reader_in reader) ≡ separated separator
   pub state_is : reader_state (reader_in reader) ≡ state
   pub source : source_of remaining (reader_in reader) ≡ Some text
 
 -- the next record was read, or there is none
-abbrev pub ReadsRow : {R : Type 0} → (R → Option (List ℕ)) → State → List ℕ → CsvReader R → Bool → List (List ℕ) → Type 0
-ReadsRow remaining state text new false fields = next_record default_config state [] [] text ≡ None
-ReadsRow remaining state text new true fields = (later : State) × (rest : List ℕ) × (next_record default_config state [] [] text ≡ Some (fields, later, rest)) × StandsIn remaining new later rest
+abbrev pub ReadsRow : {R : Type 0} → (R → Option (List ℕ)) → ℕ → State → List ℕ → CsvReader R → Bool → List (List ℕ) → Type 0
+ReadsRow remaining separator state text new false fields = next_record (separated separator) state [] [] text ≡ None
+ReadsRow remaining separator state text new true fields = (later : State) × (rest : List ℕ) × (next_record (separated separator) state [] [] text ≡ Some (fields, later, rest)) × StandsIn remaining separator new later rest
 
 -- the records have this left
 abbrev pub RowsStandAt : {R : Type 0} → (R → Option (List ℕ)) → CsvRows R → Rest → Type 0
-RowsStandAt remaining rows (Csv width state text) = (rows.width ≡ width) × StandsIn (λ watched. remaining watched.reader) rows.reader state text
+RowsStandAt remaining rows (Csv separator width state text) = (rows.width ≡ width) × StandsIn (λ watched. remaining watched.reader) separator rows.reader state text
 RowsStandAt remaining rows (Lines lines) = ⊥
 
 abbrev pub StandsAt : {R : Type 0} → (R → Option (List ℕ)) → Records R → Rest → Type 0
 StandsAt remaining (Rows rows) rest = RowsStandAt remaining rows rest
-StandsAt remaining (Objects objects) (Csv width state text) = ⊥
+StandsAt remaining (Objects objects) (Csv separator width state text) = ⊥
 StandsAt remaining (Objects objects) (Lines lines) = lines_left remaining objects ≡ Some lines
 
 abbrev pub record_in : {R : Type 0} → Records R → Row
@@ -115,11 +116,11 @@ AdvancesRow remaining names rest new answer = Advances remaining names rest (Row
 abbrev pub is_ndjson : List ℕ → Bool
 is_ndjson path = ends_with ◌==◌ path (codes ".ndjson") || ends_with ◌==◌ path (codes ".jsonl")
 
--- what a whole file has left, by its name and its bytes
-abbrev pub beginning : List ℕ → List ℕ → Rest
-beginning path text = if is_ndjson path then Lines (lines_said 0 text) else Csv None StartRecord (strip_bom text)
+-- what a whole file has left, by its name, the separator of CSV and its bytes
+abbrev pub beginning : List ℕ → ℕ → List ℕ → Rest
+beginning path separator text = if is_ndjson path then Lines (lines_said 0 text) else Csv separator None StartRecord (strip_bom text)
 
 -- a file is behind its header, if it is CSV
 abbrev pub IsBegun : Rest → Rest → Type 0
-IsBegun (Csv width state text) more = (header : RecordText) × (next_of (Csv width state text) ≡ Some (header, more))
+IsBegun (Csv separator width state text) more = (header : RecordText) × (next_of (Csv separator width state text) ≡ Some (header, more))
 IsBegun (Lines lines) more = more ≡ Lines lines

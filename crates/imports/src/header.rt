@@ -41,7 +41,9 @@ fn only_field(alloc: Global, header: &ByteRecord) -> Result<String, AllocError> 
     let field = header.get(0).unwrap_or(b"");
     let name = field_text(alloc, field)?;
     if looks_joined(field) {
-        return format!(in alloc; "it has one, {name}, and fields have to be separated by commas");
+        return format!(in alloc;
+            "it has one, {name}, and fields are separated by commas unless --separator says otherwise"
+        );
     }
     format!(in alloc; "it has one, {name}")
 }

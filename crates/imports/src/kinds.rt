@@ -1,12 +1,14 @@
 //! The records of a file, whatever kind of file it is.
 
 ghost use Rattle.std.specs.Prelude.{◌≡◌, ℕ, List, map, Some, IfOk, OnOk};
+ghost use Rattle.imports.specs.Separators.{separator_of};
 ghost use Rattle.imports.specs.Reading.{Rest, RowsStandAt, StandsAt, Advances, IsBegun, beginning, record_in, is_ndjson};
 
 use crate::fault::{RowFault, line_fault};
 use crate::first::{FirstHeader, check_header};
 use crate::placing::places_of;
 use crate::records::CsvRows;
+use crate::separator::Separator;
 use csv::ByteRecord;
 use import_columns::Column;
 use object_lines::ObjectLines;
@@ -63,16 +65,21 @@ fn pass_header<'f, R: Read + Drop>(
 }
 
 impl<R: Read + Drop> Records<R> {
-    /// The records of what a reader of the file at a path gives: of NDJSON where the path ends so, and else of CSV.
+    /// The records of what a reader of the file at a path gives: of NDJSON where the path ends so, and else of CSV with a separator.
     ///
     /// # Errors
     ///
     /// `Memory`.
-    pub fn new(alloc: Global, path: &str, input: R) -> Result<Records<R>, RowFault>
-        ensures { (text : List ℕ) → R.remaining input ≡ Some text → IfOk result (λ records. StandsAt R.remaining records (beginning path.now text)) }
+    pub fn new(
+        alloc: Global,
+        path: &str,
+        input: R,
+        separator: Separator,
+    ) -> Result<Records<R>, RowFault>
+        ensures { (text : List ℕ) → R.remaining input ≡ Some text → IfOk result (λ records. StandsAt R.remaining records (beginning path.now (separator_of separator) text)) }
     {
         if !is_ndjson(path) {
-            return Ok(Records::Rows(CsvRows::new(alloc, input)?));
+            return Ok(Records::Rows(CsvRows::separated(alloc, input, separator)?));
         }
         match ObjectLines::new(alloc, input) {
             Ok(lines) => Ok(Records::Objects(lines)),

@@ -6,10 +6,12 @@ ghost use Rattle.csv.specs.Records.{fields_of};
 ghost use Rattle.csv.specs.declared.parser.State.{State};
 ghost use Rattle.csv.specs.declared.parser.State.TheVariants.{StartRecord};
 ghost use Rattle.imports.specs.Faults.{is_final};
+ghost use Rattle.imports.specs.Separators.{separator_of};
 ghost use Rattle.imports.specs.Reading.{StandsIn, ReadsRow};
 ghost use Rattle.std.specs.Prelude.{true};
 
 use crate::fault::{RowFault, read_fault};
+use crate::separator::Separator;
 use csv::{ByteRecord, Reader, ReaderBuilder};
 use std::alloc::Global;
 use std::io::Read;
@@ -29,17 +31,24 @@ impl<R: Drop> Drop for CsvReader<R> {
 }
 
 impl<R: Read + Drop> CsvReader<R> {
-    /// A reader of records of any width, the first among them.
+    /// A reader of records of any width, the first among them, with a separator between their fields.
     ///
     /// # Errors
     ///
     /// `Memory`.
     #[inline(never)]
-    pub(crate) fn new(alloc: Global, input: R) -> Result<CsvReader<R>, RowFault>
-        ensures { (text : List ℕ) → R.remaining input ≡ Some text → IfOk result (λ reader. StandsIn R.remaining reader StartRecord (strip_bom text)) }
+    pub(crate) fn new(
+        alloc: Global,
+        input: R,
+        separator: Separator,
+    ) -> Result<CsvReader<R>, RowFault>
+        ensures { (text : List ℕ) → R.remaining input ≡ Some text → IfOk result (λ reader. StandsIn R.remaining (separator_of separator) reader StartRecord (strip_bom text)) }
     {
         let mut builder = ReaderBuilder::new();
-        let builder = builder.has_headers(false).flexible(true);
+        let builder = builder
+            .has_headers(false)
+            .flexible(true)
+            .delimiter(separator.byte());
         match Box::new(alloc, builder.from_reader(alloc, input)) {
             Ok(reader) => Ok(CsvReader { reader }),
             Err(_) => Err(RowFault::Memory),
@@ -68,8 +77,8 @@ impl<R: Read + Drop> CsvReader<R> {
     /// `Read`; `Memory`.
     pub(crate) fn read(&mut self, record: &mut ByteRecord) -> Result<bool, RowFault>
         ensures fault { IfErr result (λ fault. is_final fault ≡ true) }
-        ensures reads { (state : State) (text : List ℕ) → StandsIn R.remaining self.old state text
-            → IfOk result (λ is_there. ReadsRow R.remaining state text self.new is_there (fields_of «record».new)) }
+        ensures reads { (separator : ℕ) (state : State) (text : List ℕ) → StandsIn R.remaining separator self.old state text
+            → IfOk result (λ is_there. ReadsRow R.remaining separator state text self.new is_there (fields_of «record».new)) }
     {
         match self.reader.read_byte_record(record) {
             Ok(is_there) => Ok(is_there),

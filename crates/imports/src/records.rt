@@ -3,10 +3,12 @@
 ghost use Rattle.std.specs.Prelude.{◌≡◌, ℕ, List, None, Some, IfOk};
 ghost use Rattle.csv.specs.Reading.{strip_bom};
 ghost use Rattle.csv.specs.declared.parser.State.TheVariants.{StartRecord};
+ghost use Rattle.imports.specs.Separators.{separator_of};
 ghost use Rattle.imports.specs.Reading.{Rest, Csv, RowsStandAt, AdvancesRow, ChecksWidth};
 
 use crate::fault::RowFault;
 use crate::reader::CsvReader;
+use crate::separator::Separator;
 use crate::watched::Watched;
 use csv::ByteRecord;
 use std::alloc::Global;
@@ -42,10 +44,21 @@ impl<R: Read + Drop> CsvRows<R> {
     ///
     /// `Memory`.
     pub fn new(alloc: Global, input: R) -> Result<CsvRows<R>, RowFault>
-        ensures { (text : List ℕ) → R.remaining input ≡ Some text → IfOk result (λ rows. RowsStandAt R.remaining rows (Csv None StartRecord (strip_bom text))) }
+        ensures { (text : List ℕ) → R.remaining input ≡ Some text → IfOk result (λ rows. RowsStandAt R.remaining rows (Csv 44 None StartRecord (strip_bom text))) }
+    {
+        CsvRows::separated(alloc, input, Separator::COMMA)
+    }
+
+    /// The same with another separator in place of commas.
+    ///
+    /// # Errors
+    ///
+    /// `Memory`.
+    pub fn separated(alloc: Global, input: R, separator: Separator) -> Result<CsvRows<R>, RowFault>
+        ensures { (text : List ℕ) → R.remaining input ≡ Some text → IfOk result (λ rows. RowsStandAt R.remaining rows (Csv (separator_of separator) None StartRecord (strip_bom text))) }
     {
         Ok(CsvRows {
-            reader: CsvReader::new(alloc, Watched::new(alloc, input))?,
+            reader: CsvReader::new(alloc, Watched::new(alloc, input), separator)?,
             record: ByteRecord::new(alloc),
             width: None,
         })
