@@ -19,7 +19,7 @@ use restart_places::{Restart, write_places};
 use std::io::writer;
 use std::rt::Files;
 use stream_model::Input;
-use text_warnings::{TextKind, warn};
+use text_warnings::{TextKind, is_plain, warn};
 
 /// What a file holds, with its name.
 #[derive(Drop)]
@@ -229,17 +229,20 @@ fn restart_of<'r>(from: Option<Text<'r>>, stop: Option<&'r str>) -> Restart<'r>
     }
 }
 
-/// Prints the places at which an input of the plan is refused, or else its scale, or else a leg over it.
+/// Prints the places at which an input of the plan is refused, or else its scale, or else a leg over it. Of one that is not refused
+/// it notes whether the text is plain.
 fn check_job<R: Print + AllocGlobal>(
     rt: &R,
     plan: &Plan,
     input: Text<'_>,
     scale: Option<Text<'_>>,
     restart: Restart<'_>,
+    is_plain_input: &mut bool,
 ) -> Result<(), JobFault>
     ensures { BeginsLeg (begins_by plan.now input.entry.bytes.now (option_map (λ text. text.bytes.now) scale.entry) (option_map (λ bytes. bytes.now) restart.entry.savepoint) (option_map (λ word. word.now) restart.entry.stop)) result }
 {
     let read = check_input(rt.alloc(), plan, input.bytes, input.name, &mut writer(rt))?;
+    *is_plain_input = is_plain(input.bytes, &read);
     check_leg(rt, plan, &read, scale, restart)
 }
 
@@ -248,25 +251,30 @@ fn check_parts<R: Print + AllocGlobal>(
     rt: &R,
     plan: &Plan,
     texts: Texts<'_>,
+    is_plain_input: &mut bool,
 ) -> Result<(), JobFault>
     ensures { ChecksParts plan.now (option_map (λ text. text.bytes.now) texts.entry.input) (option_map (λ text. text.bytes.now) texts.entry.scale) (option_map (λ text. text.bytes.now) texts.entry.from) (option_map (λ word. word.now) texts.entry.stop) result }
 {
     match texts.input {
         Some(input) => {
             let restart = restart_of(texts.from, texts.stop);
-            check_job(rt, plan, input, texts.scale, restart)
+            check_job(rt, plan, input, texts.scale, restart, is_plain_input)
         }
         None => check_its_scale(rt, plan, texts.scale),
     }
 }
 
 /// Prints the places at which a plan is refused, or else what is named of it.
-fn check_texts<R: Print + AllocGlobal>(rt: &R, texts: Texts<'_>) -> Result<(), JobFault>
+fn check_texts<R: Print + AllocGlobal>(
+    rt: &R,
+    texts: Texts<'_>,
+    is_plain_input: &mut bool,
+) -> Result<(), JobFault>
     ensures { ChecksTexts texts.entry.plan.bytes.now (option_map (λ text. text.bytes.now) texts.entry.input) (option_map (λ text. text.bytes.now) texts.entry.scale) (option_map (λ text. text.bytes.now) texts.entry.from) (option_map (λ word. word.now) texts.entry.stop) result }
 {
     let plan = texts.plan;
     match check_plan(rt.alloc(), plan.bytes, plan.name, &mut writer(rt)) {
-        Ok(read) => check_parts(rt, &read, texts),
+        Ok(read) => check_parts(rt, &read, texts, is_plain_input),
         Err(fault) => Err(JobFault::from(fault)),
     }
 }
@@ -276,11 +284,13 @@ fn warn_of_text<R: Print + AllocGlobal>(rt: &R, text: Text<'_>, kind: TextKind) 
     warn(rt.alloc(), text.bytes, text.name, kind, &mut writer(rt));
 }
 
-/// The same of all texts, whether they are refused or not.
-fn warn_of_texts<R: Print + AllocGlobal>(rt: &R, texts: Texts<'_>) {
+/// The same of all texts, whether they are refused or not. A plain input has nothing to warn of.
+fn warn_of_texts<R: Print + AllocGlobal>(rt: &R, texts: Texts<'_>, is_plain_input: bool) {
     warn_of_text(rt, texts.plan, TextKind::Plan);
     if let Some(input) = texts.input {
-        warn_of_text(rt, input, TextKind::Input);
+        if !is_plain_input {
+            warn_of_text(rt, input, TextKind::Input);
+        }
     }
     if let Some(scale) = texts.scale {
         warn_of_text(rt, scale, TextKind::Scale);
@@ -303,9 +313,10 @@ pub fn check<R: Files + Print + AllocGlobal>(rt: &R, words: &CheckWords<'_>) -> 
     }
     let read = read_texts(rt, words)?;
     let texts = texts_of(&read, words.stop);
-    let answer = check_texts(rt, texts);
+    let mut is_plain_input = false;
+    let answer = check_texts(rt, texts, &mut is_plain_input);
     if answer != Err(JobFault::Memory) {
-        warn_of_texts(rt, texts);
+        warn_of_texts(rt, texts, is_plain_input);
         warn_of_words(rt, words);
     }
     answer

@@ -7,7 +7,9 @@
 
 mod mark;
 mod open;
+mod plain;
 mod walk;
 mod warning;
 
+pub use plain::is_plain;
 pub use warning::{TextKind, warn, warnings_of};
