@@ -63,7 +63,12 @@ fn push_mark(text: &mut String, time: i64) -> Result<(), AllocError>
     text.push_str("}")
 }
 
-fn push_entry(text: &mut String, entry: &Entry) -> Result<(), AllocError>
+/// Puts the text of an entry behind a text: its rows or its watermark as compact JSON.
+///
+/// # Errors
+///
+/// Only where memory runs out.
+pub fn push_entry(text: &mut String, entry: &Entry) -> Result<(), AllocError>
     ensures { OnOk result (string_bytes text.new ≡ string_bytes text.old ++ entry_text entry.now) }
 {
     match entry {

@@ -4,4 +4,5 @@
 mod entries;
 mod sources;
 
+pub use entries::push_entry;
 pub use sources::text_of_input;
