@@ -1,22 +1,14 @@
 -- What a plan's layout and an input that was read come to is sound.
-use Rattle.std.proofs.Common.{◌≡◌, ◌<◌, ℕ, List, [], sym, ap, subst}
+use Rattle.std.proofs.Common.{◌<◌, sym, ap, subst}
 use Rattle.dataflow_laws.proofs.Facts.{input_is_admitted}
 use Rattle.layout_rules.specs.Rules.{IsCompiled}
 use Rattle.layout_rules.proofs.Facts.{compiled_ever, compiled_is_layout, sink_is_last}
 use Rattle.plan_compiler.specs.LayoutData.{LayoutData}
 use Rattle.input_flow.specs.InputEntries.{entries_of}
-use Rattle.legs.specs.declared.cut.Cut.{Cut}
-use Rattle.dataflow_model.specs.Leg.{Until, leg_of}
-use Rattle.stream_model.specs.declared.entry.Entry.{Entry}
-use Rattle.redistribute.specs.Stopping.{CanSaveAt}
-use Rattle.redistribute.proofs.Facts.{no_saves, tasks_open}
-use Rattle.task_setups.specs.Legs.{counts_of}
+use Rattle.dataflow_model.specs.Leg.{leg_of}
+use Rattle.redistribute.proofs.Facts.{tasks_open}
 use Rattle.core_steps.specs.Given.{GivenData, layout_in}
 use Rattle.core_steps.specs.World.{IsGiven, IsSound}
-
--- a leg to which no cuts are given takes no savepoint on its way, and so can be begun
-pub takes_none : (sources : List (List (List Entry))) (begin : List (List ℕ)) (cuts : List Cut) (until : Until) → cuts ≡ [] → CanSaveAt sources begin (counts_of cuts) until
-takes_none sources begin cuts until none = subst (λ cs. CanSaveAt sources begin (counts_of cs) until) (sym none) (no_saves sources begin until)
 
 -- the stages of its layout are those of a scale
 pub compiled : (g : GivenData) (given : IsGiven g) → IsCompiled g.plan given.laid_out.scale g.layout.stages

@@ -28,7 +28,6 @@ use window_state::HashKeys;
 /// # Errors
 ///
 /// Only where memory runs out.
-#[tactic(auto, using(crate::proofs::Sound::takes_none))]
 pub fn tasks_asked(
     alloc: Global,
     keys: HashKeys,

@@ -70,12 +70,13 @@ impl<'a> World<'a> {
     ghost use Rattle.core_steps.specs.RingSteps.{IsPuttable, IsTakeable};
 
     /// The world of a leg as it opens: each task has done nothing but begin with its part of the start, and all rings are
-    /// empty. The layout is one of the plan, the input was read by it, the start is one of the input, and the leg can take its
-    /// savepoints on the way from there. The panes of the windows are hashed by the keys.
+    /// empty. The layout is one of the plan, the input was read by it, and the start is one of the input. The panes of the
+    /// windows are hashed by the keys.
     ///
     /// # Errors
     ///
-    /// `StopRange` where a leg from the start cannot stop so, else `Memory` where memory runs out.
+    /// `StopRange` where a leg from the start cannot stop so, else `SaveRange` where it cannot take its savepoints on the way
+    /// there, else `Memory` where memory runs out.
     pub fn new(
         alloc: Global,
         keys: HashKeys,
@@ -85,10 +86,10 @@ impl<'a> World<'a> {
         requires laid_out { IsLayoutOf given.plan.now given.layout.now }
         requires belongs { BelongsTo given.plan.now given.input.now }
         requires starts { IsStartIn given.plan.now given.input.now given.start.now }
-        requires saves { CanSaveAt given.input.now.sources (offsets_of given.start.now) (counts_of given.saves.now) (until_of stop) }
         ensures stops { OnOk result (CanStop given.entry.input.now.sources (offsets_of given.entry.start.now) stop) }
+        ensures saves { OnOk result (CanSaveAt given.entry.input.now.sources (offsets_of given.entry.start.now) (counts_of given.entry.saves.now) (until_of stop)) }
         ensures opens { IfOk result (λ world. IsNewWorld (given_data given.entry (until_of stop)) world) }
-        ensures refused { IfErr result (λ fault. IsRefusal given.entry.input.now.sources (offsets_of given.entry.start.now) (until_of stop) fault) }
+        ensures refused { IfErr result (λ fault. IsRefusal given.entry.input.now.sources (offsets_of given.entry.start.now) (counts_of given.entry.saves.now) (until_of stop) fault) }
     {
         let plan = given.plan;
         let input = given.input;

@@ -3,7 +3,7 @@
 use crate::page::FaultPage;
 
 /// The pages of all other faults, in the order of docs/FAULTS.md.
-pub const OTHER_PAGES: [FaultPage<'static>; 12] = [
+pub const OTHER_PAGES: [FaultPage<'static>; 13] = [
     (
         "C1",
         r#"C1 Cut (status 2)
@@ -65,7 +65,7 @@ C3 Options --twice stands without --once
 
 Name by `--once` the fields in which such records are the same, and by `--zone` the zone of times that have none. So it
 is with the word of `--separator`, where it is neither `tab` nor one character of ASCII that is no quotation mark and
-ends no line.
+ends no line, and with that of `--decimal`, which is a point or a comma, and not what stands between the fields.
 "#,
     ),
     (
@@ -206,6 +206,17 @@ L6 Choices
 
 Here are two legs, so two lists: `[[1], []]`. A leg without choices has an empty one. docs/FORMATS.md has the form under
 Choices.
+"#,
+    ),
+    (
+        "L8",
+        r#"L8 SaveRange (status 3)
+
+A leg cannot take a savepoint on its way at each cut where it is to: there are more than 1,024, a cut has another number
+of sources or of partitions than the plan, a count is over the number of entries of its partition, or it is below that
+of the cut before, or below what was read before the leg, or over that of the cut where the leg stops.
+
+No command lets a leg take savepoints on its way yet, so none says this.
 "#,
     ),
     (

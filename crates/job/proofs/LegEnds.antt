@@ -16,6 +16,7 @@ use Rattle.savepoint_codec.specs.Layout.{IsSavepoint}
 use Rattle.savepoint_codec.specs.declared.savepoint.Contents.{Contents}
 use Rattle.redistribute.specs.StartData.{StartData, offsets_of}
 use Rattle.redistribute.specs.Stopping.{CanGo}
+use Rattle.redistribute.proofs.Facts.{no_saves}
 use Rattle.leg_tasks.specs.Saved.{IsSavedAt}
 use Rattle.core_steps.specs.declared.finish.Finish.{Finish}
 use Rattle.core_steps.specs.declared.finish.Finish.TheVariants.{Ended, Stopped}
@@ -91,7 +92,8 @@ module _ (p : PlanData) (i : InputData) (s : StartData) where
   -- why it has no answer
   pub halts : {X : Type 0} (Is : X → Type 0) (stop : ThreadStop) (fault : LegFault) → IsThreadRefusal i.sources (offsets_of s) (threads.until_of stop) fault → GivesLeg Is (job_to (stop_in stop)) (Err (leg_fault fault))
   halts Is stop fault (inl (inl (range, not))) = subst (λ (f : LegFault). GivesLeg Is (job_to (stop_in stop)) (Err (leg_fault f))) (sym range) (inl (refl, λ can. not (can_go stop can)))
-  halts Is stop fault (inl (inr (memory, can))) = subst (λ (f : LegFault). GivesLeg Is (job_to (stop_in stop)) (Err (leg_fault f))) (sym memory) tt
+  halts Is stop fault (inl (inr (inl (range, can, not)))) = absurd (not (no_saves i.sources (offsets_of s) (threads.until_of stop)))
+  halts Is stop fault (inl (inr (inr (memory, can, save)))) = subst (λ (f : LegFault). GivesLeg Is (job_to (stop_in stop)) (Err (leg_fault f))) (sym memory) tt
   halts Is stop fault (inr (wanted, can)) = subst (λ (f : LegFault). GivesLeg Is (job_to (stop_in stop)) (Err (leg_fault f))) (sym wanted) (inr refl)
 
   -- of a leg on threads

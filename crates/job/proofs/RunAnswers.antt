@@ -29,6 +29,7 @@ use Rattle.job.proofs.LegAnswers.{given}
 pub legs_told : {X : Type 0} (said : Result X LegFault) (fault : LegFault) → lists.Fails lists.is_memory fault said → lists.Fails is_memory (leg_fault fault) (as_job leg_fault said)
 legs_told said leg.Memory is = tt
 legs_told said leg.StopRange is = ap (as_job leg_fault) is
+legs_told said leg.SaveRange is = ap (as_job leg_fault) is
 legs_told said leg.Legs is = ap (as_job leg_fault) is
 legs_told said leg.NotJson is = ap (as_job leg_fault) is
 legs_told said leg.Member is = ap (as_job leg_fault) is
@@ -84,6 +85,7 @@ module _ (Other : JobFault → Type 0) {X : Type 0} (view : X → List ℕ) (p :
   pub legs_fail : (fault : LegFault) → IsLegsRefusal i legs lists fault → Ends {X = X} Other CanRunSo (λ job text. IsRunText job (view text)) (Ok (run_job p i (Some legs))) (Err (leg_fault fault))
   legs_fail leg.Memory why = tt
   legs_fail leg.StopRange why = inr (run_job p i (Some legs), refl, inl (refl, why.2))
+  legs_fail leg.SaveRange why = absurd why
   legs_fail leg.Legs why = absurd (neither (sym why ∙ list))
   legs_fail leg.Choices why = absurd (why.1 each)
   legs_fail leg.NotJson why = absurd why
@@ -100,6 +102,7 @@ module _ {X : Type 0} (view : X → List ℕ) (p : PlanData) (i : InputData) (le
   threads_fail leg.Threads why = inr (run_job p i (Some legs), refl, inr refl)
   threads_fail leg.Memory why = as_without leg.Memory why
   threads_fail leg.StopRange why = as_without leg.StopRange why
+  threads_fail leg.SaveRange why = as_without leg.SaveRange why
   threads_fail leg.Legs why = as_without leg.Legs why
   threads_fail leg.Choices why = as_without leg.Choices why
   threads_fail leg.NotJson why = as_without leg.NotJson why

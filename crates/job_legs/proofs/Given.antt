@@ -14,6 +14,7 @@ use Rattle.legs.specs.Requirements.{stops}
 use Rattle.legs.specs.Stops.{until_of}
 use Rattle.redistribute.specs.StartData.{StartData, offsets_of}
 use Rattle.redistribute.specs.Stopping.{CanStop}
+use Rattle.redistribute.proofs.Facts.{no_saves}
 use Rattle.redistribute.specs.Snapshots.{saved_sources}
 use Rattle.gather.specs.Saved.{savepoint_of}
 use Rattle.savepoint_codec.specs.declared.savepoint.Contents.{Contents}
@@ -63,5 +64,6 @@ module _ (p : PlanData) (i : InputData) (plan : IsPlan p) (input : IsInput i) (b
     where
       why : IsWayRefusal other i.sources (offsets_of s) stop fault → IsStepRefusal other i cut stop fault
       why (inl (inl cannot)) = inl (cannot.0, λ can. cannot.1 (subst (λ b. CanStop i.sources b stop) (sym at.offsets) can))
-      why (inl (inr memory)) = inr (inl memory.0)
+      why (inl (inr (inl save))) = absurd (save.2 (no_saves i.sources (offsets_of s) (until_of stop)))
+      why (inl (inr (inr memory))) = inr (inl memory.0)
       why (inr besides) = inr (inr besides)

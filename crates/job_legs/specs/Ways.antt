@@ -20,7 +20,7 @@ CanRunLeg p i start scale = BelongsTo p i × IsScale p scale × IsStartIn p i st
 
 -- why a way to run legs has no answer of one: what no leg could be run for, or what this way may answer besides
 abbrev pub IsWayRefusal : (LegFault → Type 0) → List (List (List Entry)) → List (List ℕ) → Stop → LegFault → Type 0
-IsWayRefusal other sources begin stop fault = IsRefusal sources begin (until_of stop) fault ⊎ other fault
+IsWayRefusal other sources begin stop fault = IsRefusal sources begin [] (until_of stop) fault ⊎ other fault
 
 -- what a leg answers that is run so: its end where it can stop so, or why it has none
 abbrev pub AnswersLeg : (LegFault → Type 0) → PlanData → InputData → StartData → Stop → Result Finish LegFault → Type 0

@@ -1,6 +1,6 @@
 //! What the headline theorem asks of legs and of starts, given by calls.
 
-ghost use Rattle.std.specs.Prelude.{[], ◌≡◌, IfOk};
+ghost use Rattle.std.specs.Prelude.{IfOk};
 ghost use Rattle.redistribute.specs.Begins.{IsStartIn};
 ghost use Rattle.stream_model.specs.InputData.{BelongsTo};
 ghost use Rattle.task_setups.specs.Legs.{IsLayoutOf};
@@ -40,7 +40,6 @@ fn halfway(alloc: Global) -> Result<Stop, Fail> {
 }
 
 /// How many rows a leg has that makes so many steps at most, and whether it left a savepoint, if it ends.
-#[tactic(auto, using(core_steps::proofs::Sound::takes_none))]
 fn rows_after(
     alloc: Global,
     keys: HashKeys,
@@ -51,7 +50,6 @@ fn rows_after(
     requires belongs { BelongsTo given.plan.now given.input.now }
     requires starts { IsStartIn given.plan.now given.input.now given.start.now }
     requires laid_out { IsLayoutOf given.plan.now given.layout.now }
-    requires none { given.saves.now ≡ [] }
 {
     let layout = given.layout;
     let mut choices = Vec::new(alloc);

@@ -60,7 +60,7 @@ fn finish_by(
 /// # Errors
 ///
 /// `StopRange` where a leg from the start cannot stop so, else `Memory` where memory runs out.
-#[tactic(auto, using(core_steps::proofs::Sound::takes_none))]
+#[tactic(auto, using(redistribute::proofs::Facts::no_saves))]
 pub fn run_leg_by(
     alloc: Global,
     keys: HashKeys,
@@ -77,7 +77,7 @@ pub fn run_leg_by(
     ensures stops { OnOk result (CanStop input.now.sources (offsets_of start.now) stop) }
     ensures ends { IfOk result (λ finish. IsEndOf plan.now input.now start.now [] (until_of stop) finish) }
     ensures whole { IfOk result (λ finish. IsFromNothing input.now start.now → stop ≡ Never → IsWholeRun plan.now input.now finish) }
-    ensures refused { IfErr result (λ fault. IsRefusal input.now.sources (offsets_of start.now) (until_of stop) fault) }
+    ensures refused { IfErr result (λ fault. IsRefusal input.now.sources (offsets_of start.now) [] (until_of stop) fault) }
 {
     start.check_stop(input, &stop)?;
     let layout = compile(alloc, plan, scale)?;

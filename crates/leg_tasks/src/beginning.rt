@@ -110,11 +110,12 @@ fn tasks_from(
 /// each of the window's tasks what the start has for its key groups. The panes of the windows are hashed by the keys.
 ///
 /// The layout is one of the plan, the input was read by it, the start is one of the input, and the leg goes on from the
-/// start's savepoint and can take its own on the way from there.
+/// start's savepoint.
 ///
 /// # Errors
 ///
-/// `StopRange` where a leg from the start cannot go so far, else `Memory` where memory runs out.
+/// `StopRange` where a leg from the start cannot go so far, else `SaveRange` where it cannot take its savepoints on the way
+/// there, else `Memory` where memory runs out.
 pub fn tasks(
     alloc: Global,
     keys: HashKeys,
@@ -128,14 +129,15 @@ pub fn tasks(
     requires belongs { BelongsTo plan.now input.now }
     requires starts { IsStartIn plan.now input.now start.now }
     requires number { leg.now.number ≡ start.now.number }
-    requires saves { CanSaveAt input.now.sources (offsets_of start.now) (counts_of leg.now.saves.now) (until_in leg.now.until) }
     ensures stops { OnOk result (CanGo input.now.sources (offsets_of start.now) (until_in leg.now.until)) }
+    ensures saves { OnOk result (CanSaveAt input.now.sources (offsets_of start.now) (counts_of leg.now.saves.now) (until_in leg.now.until)) }
     ensures are { IfOk result (λ made. made.items ≡ begins.new_tasks plan.now start.now (leg_over leg.now input.now) layout.now.stages) }
     ensures begin { IfOk result (λ made. begins.BeginLeg plan.now input.now start.now layout.now.stages (layout_to plan.now input.now leg.now.number (counts_of leg.now.saves.now) (until_in leg.now.until) layout.now.stages) made.items) }
-    ensures refused { IfErr result (λ fault. IsRefusal input.now.sources (offsets_of start.now) (until_in leg.now.until) fault) }
+    ensures refused { IfErr result (λ fault. IsRefusal input.now.sources (offsets_of start.now) (counts_of leg.now.saves.now) (until_in leg.now.until) fault) }
 {
     let _columns = plan.columns();
     let _saves = leg.saves.len();
     start.check_until(input, &leg.until)?;
+    start.check_saves_until(input, leg.saves, &leg.until)?;
     Ok(tasks_from(alloc, keys, plan, input, start, layout, leg)?)
 }

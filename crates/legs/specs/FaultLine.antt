@@ -6,6 +6,7 @@ use Rattle.legs.specs.declared.fault.LegFault.TheVariants as leg
 
 abbrev pub leg_line : LegFault → List ℕ
 leg_line leg.StopRange = codes "L1 StopRange"
+leg_line leg.SaveRange = codes "L8 SaveRange"
 leg_line leg.Memory = codes "memory"
 leg_line leg.Legs = codes "L3 Legs"
 leg_line leg.NotJson = codes "L4 NotJson"

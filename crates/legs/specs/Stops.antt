@@ -1,5 +1,7 @@
--- How far a leg goes.
+-- How far a leg goes, and where it takes savepoints on its way.
+use Rattle.std.specs.Prelude.{ℕ, List, map}
 use Rattle.dataflow_model.specs.Leg as model
+use Rattle.legs.specs.declared.cut.Cut.{Cut}
 use Rattle.legs.specs.declared.stop.Stop.{Stop}
 use Rattle.legs.specs.declared.stop.Stop.TheVariants.{Never, At}
 use Rattle.legs.specs.declared.until.Until.{Until}
@@ -15,3 +17,7 @@ abbrev pub until_in : Until → model.Until
 until_in ToEnd = model.ToEnd
 until_in (ToCut cut) = model.ToCut cut.counts
 until_in TillAsked = model.TillAsked
+
+-- the counts of cuts
+abbrev pub counts_of : List Cut → List (List (List ℕ))
+counts_of cuts = map (λ cut. cut.counts) cuts

@@ -14,7 +14,7 @@ pub struct Cut {
 
 impl Cut {
     ghost use Rattle.dataflow_model.specs.Leg as model;
-    ghost use Rattle.stream_model.specs.Watermarks.{IsCut};
+    ghost use Rattle.stream_model.specs.Watermarks.{IsBefore, IsCut};
 
     /// How many entries of a partition lie before it; none, where it has no such partition.
     pub fn count(&self, source: u32, partition: u32) -> u64
@@ -46,6 +46,30 @@ impl Cut {
         }
         true
     }
+
+    /// Whether that cut has a count for the same partitions, none of them less: it is this one, or a later one.
+    pub fn is_before(&self, later: &Cut) -> bool
+        ensures { IsTrue result ↔ IsBefore self.now.counts later.now.counts }
+    {
+        let cut = self.counts.as_slice();
+        let later = later.counts.as_slice();
+        cut.len() == later.len()
+            && cut.iter().zip(later).all(|(counts, others)| are_reached(
+                counts.as_slice(),
+                others.as_slice(),
+            ))
+    }
+}
+
+/// Whether there is a count for each of some counts, none of them less.
+fn are_reached(counts: &[u64], others: &[u64]) -> bool
+    ensures { IsTrue result ↔ AllZip (λ m n. m ≤ n) counts.now others.now }
+{
+    counts.len() == others.len()
+        && counts
+            .iter()
+            .zip(others)
+            .all(|(count, other)| *count <= *other)
 }
 
 /// Whether there is a count for each partition of a source, none past the partition's end.

@@ -14,6 +14,10 @@ pub enum LegFault {
     /// The cut to stop at has another shape than the input, counts fewer entries of a partition than were read
     /// before the leg, or more than there are.
     StopRange,
+    /// There are more than 1,024 savepoints on the way, or one of their cuts has another shape than the input, counts
+    /// fewer entries of a partition than the cut before it or than were read before the leg, or more than there are or
+    /// than lie before the cut to stop at. A leg that may be asked to stop takes none.
+    SaveRange,
     /// No memory was to be had.
     Memory,
     /// A list has no leg or more than 1,024, or a leg before the last does not stop.
@@ -39,6 +43,7 @@ impl fmt::Display for LegFault {
     fn fmt<W: fmt::Write>(&self, f: &mut fmt::Formatter<W>) -> fmt::Result {
         match self {
             LegFault::StopRange => write!(f, "L1 StopRange"),
+            LegFault::SaveRange => write!(f, "L8 SaveRange"),
             LegFault::Memory => write!(f, "memory"),
             LegFault::Legs => write!(f, "L3 Legs"),
             LegFault::NotJson => write!(f, "L4 NotJson"),

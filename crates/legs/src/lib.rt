@@ -14,7 +14,7 @@ pub use choice::{Choice, are_choices};
 pub use cut::Cut;
 pub use fault::LegFault;
 pub use leg::LegSpec;
-pub use limits::MOST_LEGS;
+pub use limits::{MOST_LEGS, MOST_SAVES};
 pub use requirements::are_legs;
 pub use stop::Stop;
 pub use until::Until;

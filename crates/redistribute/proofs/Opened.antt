@@ -110,7 +110,7 @@ route i cut saves until is_cut can save = record {
 
 -- a leg without savepoints on its way
 pub no_saves : (sources : List (List (List Entry))) (begin : List (List ℕ)) (until : Until) → CanSaveAt sources begin [] until
-no_saves sources begin until = record { cuts = tt; rises = tt; before = λ end e. tt; asked = λ e. refl }
+no_saves sources begin until = record { few = omega arith; cuts = tt; rises = tt; before = λ end e. tt; asked = λ e. refl }
 
 -- ---- opening states
 

@@ -5,6 +5,7 @@
 #![tactic(auto)]
 
 pub mod laws;
+mod saving;
 mod spreading;
 mod start;
 mod stopping;

@@ -1,6 +1,6 @@
 //! Steps of a world.
 
-ghost use Rattle.std.specs.Prelude.{[], ◌≡◌, ◌<◌};
+ghost use Rattle.std.specs.Prelude.{◌<◌};
 ghost use Rattle.layout_rules.specs.Stages.{task_count};
 ghost use Rattle.redistribute.specs.Begins.{IsStartIn};
 ghost use Rattle.stream_model.specs.InputData.{BelongsTo};
@@ -94,7 +94,6 @@ fn has_failed(world: &mut World<'_>, steps: &[Step]) -> bool {
 }
 
 /// Makes the steps of a leg to its cut, and tells whether all have been made. Where one is refused, so is each later one.
-#[tactic(auto, using(core_steps::proofs::Sound::takes_none))]
 fn apply_once<R: Print + AllocGlobal>(
     rt: &R,
     keys: HashKeys,
@@ -105,7 +104,6 @@ fn apply_once<R: Print + AllocGlobal>(
     requires belongs { BelongsTo given.plan.now given.input.now }
     requires starts { IsStartIn given.plan.now given.input.now given.start.now }
     requires laid_out { IsLayoutOf given.plan.now given.layout.now }
-    requires none { given.saves.now ≡ [] }
 {
     let alloc = rt.alloc();
     let mut world = World::new(alloc, keys, given, stop)?;
@@ -132,7 +130,6 @@ pub(crate) fn apply_calls<R: Print + AllocGlobal>(
     requires belongs { BelongsTo given.plan.now given.input.now }
     requires starts { IsStartIn given.plan.now given.input.now given.start.now }
     requires laid_out { IsLayoutOf given.plan.now given.layout.now }
-    requires none { given.saves.now ≡ [] }
 {
     let alloc = rt.alloc();
     let steps = steps_of(alloc, given.layout)?;

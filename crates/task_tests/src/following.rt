@@ -1,6 +1,6 @@
 //! Choices are followed: each makes the step at its place among all that could be made.
 
-ghost use Rattle.std.specs.Prelude.{[], ◌≡◌, ◌<◌, false};
+ghost use Rattle.std.specs.Prelude.{◌≡◌, ◌<◌, false};
 ghost use Rattle.layout_rules.specs.Stages.{task_count};
 ghost use Rattle.redistribute.specs.Begins.{IsStartIn};
 ghost use Rattle.stream_model.specs.InputData.{BelongsTo};
@@ -228,7 +228,6 @@ struct Leg<'a> {
 }
 
 /// Follows choices in a third world beside two: the rows of the third.
-#[tactic(auto, using(core_steps::proofs::Sound::takes_none))]
 fn follow_third(
     rt: &(impl AllocGlobal + Abort),
     leg: Leg<'_>,
@@ -238,7 +237,6 @@ fn follow_third(
     requires belongs { BelongsTo leg.given.plan.now leg.given.input.now }
     requires starts { IsStartIn leg.given.plan.now leg.given.input.now leg.given.start.now }
     requires laid_out { IsLayoutOf leg.given.plan.now leg.given.layout.now }
-    requires none { leg.given.saves.now ≡ [] }
 {
     let layout = leg.given.layout;
     let stop = stop_at(rt.alloc(), leg.case.stop)?;
@@ -248,7 +246,6 @@ fn follow_third(
 }
 
 /// Follows choices in a second world and a third beside one: the rows of the third.
-#[tactic(auto, using(core_steps::proofs::Sound::takes_none))]
 fn follow_second(
     rt: &(impl AllocGlobal + Abort),
     leg: Leg<'_>,
@@ -257,7 +254,6 @@ fn follow_second(
     requires belongs { BelongsTo leg.given.plan.now leg.given.input.now }
     requires starts { IsStartIn leg.given.plan.now leg.given.input.now leg.given.start.now }
     requires laid_out { IsLayoutOf leg.given.plan.now leg.given.layout.now }
-    requires none { leg.given.saves.now ≡ [] }
 {
     let stop = stop_at(rt.alloc(), leg.case.stop)?;
     let mut one_by_one = World::new(rt.alloc(), leg.keys, leg.given, stop)?;
@@ -279,12 +275,10 @@ fn check_rows(
 }
 
 /// Follows choices in three worlds of one leg.
-#[tactic(auto, using(core_steps::proofs::Sound::takes_none))]
 fn follow_leg(rt: &(impl AllocGlobal + Abort), leg: Leg<'_>) -> Result<(), Fail>
     requires belongs { BelongsTo leg.given.plan.now leg.given.input.now }
     requires starts { IsStartIn leg.given.plan.now leg.given.input.now leg.given.start.now }
     requires laid_out { IsLayoutOf leg.given.plan.now leg.given.layout.now }
-    requires none { leg.given.saves.now ≡ [] }
 {
     let stop = stop_at(rt.alloc(), leg.case.stop)?;
     let mut by_hand = World::new(rt.alloc(), leg.keys, leg.given, stop)?;
@@ -300,7 +294,6 @@ fn follow_given<R: AllocGlobal + Abort + RandomSource>(
     requires belongs { BelongsTo given.plan.now given.input.now }
     requires starts { IsStartIn given.plan.now given.input.now given.start.now }
     requires laid_out { IsLayoutOf given.plan.now given.layout.now }
-    requires none { given.saves.now ≡ [] }
 {
     let keys = HashKeys::random(rt)?;
     follow_leg(rt, Leg { keys, given, case })

@@ -8,6 +8,8 @@ mod following;
 #[cfg(test)]
 mod making;
 #[cfg(test)]
+mod saves;
+#[cfg(test)]
 mod sharing;
 #[cfg(test)]
 mod worlds;

@@ -1,10 +1,6 @@
-ghost use Rattle.std.specs.Prelude.{[], ◌≡◌};
 ghost use Rattle.stream_model.specs.InputData.{BelongsTo};
-ghost use Rattle.legs.specs.Stops.{until_of};
 ghost use Rattle.redistribute.specs.Begins.{IsStartIn};
-ghost use Rattle.redistribute.specs.StartData.{offsets_of};
-ghost use Rattle.redistribute.specs.Stopping.{CanSaveAt};
-ghost use Rattle.task_setups.specs.Legs.{IsLayoutOf, counts_of};
+ghost use Rattle.task_setups.specs.Legs.{IsLayoutOf};
 
 use crate::making::{layout_at, stop_at};
 use core_steps::{Finish, Given, Sealed, World};
@@ -222,7 +218,6 @@ fn check_world<R: AllocGlobal + Abort>(
     requires belongs { BelongsTo given.plan.now given.input.now }
     requires starts { IsStartIn given.plan.now given.input.now given.start.now }
     requires laid_out { IsLayoutOf given.plan.now given.layout.now }
-    requires saves { CanSaveAt given.input.now.sources (offsets_of given.start.now) (counts_of given.saves.now) (until_of stop) }
 {
     let mut world = World::new(rt.alloc(), keys, given, stop)?;
     for part in case.parts {
@@ -232,7 +227,6 @@ fn check_world<R: AllocGlobal + Abort>(
     Ok(())
 }
 
-#[tactic(auto, using(core_steps::proofs::Sound::takes_none))]
 fn check_given<R: AllocGlobal + Abort + RandomSource>(
     rt: &R,
     given: Given<'_>,
@@ -241,15 +235,13 @@ fn check_given<R: AllocGlobal + Abort + RandomSource>(
     requires belongs { BelongsTo given.plan.now given.input.now }
     requires starts { IsStartIn given.plan.now given.input.now given.start.now }
     requires laid_out { IsLayoutOf given.plan.now given.layout.now }
-    requires none { given.saves.now ≡ [] }
 {
     let keys = HashKeys::random(rt)?;
     let stop = stop_at(rt.alloc(), case.stop)?;
     Ok(check_world(rt, keys, given, stop, case))
 }
 
-/// The leg goes on where it could stop, with a savepoint, and runs to its end.
-#[tactic(auto, using(crate::proofs::Saving::saves_where_it_stops))]
+/// The leg takes a savepoint where it could stop, goes on, and runs to its end.
 fn check_on_way<R: AllocGlobal + Abort + RandomSource>(
     rt: &R,
     given: Given<'_>,
@@ -260,11 +252,7 @@ fn check_on_way<R: AllocGlobal + Abort + RandomSource>(
     requires laid_out { IsLayoutOf given.plan.now given.layout.now }
 {
     let keys = HashKeys::random(rt)?;
-    let stop = stop_at(rt.alloc(), case.stop)?;
-    if let Err(fault) = given.start.check_stop(given.input, &stop) {
-        return Ok(Err(fault));
-    }
-    let Stop::At(cut) = stop else {
+    let Stop::At(cut) = stop_at(rt.alloc(), case.stop)? else {
         return Ok(Ok(()));
     };
     let given = Given {

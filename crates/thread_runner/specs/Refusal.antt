@@ -1,5 +1,5 @@
 -- Why a leg on threads has no answer.
-use Rattle.std.specs.Prelude.{◌≡◌, ◌⊎◌, ℕ, List}
+use Rattle.std.specs.Prelude.{◌≡◌, ◌⊎◌, ℕ, List, []}
 use Rattle.stream_model.specs.declared.entry.Entry.{Entry}
 use Rattle.legs.specs.declared.fault.LegFault.{LegFault}
 use Rattle.legs.specs.declared.fault.LegFault.TheVariants.{Memory, Threads}
@@ -12,4 +12,4 @@ IsWant fault = (fault ≡ Memory) ⊎ (fault ≡ Threads)
 
 -- why a leg in one thread has none, or a thread was refused to a leg that can go so far
 abbrev pub IsThreadRefusal : List (List (List Entry)) → List (List ℕ) → Until → LegFault → Type 0
-IsThreadRefusal sources begin until fault = IsRefusal sources begin until fault ⊎ ((fault ≡ Threads) × CanGo sources begin until)
+IsThreadRefusal sources begin until fault = IsRefusal sources begin [] until fault ⊎ ((fault ≡ Threads) × CanGo sources begin until)

@@ -6,7 +6,7 @@ ghost use Rattle.layout_rules.specs.Scale.{IsScale};
 ghost use Rattle.legs.specs.Stops.{until_in};
 ghost use Rattle.redistribute.specs.StartData.{offsets_of};
 ghost use Rattle.redistribute.specs.Begins.{IsStartIn, IsFromNothing};
-ghost use Rattle.redistribute.specs.Stopping.{CanGo, CanSaveAt, IsRefusal};
+ghost use Rattle.redistribute.specs.Stopping.{CanGo, IsRefusal};
 ghost use Rattle.task_setups.specs.Legs.{IsLayoutOf, counts_of};
 ghost use Rattle.core_steps.specs.Given.{given_data};
 ghost use Rattle.core_steps.specs.World.{IsSound};
@@ -46,7 +46,8 @@ use window_state::HashKeys;
 ///
 /// # Errors
 ///
-/// `StopRange` where a leg from the start cannot stop so; `Memory`.
+/// `StopRange` where a leg from the start cannot stop so, `SaveRange` where it cannot take its savepoints on the way there;
+/// `Memory`.
 pub fn prepared(
     alloc: Global,
     keys: HashKeys,
@@ -58,10 +59,9 @@ pub fn prepared(
     requires starts { IsStartIn given.plan.now given.input.now given.start.now }
     requires number { leg.now.number ≡ given.start.now.number }
     requires same { leg.now.saves.now ≡ given.saves.now }
-    requires saves { CanSaveAt given.input.now.sources (offsets_of given.start.now) (counts_of given.saves.now) (until_in leg.now.until) }
     ensures stops { OnOk result (CanGo given.entry.input.now.sources (offsets_of given.entry.start.now) (until_in leg.now.until)) }
     ensures sound { OnOk result (IsSound (given_data given.entry (until_in leg.now.until))) }
-    ensures refused { IfErr result (λ fault. IsRefusal given.entry.input.now.sources (offsets_of given.entry.start.now) (until_in leg.now.until) fault) }
+    ensures refused { IfErr result (λ fault. IsRefusal given.entry.input.now.sources (offsets_of given.entry.start.now) (counts_of given.entry.saves.now) (until_in leg.now.until) fault) }
     ensures wired { IfOk result (λ jobs. AreWired (given_data given.entry (until_in leg.now.until)) jobs.items) }
 {
     let _sound = each_leg_is_sound();
@@ -99,7 +99,7 @@ fn word_in(asked: &Option<Arc<AtomicBool>>) -> Option<&AtomicBool> {
 ///
 /// `StopRange` where a leg from the start cannot stop so, else `Threads` where a thread was refused, and `Memory` where
 /// memory runs out.
-#[tactic(auto, using(core_steps::proofs::Sound::takes_none))]
+#[tactic(auto, using(redistribute::proofs::Facts::no_saves))]
 pub fn run_leg<R: Threads + Wait + Clock + Sync, G: Gate>(
     rt: &R,
     alloc: Global,

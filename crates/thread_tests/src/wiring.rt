@@ -1,13 +1,13 @@
 //! A leg whose rings are made, and settled, by hand, and what workers do where one has failed.
 
-ghost use Rattle.std.specs.Prelude.{[], ◌≡◌, IfOk, IfSome, OnOk, length};
+ghost use Rattle.std.specs.Prelude.{◌≡◌, IfOk, IfSome, OnOk, length};
 ghost use Rattle.stream_model.specs.InputData.{BelongsTo};
 ghost use Rattle.legs.specs.Stops.{until_in};
 ghost use Rattle.redistribute.specs.Begins.{IsStartIn};
 ghost use Rattle.redistribute.specs.StartData.{offsets_of};
-ghost use Rattle.redistribute.specs.Stopping.{CanGo, CanSaveAt};
+ghost use Rattle.redistribute.specs.Stopping.{CanGo};
 ghost use Rattle.layout_rules.specs.Stages.{task_count};
-ghost use Rattle.task_setups.specs.Legs.{IsLayoutOf, counts_of};
+ghost use Rattle.task_setups.specs.Legs.{IsLayoutOf};
 ghost use Rattle.core_steps.specs.Given.{given_data};
 ghost use Rattle.core_steps.specs.World.{IsSound};
 ghost use Rattle.thread_runner.specs.Edges.{AreJoined, AreLeft, HasEdges, SameDones, in_names, out_names, put_tables, taken_tables};
@@ -81,7 +81,6 @@ fn run_wired<R: AllocGlobal + Threads + Wait + Clock + Sync>(
     requires starts { IsStartIn given.plan.now given.input.now given.start.now }
     requires number { leg.now.number ≡ given.start.now.number }
     requires same { leg.now.saves.now ≡ given.saves.now }
-    requires saves { CanSaveAt given.input.now.sources (offsets_of given.start.now) (counts_of given.saves.now) (until_in leg.now.until) }
     ensures stops { OnOk result (CanGo given.entry.input.now.sources (offsets_of given.entry.start.now) (until_in leg.now.until)) }
     ensures sound { OnOk result (IsSound (given_data given.entry (until_in leg.now.until))) }
     ensures worked { IfOk result (λ dones. IfSome dones (λ v. AreWorked (given_data given.entry (until_in leg.now.until)) v.items)) }
@@ -108,7 +107,6 @@ fn check_whole<R: AllocGlobal + Abort + Threads + Wait + Clock + Sync>(
     requires starts { IsStartIn given.plan.now given.input.now given.start.now }
     requires number { leg.now.number ≡ given.start.now.number }
     requires same { leg.now.saves.now ≡ given.saves.now }
-    requires saves { CanSaveAt given.input.now.sources (offsets_of given.start.now) (counts_of given.saves.now) (until_in leg.now.until) }
 {
     let Some(dones) = run_wired(rt, keys, given, leg)? else {
         return Err(LegFault::Memory);
@@ -145,7 +143,6 @@ fn check_failed<R: AllocGlobal + Abort + Threads + Wait + Clock + Sync>(
     requires starts { IsStartIn given.plan.now given.input.now given.start.now }
     requires number { leg.now.number ≡ given.start.now.number }
     requires same { leg.now.saves.now ≡ given.saves.now }
-    requires saves { CanSaveAt given.input.now.sources (offsets_of given.start.now) (counts_of given.saves.now) (until_in leg.now.until) }
 {
     let jobs = prepared(rt.alloc(), keys, given, leg)?;
     let failed = AtomicBool::new(true);
@@ -190,7 +187,6 @@ fn check_leg<R: AllocGlobal + Abort + Threads + Wait + Clock + Sync>(
     requires starts { IsStartIn given.plan.now given.input.now given.start.now }
     requires number { leg.now.number ≡ given.start.now.number }
     requires same { leg.now.saves.now ≡ given.saves.now }
-    requires saves { CanSaveAt given.input.now.sources (offsets_of given.start.now) (counts_of given.saves.now) (until_in leg.now.until) }
 {
     match trial {
         Trial::Whole => check_whole(rt, keys, given, leg),
@@ -199,7 +195,6 @@ fn check_leg<R: AllocGlobal + Abort + Threads + Wait + Clock + Sync>(
     }
 }
 
-#[tactic(auto, using(core_steps::proofs::Sound::takes_none))]
 fn check_given<R: AllocGlobal + Abort + RandomSource + Threads + Wait + Clock + Sync>(
     rt: &R,
     given: Given<'_>,
@@ -208,7 +203,6 @@ fn check_given<R: AllocGlobal + Abort + RandomSource + Threads + Wait + Clock + 
     requires laid_out { IsLayoutOf given.plan.now given.layout.now }
     requires belongs { BelongsTo given.plan.now given.input.now }
     requires starts { IsStartIn given.plan.now given.input.now given.start.now }
-    requires none { given.saves.now ≡ [] }
 {
     let keys = HashKeys::random(rt)?;
     let leg = Leg {

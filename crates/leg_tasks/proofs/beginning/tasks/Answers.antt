@@ -30,4 +30,4 @@ returns-clause-begin c =
     let made = c.requires.laid_out in
     let compiled : IsCompiled p made.scale l.stages = subst (IsCompiled p made.scale) (sym (ap (λ m. m.stages) made.is)) (compiled_ever p made.scale) in
     subst (BeginLeg p i s l.stages (layout_to p i leg.number (counts_of leg.saves.now) (until_in leg.until) l.stages)) (sym c.in_ok-tasks_from.ensures)
-    (new_tasks_begin p made.scale i s leg.number (counts_of leg.saves.now) (until_in leg.until) l.stages c.columns-columns.ensures.sound made.fits compiled c.requires.belongs c.requires.saves.cuts (stays_within i s (until_in leg.until) c.in_ok-check_until.ensures))
+    (new_tasks_begin p made.scale i s leg.number (counts_of leg.saves.now) (until_in leg.until) l.stages c.columns-columns.ensures.sound made.fits compiled c.requires.belongs c.in_ok-check_saves_until.ensures.cuts (stays_within i s (until_in leg.until) c.in_ok-check_until.ensures))

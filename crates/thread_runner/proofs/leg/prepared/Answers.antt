@@ -1,6 +1,11 @@
-use Rattle.std.proofs.Common.{◌≡◌, List, map, length, drop, refl, sym, ap, subst, arith, ◌∙◌}
+use Rattle.std.proofs.Common.{◌≡◌, ℕ, List, map, length, drop, refl, sym, ap, subst, arith, ◌∙◌}
 use Rattle.std.proofs.lemmas.List.{take_at, length-map}
-use Rattle.legs.specs.Stops.{until_in}
+use Rattle.stream_model.specs.declared.entry.Entry.{Entry}
+use Rattle.dataflow_model.specs.Leg.{Until}
+use Rattle.legs.specs.declared.cut.Cut.{Cut}
+use Rattle.legs.specs.Stops.{counts_of, until_in}
+use Rattle.redistribute.specs.StartData.{offsets_of}
+use Rattle.redistribute.specs.Stopping.{CanSaveAt}
 use Rattle.leg_tasks.specs.Beginning.{BeginLeg}
 use Rattle.core_steps.specs.Given.{given_data, layout_in}
 use Rattle.core_steps.specs.World.{IsSound}
@@ -13,6 +18,10 @@ use Rattle.task_steps.specs.TaskData.{TaskData}
 use Rattle.thread_runner.proofs.LegLemmas.{wired_jobs}
 use Rattle.thread_runner.proofs.leg.prepared.Goals as goal
 
+-- the leg's savepoints are those that were given
+saves_of : (sources : List (List (List Entry))) (begin : List (List ℕ)) (cuts given : List Cut) (until : Until) → cuts ≡ given → CanSaveAt sources begin (counts_of cuts) until → CanSaveAt sources begin (counts_of given) until
+saves_of sources begin cuts given until same can = subst (λ cs. CanSaveAt sources begin (counts_of cs) until) same can
+
 pub wire-requires-clause-edges : goal.wire-requires-clause-edges
 wire-requires-clause-edges c = (c.layouts_have_edges-edges.ensures c.args.given.plan.now c.args.given.layout.now c.columns-columns.ensures.sound c.requires.laid_out).0
 
@@ -22,7 +31,7 @@ wire-requires-clause-rings c = (c.layouts_have_edges-edges.ensures c.args.given.
 pub wire-requires-clause-count : goal.wire-requires-clause-count
 wire-requires-clause-count c =
     let g = given_data c.args.given (until_in c.args.leg.now.until) in
-    let s : IsSound g = c.each_leg_is_sound-sound.ensures g (record { plan = c.columns-columns.ensures.sound; input = c.sources-sources.ensures.sound; orderly = c.sources-sources.ensures.orderly; belongs = c.requires.belongs; laid_out = c.requires.laid_out; starts = c.requires.starts; stops = c.in_ok-tasks.ensures.stops; saves = c.requires.saves }) in
+    let s : IsSound g = c.each_leg_is_sound-sound.ensures g (record { plan = c.columns-columns.ensures.sound; input = c.sources-sources.ensures.sound; orderly = c.sources-sources.ensures.orderly; belongs = c.requires.belongs; laid_out = c.requires.laid_out; starts = c.requires.starts; stops = c.in_ok-tasks.ensures.stops; saves = saves_of g.input.sources (offsets_of g.start) c.args.leg.now.saves.now c.args.given.saves.now g.until c.requires.same c.in_ok-tasks.ensures.saves }) in
     let tasks = c.in_ok-tasks.tasks.items in
     let begin : BeginLeg g.plan g.input g.start g.layout.stages (layout_in g) tasks = begins g c.args.leg.now.number c.args.leg.now.saves.now c.args.given.saves.now tasks c.requires.number c.requires.same refl c.in_ok-tasks.ensures.begin in
     let new : AreNewTasks g tasks = c.tasks_begin_new-new.ensures g tasks s c.requires.belongs begin in
@@ -35,12 +44,12 @@ wire-requires-clause-count c =
 pub returns-clause-sound : goal.returns-clause-sound
 returns-clause-sound c =
     let g = given_data c.args.given (until_in c.args.leg.now.until) in
-    c.each_leg_is_sound-sound.ensures g (record { plan = c.columns-columns.ensures.sound; input = c.sources-sources.ensures.sound; orderly = c.sources-sources.ensures.orderly; belongs = c.requires.belongs; laid_out = c.requires.laid_out; starts = c.requires.starts; stops = c.in_ok-tasks.ensures.stops; saves = c.requires.saves })
+    c.each_leg_is_sound-sound.ensures g (record { plan = c.columns-columns.ensures.sound; input = c.sources-sources.ensures.sound; orderly = c.sources-sources.ensures.orderly; belongs = c.requires.belongs; laid_out = c.requires.laid_out; starts = c.requires.starts; stops = c.in_ok-tasks.ensures.stops; saves = saves_of g.input.sources (offsets_of g.start) c.args.leg.now.saves.now c.args.given.saves.now g.until c.requires.same c.in_ok-tasks.ensures.saves })
 
 pub returns-clause-wired : goal.returns-clause-wired
 returns-clause-wired c =
     let g = given_data c.args.given (until_in c.args.leg.now.until) in
-    let s : IsSound g = c.each_leg_is_sound-sound.ensures g (record { plan = c.columns-columns.ensures.sound; input = c.sources-sources.ensures.sound; orderly = c.sources-sources.ensures.orderly; belongs = c.requires.belongs; laid_out = c.requires.laid_out; starts = c.requires.starts; stops = c.in_ok-tasks.ensures.stops; saves = c.requires.saves }) in
+    let s : IsSound g = c.each_leg_is_sound-sound.ensures g (record { plan = c.columns-columns.ensures.sound; input = c.sources-sources.ensures.sound; orderly = c.sources-sources.ensures.orderly; belongs = c.requires.belongs; laid_out = c.requires.laid_out; starts = c.requires.starts; stops = c.in_ok-tasks.ensures.stops; saves = saves_of g.input.sources (offsets_of g.start) c.args.leg.now.saves.now c.args.given.saves.now g.until c.requires.same c.in_ok-tasks.ensures.saves }) in
     let tasks = c.in_ok-tasks.tasks.items in
     let begin : BeginLeg g.plan g.input g.start g.layout.stages (layout_in g) tasks = begins g c.args.leg.now.number c.args.leg.now.saves.now c.args.given.saves.now tasks c.requires.number c.requires.same refl c.in_ok-tasks.ensures.begin in
     let new : AreNewTasks g tasks = c.tasks_begin_new-new.ensures g tasks s c.requires.belongs begin in

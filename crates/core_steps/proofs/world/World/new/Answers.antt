@@ -1,8 +1,6 @@
 use Rattle.std.proofs.Common.{sym, subst}
 use Rattle.legs.specs.Stops.{until_in}
 use Rattle.dataflow_laws.specs.Compiled.{layout_to}
-use Rattle.redistribute.specs.StartData.{offsets_of}
-use Rattle.redistribute.specs.Stopping.{CanSaveAt}
 use Rattle.leg_tasks.specs.Beginning.{BeginLeg}
 use Rattle.core_steps.specs.Given.{given_data, layout_in}
 use Rattle.core_steps.specs.Beginning.{IsNewWorld}
@@ -17,8 +15,7 @@ invariant_of-world c =
     let g = given_data c.args.given until in
     let tasks = c.in_ok-tasks.tasks.items in
     let begin : BeginLeg g.plan g.input g.start g.layout.stages (layout_in g) tasks = subst (λ n. BeginLeg g.plan g.input g.start g.layout.stages (layout_to g.plan g.input n g.saves g.until g.layout.stages) tasks) c.number.ensures c.in_ok-tasks.ensures.begin in
-    let saves = subst (CanSaveAt g.input.sources (offsets_of g.start) g.saves) (sym c.from.ensures) c.requires.saves in
-    let s = sound g (record { plan = c.columns-columns.ensures.sound; input = c.sources-sources.ensures.sound; orderly = c.sources-sources.ensures.orderly; belongs = c.requires.belongs; laid_out = c.requires.laid_out; starts = c.requires.starts; stops = c.in_ok-tasks.ensures.stops; saves = saves }) in
+    let s = sound g (record { plan = c.columns-columns.ensures.sound; input = c.sources-sources.ensures.sound; orderly = c.sources-sources.ensures.orderly; belongs = c.requires.belongs; laid_out = c.requires.laid_out; starts = c.requires.starts; stops = c.in_ok-tasks.ensures.stops; saves = c.in_ok-tasks.ensures.saves }) in
     is_world g tasks c.in_ok-rings.rings s (are_new_tasks g tasks s c.requires.belongs begin) c.in_ok-rings.ensures
 
 pub returns-clause-opens : goal.returns-clause-opens
@@ -27,6 +24,5 @@ returns-clause-opens c =
     let g = given_data c.args.given until in
     let tasks = c.in_ok-tasks.tasks.items in
     let begin : BeginLeg g.plan g.input g.start g.layout.stages (layout_in g) tasks = subst (λ n. BeginLeg g.plan g.input g.start g.layout.stages (layout_to g.plan g.input n g.saves g.until g.layout.stages) tasks) c.number.ensures c.in_ok-tasks.ensures.begin in
-    let saves = subst (CanSaveAt g.input.sources (offsets_of g.start) g.saves) (sym c.from.ensures) c.requires.saves in
-    let s = sound g (record { plan = c.columns-columns.ensures.sound; input = c.sources-sources.ensures.sound; orderly = c.sources-sources.ensures.orderly; belongs = c.requires.belongs; laid_out = c.requires.laid_out; starts = c.requires.starts; stops = c.in_ok-tasks.ensures.stops; saves = saves }) in
+    let s = sound g (record { plan = c.columns-columns.ensures.sound; input = c.sources-sources.ensures.sound; orderly = c.sources-sources.ensures.orderly; belongs = c.requires.belongs; laid_out = c.requires.laid_out; starts = c.requires.starts; stops = c.in_ok-tasks.ensures.stops; saves = c.in_ok-tasks.ensures.saves }) in
     subst (λ u. IsNewWorld (given_data c.args.given u) (new_world g tasks c.in_ok-rings.rings)) c.from.ensures (is_new g tasks c.in_ok-rings.rings (are_new_tasks g tasks s c.requires.belongs begin) c.in_ok-rings.ensures)

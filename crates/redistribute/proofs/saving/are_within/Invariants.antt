@@ -1,0 +1,9 @@
+use Rattle.std.proofs.Common.{drop}
+use Rattle.std.specs.Prelude.{◌↔◌}
+use Rattle.std.specs.List.{AllByRecursion}
+use Rattle.stream_model.specs.Watermarks.{IsCut}
+use Rattle.legs.specs.Stops.{counts_of}
+use Rattle.redistribute.proofs.saving.are_within.Given as goal
+
+abbrev pub invariant-loop-cut : goal.invariant-loop-cut
+invariant-loop-cut l = AllByRecursion (IsCut l.sources) (counts_of l.cuts) ↔ AllByRecursion (IsCut l.sources) (counts_of (drop l.cut-index l.cuts))

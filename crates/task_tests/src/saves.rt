@@ -1,0 +1,121 @@
+ghost use Rattle.stream_model.specs.InputData.{BelongsTo};
+
+use crate::making::stop_at;
+use legs::{Cut, LegFault, Stop, Until};
+use logical_plan::ReadPlan;
+use plain_data::Items;
+use plan_model::Plan;
+use redistribute::Start;
+use std::alloc::{AllocError, Global};
+use std::process::Abort;
+use std::test::Fail;
+use stream_input::ReadInput;
+use stream_model::Input;
+
+const PLAN: &str =
+    r#"{"columns":3,"maxParallelism":128,"time":0,"key":1,"sources":[{"uid":"s","partitions":2}],"window":{"uid":"w","size":10,"aggregates":[{"fn":"count"}]}}"#;
+
+/// Three entries in each of two partitions.
+const INPUT: &str =
+    r#"{"s":[[{"rows":[[1,1,5],[12,1,7]]},{"watermark":9},{"rows":[[15,0,-3]]}],[{"rows":[[3,0,4]]},{"watermark":11},{"rows":[[13,1,2]]}]]}"#;
+
+/// A cut where so many entries of each partition were read.
+fn cut_of(alloc: Global, counts: &[u64]) -> Result<Cut, AllocError> {
+    let source = Items::from_vec(Vec::from_slice(alloc, counts)?);
+    let counts = Items::from_vec(vec![in alloc; source]?);
+    Ok(Cut { counts })
+}
+
+/// Cuts at which a leg is to take savepoints, where it stops, if it does, and whether it can take them.
+struct Case<'a> {
+    saves: &'a [&'a [u64]],
+    stop: Option<&'a [u64]>,
+    can: bool,
+}
+
+fn check_case<R: AllocGlobal + Abort>(
+    rt: &R,
+    input: &Input,
+    start: &Start,
+    case: &Case<'_>,
+) -> Result<(), Fail> {
+    let alloc = rt.alloc();
+    let mut saves = Vec::new(alloc);
+    for counts in case.saves {
+        saves.push(cut_of(alloc, *counts)?)?;
+    }
+    let stop = stop_at(alloc, case.stop)?;
+    let expected = if case.can {
+        Ok(())
+    } else {
+        Err(LegFault::SaveRange)
+    };
+    assert_eq!(rt;
+        start.check_saves(input, &saves, &stop),
+        expected,
+        "{:?}",
+        case.saves
+    );
+    let until = Until::from(stop);
+    assert_eq!(rt; start.check_saves_until(input, &saves, &until), expected);
+    Ok(())
+}
+
+fn check_cases<R: AllocGlobal + Abort>(rt: &R, input: &Input, start: &Start) -> Result<(), Fail> {
+    for (saves, stop, can) in [
+        (&[] as &[&[u64]], None, true),
+        (&[&[2, 2]], None, true),
+        (&[&[0, 0], &[0, 0], &[3, 3]], None, true),
+        (&[&[2, 2], &[1, 3]], None, false),
+        (&[&[3, 4]], None, false),
+        (&[&[2]], None, false),
+        (&[&[1, 2], &[2, 2]], Some(&[2, 2] as &[u64]), true),
+        (&[&[2, 2]], Some(&[2, 1]), false),
+    ] {
+        check_case(rt, input, start, &Case { saves, stop, can })?;
+    }
+    Ok(())
+}
+
+/// A leg takes so many savepoints, and not one more; where it may be asked to stop, none.
+fn check_limits<R: AllocGlobal + Abort>(rt: &R, input: &Input, start: &Start) -> Result<(), Fail> {
+    let alloc = rt.alloc();
+    let mut saves = Vec::new(alloc);
+    assert_eq!(rt;
+        start.check_saves_until(input, &saves, &Until::TillAsked),
+        Ok(())
+    );
+    for _ in 0..1024 {
+        saves.push(cut_of(alloc, &[1, 1])?)?;
+    }
+    assert_eq!(rt; start.check_saves(input, &saves, &Stop::Never), Ok(()));
+    assert_eq!(rt;
+        start.check_saves_until(input, &saves[..1], &Until::TillAsked),
+        Err(LegFault::SaveRange)
+    );
+    saves.push(cut_of(alloc, &[1, 1])?)?;
+    assert_eq!(rt;
+        start.check_saves(input, &saves, &Stop::Never),
+        Err(LegFault::SaveRange)
+    );
+    Ok(())
+}
+
+fn check_start<R: AllocGlobal + Abort>(rt: &R, plan: &Plan, input: &Input) -> Result<(), Fail>
+    requires { BelongsTo plan.now input.now }
+{
+    let start = Start::empty(rt.alloc(), plan, input)?;
+    check_cases(rt, input, &start)?;
+    check_limits(rt, input, &start)
+}
+
+fn check_plan<R: AllocGlobal + Abort>(rt: &R, plan: &Plan) -> Result<(), Fail> {
+    let input = Input::read(rt.alloc(), plan, INPUT.as_bytes())?;
+    check_start(rt, plan, &input)
+}
+
+#[test]
+fn a_leg_takes_savepoints_at_cuts_that_rise_to_its_stop(rt: HostRuntime) -> Result<(), Fail> {
+    let plan = Plan::read(rt.alloc(), PLAN.as_bytes())?;
+    check_plan(&rt, &plan)
+}
