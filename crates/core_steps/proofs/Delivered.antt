@@ -1,12 +1,13 @@
 -- A leg that has ended has delivered the rows that became due, and leaves the savepoint of its cut.
-use Rattle.std.proofs.Common.{◌≡◌, ◌⊎◌, inl, inr, ℕ, Bool, true, false, List, [], map, refl, sym, ap, subst, ◌∙◌}
-use Rattle.std.proofs.lemmas.Bool.{cases_eq, eq-eqb, ne_eqb}
+use Rattle.std.proofs.Common.{◌≡◌, ◌⊎◌, inl, inr, ℕ, Bool, true, false, List, [], map, refl, sym, ap, subst, ◌∙◌, arith}
+use Rattle.std.proofs.lemmas.Bool.{cases_eq, eq-eqb, false≢true, ne_eqb}
 use Rattle.std.specs.FinMap.{get, get-empty, from_entries}
 use Rattle.std.specs.List.{filter, flat_map}
 use Rattle.std.specs.Option.{option_to_list}
 use Rattle.std.specs.Prelude.{Option, None, ◌==◌, if◌then◌else◌}
 use Rattle.plan_model.specs.PlanData.{PlanData}
 use Rattle.plan_model.specs.declared.spec.Pane.{Pane}
+use Rattle.plan_model.specs.declared.spec.Row.{Row}
 use Rattle.plan_model.specs.Rows.{pane_cmp, row_is_at, AreRowsOf}
 use Rattle.stream_model.specs.InputData.{InputData}
 use Rattle.stream_model.specs.PlanRows.{plan_rows, snapshot}
@@ -23,6 +24,8 @@ use Rattle.dataflow_laws.specs.World.{with_task}
 use Rattle.dataflow_laws.proofs.Facts.{worlds_are_histories, compiled_leg_delivers_at, compiled_leg_delivers_all, compiled_leg_so_far}
 use Rattle.input_flow.specs.InputEntries.{input_of, counts_at}
 use Rattle.input_flow.proofs.Facts.{empty_counts}
+use Rattle.dataflow_laws.specs.Stopped.{ComesTo}
+use Rattle.savepoint_codec.specs.declared.savepoint.Contents.{Contents}
 use Rattle.redistribute.specs.StartData.{StartData, offsets_of}
 use Rattle.redistribute.specs.Begins.{IsFromNothing, HasSnapshot}
 use Rattle.window_state.specs.Parts.{entries_of}
@@ -31,10 +34,11 @@ use Rattle.redistribute.proofs.Facts.{tasks_have_snapshot}
 use Rattle.leg_tasks.specs.Saved.{IsSavedAt}
 use Rattle.leg_tasks.proofs.Facts.{tasks_save_the_cut}
 use Rattle.core_steps.specs.declared.finish.Finish.{Finish}
+use Rattle.core_steps.specs.declared.finish.Finish.TheVariants.{Ended, Stopped, Abandoned}
 use Rattle.core_steps.specs.Given.{GivenData, layout_in, start_in}
 use Rattle.core_steps.specs.World.{WorldData, world_in, IsGiven, IsSound, IsEnd, IsWorld}
-use Rattle.core_steps.specs.Finishing.{HasEnded, finish_of, finish_with, has_stopped, number_after, rows_in, rows_of, savepoint_of}
-use Rattle.core_steps.specs.Ending.{IsEndOf, IsAskedEnd, IsWholeRun}
+use Rattle.core_steps.specs.Finishing.{HasEnded, IsFinishOf, has_stopped, number_after, rows_in, rows_of, savepoint_of}
+use Rattle.core_steps.specs.Ending.{HasGone, IsEndOf, IsWholeRun}
 use Rattle.core_steps.specs.Laws.{AskedLegsEnd}
 use Rattle.core_steps.proofs.Ending.{came, comes, comes_there, goes_to_cut}
 use Rattle.core_steps.proofs.Sound.{compiled, sound}
@@ -82,18 +86,17 @@ module _ (g : GivenData) (states : ℕ → State) (ended : HasEnded g states) wh
   pub at_its_end : (g.until ≡ TillAsked → ⊥) → cut ≡ cut_to g.input g.until
   at_its_end never = comes_there g.input (offsets_of g.start) g.until (has_stopped g ended.history.end) cut never (came g states ended).1
 
-  -- how such a leg has ended
-  pub end_of : (finish : Finish) → finish ≡ finish_of g states → IsEndOf g.plan g.input g.start g.saves g.until finish
-  end_of finish is = record {
-    rows = rows_of g states;
-    savepoint = savepoint_of g states;
-    stopped = has_stopped g states;
+  -- it has gone there with the rows of its sink
+  pub gone : (stopped : Bool) (rows : List Row) → has_stopped g states ≡ stopped → rows ≡ rows_of g states → HasGone g.plan g.input g.start g.until stopped rows
+  gone stopped rows so is = record {
     cut = cut;
-    is = is;
-    comes = comes g states ended;
-    delivered = delivers;
-    saved = λ _. saves;
+    comes = subst (λ b. ComesTo g.input (offsets_of g.start) g.until b cut) so (comes g states ended);
+    delivered = λ has. subst (AreRowsOf (due_between g.plan g.input.sources (offsets_of g.start) cut)) (sym is) (delivers has);
   }
+
+  pub stopped_of : (rows : List Row) (savepoint : Contents) → IsFinishOf g states (Stopped rows savepoint) → IsEndOf g.plan g.input g.start g.saves g.until (Stopped rows savepoint)
+  unfolding gone
+  stopped_of rows savepoint is = (gone true rows is.0 is.1, λ has. subst (IsSavedAt g.plan g.input cut (number_after g.start.number g.saves)) (sym is.2) (saves has))
 
   all_rows : (n : ℕ) → n ≡ 0 → (start : ℕ → State) → let a = layout_to g.plan g.input n g.saves ToEnd g.layout.stages in IsLegStart g.plan a start → HaveNothing (input_of g.plan g.input) a start → (h : History g.plan a start) → IsComplete h
       → AreRowsOf (plan_rows g.plan g.input.sources) (h.end a.sink).rows
@@ -118,20 +121,19 @@ to_end g states ended nothing =
     subst (λ (f : ℕ → State). AreRowsOf (plan_rows g.plan g.input.sources) (f (layout_in n).sink).rows) ended.ends
     (all_rows n states ended g.start.number nothing.number (start_in n) (sound n ended.given).start (nothing_here n states ended nothing) ended.history ended.complete)
 
-pub whole_run : (g : GivenData) (states : ℕ → State) → HasEnded g states → (finish : Finish) → finish ≡ finish_of g states → IsFromNothing g.input g.start → g.until ≡ ToEnd → IsWholeRun g.plan g.input finish
-whole_run g states ended finish is nothing ends =
-    let rows = subst (λ (x : Until). let n = record g { until = x } in HasEnded n states → AreRowsOf (plan_rows g.plan g.input.sources) (rows_of n states)) (sym ends) (λ e. to_end g states e nothing) ended in
-    let goes_on = (comes g states ended).to_end ends in
-    subst (IsWholeRun g.plan g.input) (sym (is ∙ ap (λ (b : Bool). finish_with b (rows_of g states) (savepoint_of g states)) goes_on)) rows
+pub whole_run : (g : GivenData) (states : ℕ → State) → HasEnded g states → (finish : Finish) → IsFinishOf g states finish → IsFromNothing g.input g.start → g.until ≡ ToEnd → IsWholeRun g.plan g.input finish
+whole_run g states ended (Ended rows sealed) is nothing ends =
+    let all = subst (λ (x : Until). let n = record g { until = x } in HasEnded n states → AreRowsOf (plan_rows g.plan g.input.sources) (rows_of n states)) (sym ends) (λ e. to_end g states e nothing) ended in
+    subst (AreRowsOf (plan_rows g.plan g.input.sources)) (sym is.1) all
+whole_run g states ended (Stopped rows savepoint) is nothing ends = absurd (false≢true (sym ((comes g states ended).to_end ends) ∙ is.0))
+whole_run g states ended (Abandoned sealed) is nothing ends = absurd is
 
 -- ---- of legs that may be asked to stop
 
 pub asked_legs_end : AskedLegsEnd
-asked_legs_end p i s finish e = subst (IsAskedEnd p i s) (sym e.is) (by_stopped p i s finish e e.stopped refl)
-  where
-    by_stopped : (p : PlanData) (i : InputData) (s : StartData) (finish : Finish) (e : IsEndOf p i s [] TillAsked finish) (b : Bool) → e.stopped ≡ b → IsAskedEnd p i s (finish_with b e.rows e.savepoint)
-    by_stopped p i s finish e false same = λ has. subst (λ c. AreRowsOf (due_between p i.sources (offsets_of s) c) e.rows) (e.comes.ended same) (e.delivered has)
-    by_stopped p i s finish e true same = (e.cut, e.comes.is_cut, e.comes.no_earlier, λ has. (e.delivered has, e.saved same has))
+asked_legs_end p i s (Ended rows sealed) e = λ has. subst (λ c. AreRowsOf (due_between p i.sources (offsets_of s) c) rows) (e.0.comes.ended refl) (e.0.delivered has)
+asked_legs_end p i s (Stopped rows savepoint) e = (e.0.cut, e.0.comes.is_cut, e.0.comes.no_earlier, λ has. (e.0.delivered has, e.1 has))
+asked_legs_end p i s (Abandoned sealed) e = absurd (let few = e.few in omega (arith, few))
 
 -- ---- of worlds
 

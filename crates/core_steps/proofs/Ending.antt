@@ -1,5 +1,5 @@
 -- When all tasks of a leg are done, they leave what can be saved.
-use Rattle.std.proofs.Common.{◌≡◌, ℕ, suc, ◌+◌, ◌<◌, ◌≤◌, ℤ, Bool, true, false, List, [], ◌∷◌, length, Some, refl, sym, ap, subst, ◌∙◌, inl, inr, arith}
+use Rattle.std.proofs.Common.{◌≡◌, ℕ, suc, ◌+◌, ◌<◌, ◌≤◌, ℤ, Bool, true, false, List, [], ◌∷◌, length, Option, Some, refl, sym, ap, subst, ◌∙◌, inl, inr, arith}
 use Rattle.std.specs.Prelude.{slice_index_or}
 use Rattle.std.specs.FinMap.{get}
 use Rattle.std.proofs.lemmas.Bool.{cases_lt, eq-eqb}
@@ -42,7 +42,9 @@ use Rattle.leg_tasks.specs.Leaving.{CanSave, HaveStates, savepoint_left, state_a
 use Rattle.core_steps.specs.Given.{GivenData, layout_in, start_in}
 use Rattle.core_steps.specs.World.{WorldData, world_in, state_at, IsGiven, IsPlaced, IsSound, IsWorld}
 use Rattle.core_steps.specs.declared.finish.Finish.TheVariants.{Ended, Stopped}
-use Rattle.core_steps.specs.Finishing.{AreAtEnd, HasEnded, HasFinished, finish_of, finish_with, has_stopped, number_after, rows_of, savepoint_of}
+use Rattle.core_steps.specs.declared.sealing.Sealed.{Sealed}
+use Rattle.core_steps.specs.Sealing.{IsSealed}
+use Rattle.core_steps.specs.Finishing.{AreAtEnd, HasEnded, HasFinished, IsFinishOf, has_stopped, number_after, rows_of, savepoint_of}
 use Rattle.core_steps.proofs.States.{state_here}
 use Rattle.core_steps.proofs.Sound.{compiled, sound}
 use Rattle.core_steps.proofs.Worlds.{history_of}
@@ -203,11 +205,11 @@ module _ (g : GivenData) (tasks : List TaskData) (at : AreAtEnd g tasks) (rows :
   rows_are : rows ≡ rows_of g (state_at g tasks)
   rows_are = of_sink (λ (s : State). s.rows) rows g tasks at last
 
-  pub ended_is : has_stopped g (state_at g tasks) ≡ false → Ended rows ≡ finish_of g (state_at g tasks)
-  ended_is goes_on = ap Ended rows_are ∙ ap (λ (b : Bool). finish_with b (rows_of g (state_at g tasks)) (savepoint_of g (state_at g tasks))) (sym goes_on)
+  pub ended_is : has_stopped g (state_at g tasks) ≡ false → (sealed : Option Sealed) → IsSealed g (state_at g tasks) sealed → IsFinishOf g (state_at g tasks) (Ended rows sealed)
+  ended_is goes_on sealed is = (goes_on, rows_are, is)
 
   pub stopped_is : (savepoint : Contents) (held : List TaskData) (n : ℕ) → held ≡ tasks → ((states : ℕ → State) → HaveStates g.layout.stages held states → savepoint ≡ savepoint_left g.plan g.layout.stages states n) → n ≡ number_after g.start.number g.saves → has_stopped g (state_at g tasks) ≡ true
-      → Stopped rows savepoint ≡ finish_of g (state_at g tasks)
+      → IsFinishOf g (state_at g tasks) (Stopped rows savepoint)
   stopped_is savepoint held n same is number stopped =
       let saved : savepoint ≡ savepoint_of g (state_at g tasks) = is (state_at g tasks) (subst (λ ts. HaveStates g.layout.stages ts (state_at g tasks)) (sym same) (have_states g at.ended.given tasks at.count at.placed)) ∙ ap (savepoint_left g.plan g.layout.stages (state_at g tasks)) number in
-      (λ j. Stopped (rows_are j) (saved j)) ∙ ap (λ (b : Bool). finish_with b (rows_of g (state_at g tasks)) (savepoint_of g (state_at g tasks))) (sym stopped)
+      (stopped, rows_are, saved)

@@ -2,7 +2,7 @@
 use Rattle.std.proofs.Common.{◌≡◌, ℕ, ◌<◌, ◌++◌, [], Bool, true, false, length, get_or, set, refl, sym, ap, subst, ◌∙◌, inl, inr, arith}
 use Rattle.std.specs.Prelude.{List, Result, Ok, Err, IfErr}
 use Rattle.std.proofs.lemmas.Bool.{cases_eq, eq-eqb, ne_eqb, false≢true}
-use Rattle.std.proofs.lemmas.List.{append-nil}
+use Rattle.std.proofs.lemmas.List.{append-nil, length-set}
 use Rattle.plan_model.specs.PlanData.{PlanData}
 use Rattle.dataflow_model.specs.declared.message.Message.{Message}
 use Rattle.dataflow_model.specs.AbstractTask.{AbstractTask}
@@ -75,6 +75,7 @@ left : (step : Step) (w : WorldData) (t : ℕ) (d d' : TaskData) (e : Event) →
 left step w t d d' e l is asks i failed = record {
   left = record {
     task = t;
+    there = (let long = length-set w.tasks t d' in omega (arith, l, long));
     going = ap (λ (s : State). s.over) (sym (state_of w t d l is)) ∙ failed.going;
     windows = failed.windows;
     tasks = λ u. state_set w.given w.tasks t d' l u

@@ -17,3 +17,4 @@ pub mod Delivered
 pub mod Legs
 pub mod Passed
 pub mod Sealings
+pub mod OnWay

@@ -273,7 +273,7 @@ other : (tasks : ℕ → State) (t u : ℕ) (new s : State) → (u ≡ t → ⊥
 other tasks t u new s ne is = is ∙ (let b = ne_eqb u t ne in λ j. if b j then new else tasks u)
 
 -- a state that one task has lost the windows of
-spoiled : (tasks : ℕ → State) (t u : ℕ) (windows : Windows) (s : State) → s ≡ with_task t (record (tasks t) { windows = windows }) tasks u → s ≡ record (tasks u) { windows = s.windows }
+pub spoiled : (tasks : ℕ → State) (t u : ℕ) (windows : Windows) (s : State) → s ≡ with_task t (record (tasks t) { windows = windows }) tasks u → s ≡ record (tasks u) { windows = s.windows }
 spoiled tasks t u windows s is = elim (cases_eq u t) [
   | inl e ↦ (
       let b = eq-eqb u t e in

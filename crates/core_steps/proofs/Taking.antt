@@ -2,6 +2,7 @@
 use Rattle.std.proofs.Common.{◌≡◌, ℕ, Bool, true, false, List, [], ◌∷◌, ◌++◌, reverse, get_or, refl, sym, ap, subst, ◌∙◌, inl, inr, arith}
 use Rattle.std.specs.Prelude.{Result, Ok, Err}
 use Rattle.std.proofs.lemmas.Bool.{cases_eq, eq-eqb, ne_eqb, false≢true}
+use Rattle.std.proofs.lemmas.List.{length-set}
 use Rattle.std.proofs.lemmas.Grind.{reverse_onto}
 use Rattle.dataflow_model.specs.declared.message.Message.{Message}
 use Rattle.dataflow_model.specs.declared.message.Message.TheVariants as message
@@ -92,6 +93,7 @@ module _ (w : WorldData) (t i s : ℕ) (m : Message) (d : TaskData) (rings : Rin
   left d' failed = record {
     left = record {
       task = t;
+      there = (let long = length-set w.tasks t d' in let inside = can.task in omega (arith, inside, long));
       going = ap (λ (v : State). v.over) (sym (state_of w t d can.task is)) ∙ failed.going;
       windows = failed.windows;
       tasks = λ u. state_set w.given w.tasks t d' can.task u

@@ -9,8 +9,9 @@ use Rattle.savepoint_codec.specs.declared.savepoint.Contents.{Contents}
 use Rattle.task_steps.specs.TaskData.{TaskData}
 use Rattle.leg_tasks.specs.Leaving.{savepoint_left}
 use Rattle.core_steps.specs.declared.finish.Finish.{Finish}
-use Rattle.core_steps.specs.declared.finish.Finish.TheVariants.{Ended, Stopped}
+use Rattle.core_steps.specs.declared.finish.Finish.TheVariants.{Ended, Stopped, Abandoned}
 use Rattle.core_steps.specs.Given.{GivenData, layout_in, start_in}
+use Rattle.core_steps.specs.Sealing.{IsSealed}
 use Rattle.core_steps.specs.World.{WorldData, world_in, state_at, IsGiven, IsPlaced}
 
 -- the rows that the sink has collected, where tasks are in these states
@@ -30,13 +31,11 @@ savepoint_of g states = savepoint_left g.plan g.layout.stages states (number_aft
 abbrev pub has_stopped : GivenData → (ℕ → State) → Bool
 has_stopped g states = nat_lt (length g.saves) (states (layout_in g).sink).next
 
--- how a leg ended that has stopped, or has not, with these rows and, if it stopped, this savepoint
-abbrev pub finish_with : Bool → List Row → Contents → Finish
-finish_with false rows savepoint = Ended rows
-finish_with true rows savepoint = Stopped rows savepoint
-
-abbrev pub finish_of : GivenData → (ℕ → State) → Finish
-finish_of g states = finish_with (has_stopped g states) (rows_of g states) (savepoint_of g states)
+-- how a leg ended with its tasks in these states: it came to its end, with what it has sealed, or it stopped, with the savepoint that they leave
+abbrev pub IsFinishOf : GivenData → (ℕ → State) → Finish → Type 0
+IsFinishOf g states (Ended rows sealed) = (has_stopped g states ≡ false) × (rows ≡ rows_of g states) × IsSealed g states sealed
+IsFinishOf g states (Stopped rows savepoint) = (has_stopped g states ≡ true) × (rows ≡ rows_of g states) × (savepoint ≡ savepoint_of g states)
+IsFinishOf g states (Abandoned sealed) = ⊥
 
 -- a leg has ended with its tasks in these states, in one world or on threads: what it was given is such as legs are given, and a complete history, which has no order between tasks, leads there from where they began
 pub record HasEnded (g : GivenData) (states : ℕ → State) : Type 0 where
@@ -55,8 +54,8 @@ pub record AreAtEnd (g : GivenData) (tasks : List TaskData) : Type 0 where
 abbrev pub rows_in : WorldData → List Row
 rows_in w = rows_of w.given (world_in w).tasks
 
-abbrev pub finish_in : WorldData → Finish
-finish_in w = finish_of w.given (world_in w).tasks
+abbrev pub IsFinishIn : WorldData → Finish → Type 0
+IsFinishIn w finish = IsFinishOf w.given (world_in w).tasks finish
 
 -- all tasks are done, and none was stopped by want of memory
 pub record HasFinished (w : WorldData) : Type 0 where

@@ -84,6 +84,7 @@ pub record IsBuilt (w : WorldData) : Type 0 where
 -- a world that has failed is the world v in the abstract, but for the windows of one task that is not over, and for at most the oldest message of one ring to it
 pub record IsLeft (v : flow.World) (w : WorldData) : Type 0 where
   pub task : ℕ
+  pub there : task < length w.tasks
   pub going : (v.tasks task).over ≡ false
   pub windows : Windows
   pub tasks : (t : ℕ) → state_at w.given w.tasks t ≡ with_task task (record (v.tasks task) { windows = windows }) v.tasks t

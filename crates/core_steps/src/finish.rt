@@ -13,6 +13,7 @@ ghost use Rattle.core_steps.specs.Finishing.{AreAtEnd};
 ghost use Rattle.core_steps.specs.Ending.{IsEndOf, IsWholeRun};
 
 use crate::given::Given;
+use crate::sealing::{Sealed, sealed_of};
 use leg_tasks::save;
 use legs::Until;
 use plain_data::Items;
@@ -24,10 +25,12 @@ use task_steps::{Moment, Task};
 /// How a leg ended, with the rows that it delivered, in the order in which they came.
 #[derive(Drop)]
 pub enum Finish {
-    /// It came to the end of its input.
-    Ended(Items<Row>),
+    /// It came to the end of its input, with what it has sealed at the last of its savepoints on the way.
+    Ended(Items<Row>, Option<Sealed>),
     /// It stopped at a cut, and leaves the savepoint of there.
     Stopped(Items<Row>, Savepoint),
+    /// It was given up for want of memory, with what it had sealed before at a savepoint on its way.
+    Abandoned(Sealed),
 }
 
 /// The rows that the last task has collected, which is the sink, in the order in which they came.
@@ -53,7 +56,7 @@ fn has_stopped(tasks: &[Task], saves: usize) -> bool
 /// How a leg ended whose tasks stand at the end of a complete history, in whatever order and in whatever threads they made
 /// their steps: with the rows that its sink has collected and, where the sink has passed the barrier of a stop, with the savepoint
 /// that its tasks leave at the cut that they have come to, numbered after the one that the leg went on from and those that it
-/// took on its way.
+/// took on its way; else with what it has sealed at the last of those, if it took any.
 ///
 /// The tasks are those of the layout, in their order, and all are done. The layout is one of the plan, the input was read by it,
 /// the start is one of the input, and the leg could take its savepoints and go so far.
@@ -68,7 +71,7 @@ pub fn finish_of(
     tasks: Vec<Task>,
 ) -> Result<Finish, AllocError>
     requires { AreAtEnd (given_data given (until_in until.now)) tasks.items }
-    ensures is { let g = given_data given.entry (until_in until.now) in IfOk result (λ finish. finish ≡ leg.finish_of g (state_at g tasks.items)) }
+    ensures is { let g = given_data given.entry (until_in until.now) in IfOk result (leg.IsFinishOf g (state_at g tasks.items)) }
     ensures ends { IfOk result (λ finish. IsEndOf given.entry.plan.now given.entry.input.now given.entry.start.now (counts_of given.entry.saves.now) (until_in until.now) finish) }
     ensures whole { IfOk result (λ finish. IsFromNothing given.entry.input.now given.entry.start.now → until_in until.now ≡ ToEnd → IsWholeRun given.entry.plan.now given.entry.input.now finish) }
 {
@@ -81,7 +84,8 @@ pub fn finish_of(
     } = given;
     let number = start.number() + saves.len() as u64 + 1;
     if !has_stopped(tasks.as_slice(), saves.len()) {
-        return Ok(Finish::Ended(sink_rows(tasks)));
+        let sealed = sealed_of(alloc, given, until, tasks.as_slice())?;
+        return Ok(Finish::Ended(sink_rows(tasks), sealed));
     }
     let savepoint = save(alloc, plan, layout, tasks.as_slice(), Moment::Now, number)?;
     Ok(Finish::Stopped(sink_rows(tasks), savepoint))

@@ -63,8 +63,8 @@ impl<'a> World<'a> {
     ghost use Rattle.core_steps.specs.Given.{given_data, layout_in};
     ghost use Rattle.core_steps.specs.World.{world_in, IsWorld};
     ghost use Rattle.core_steps.specs.Beginning.{IsNewWorld};
-    ghost use Rattle.core_steps.specs.Finishing.{finish_in, HasFinished};
-    ghost use Rattle.core_steps.specs.Ending.{IsEndOf, IsWholeRun};
+    ghost use Rattle.core_steps.specs.Finishing.{IsFinishIn, HasFinished};
+    ghost use Rattle.core_steps.specs.Ending.{HasSealed, IsEndOf, IsWholeRun};
     ghost use Rattle.core_steps.specs.Sealing.{IsSealOf, IsSealed};
     ghost use Rattle.core_steps.specs.Answers.{LeadsTo, CanMake, StepAnswers};
     ghost use Rattle.core_steps.specs.RingSteps.{IsPuttable, IsTakeable};
@@ -398,7 +398,8 @@ impl<'a> World<'a> {
     }
 
     /// What the leg has sealed by the steps that it has made, also where a step found no memory: the savepoint of the last
-    /// barrier that every task has passed, and the rows that the sink had before it; `None` where there is no such barrier.
+    /// barrier that every task has passed, and the rows that the sink had before it; `None` where there is no such barrier. Where
+    /// a step found no memory, that barrier is one of a savepoint on the leg's way.
     ///
     /// # Errors
     ///
@@ -406,6 +407,7 @@ impl<'a> World<'a> {
     pub fn sealed(&self, alloc: Global) -> Result<Option<Sealed>, AllocError>
         ensures is { IfOk result (IsSealed self.now.given (world_in self.now).tasks) }
         ensures exact { IfOk result (λ answer. IfSome answer (IsSealOf self.now.given (world_in self.now).tasks)) }
+        ensures on_the_way { let g = self.now.given in self.now.has_failed ≡ true → IfOk result (λ answer. IfSome answer (HasSealed g.plan g.input g.start g.saves)) }
     {
         sealed_of(alloc, self.given, &self.leg.until, self.tasks.as_slice())
     }
@@ -417,7 +419,7 @@ impl<'a> World<'a> {
     ///
     /// Only where memory runs out.
     pub fn finish(self, alloc: Global) -> Result<Option<Finish>, AllocError>
-        ensures is { IfOk result (λ answer. MatchOption answer (HasFinished self.entry → ⊥) (λ finish. HasFinished self.entry × (finish ≡ finish_in self.entry))) }
+        ensures is { IfOk result (λ answer. MatchOption answer (HasFinished self.entry → ⊥) (λ finish. HasFinished self.entry × IsFinishIn self.entry finish)) }
         ensures ends { let g = self.entry.given in IfOk result (λ answer. IfSome answer (λ finish. IsEndOf g.plan g.input g.start g.saves g.until finish)) }
         ensures whole { let g = self.entry.given in IfOk result (λ answer. IfSome answer (λ finish. IsFromNothing g.input g.start → g.until ≡ ToEnd → IsWholeRun g.plan g.input finish)) }
     {

@@ -11,6 +11,8 @@ use Rattle.dataflow_laws.specs.Compiled.{cut_to}
 use Rattle.legs.specs.declared.fault.LegFault.{LegFault}
 use Rattle.legs.specs.declared.stop.Stop.{Stop}
 use Rattle.legs.specs.declared.stop.Stop.TheVariants.{Never, At}
+use Rattle.dataflow_model.specs.Leg.{Until}
+use Rattle.dataflow_model.specs.Leg.Until.{ToEnd, ToCut}
 use Rattle.legs.specs.Stops.{until_of}
 use Rattle.savepoint_codec.specs.Layout.{IsSavepoint}
 use Rattle.savepoint_codec.specs.declared.savepoint.Contents.{Contents}
@@ -20,8 +22,8 @@ use Rattle.redistribute.proofs.Facts.{no_saves}
 use Rattle.leg_tasks.specs.Saved.{IsSavedAt}
 use Rattle.core_steps.specs.declared.finish.Finish.{Finish}
 use Rattle.core_steps.specs.declared.finish.Finish.TheVariants.{Ended, Stopped}
-use Rattle.core_steps.specs.Finishing.{finish_with}
-use Rattle.core_steps.specs.Ending.{IsAskedEnd, IsEndOf}
+use Rattle.core_steps.specs.declared.sealing.Sealed.{Sealed}
+use Rattle.core_steps.specs.Ending.{HasGone, IsAskedEnd, IsEndOf}
 use Rattle.core_steps.proofs.Delivered.{asked_legs_end}
 use Rattle.core_steps.proofs.Ending.{comes_there, never_asked}
 use Rattle.thread_runner.specs.declared.stop.Stop.{Stop as ThreadStop}
@@ -43,40 +45,27 @@ module _ (p : PlanData) (i : InputData) (s : StartData) where
   abbrev job_to : Stop → LegJob
   job_to stop = record { plan = p; input = i; start = s; stop = stop }
 
-  by_stop : (stopped : Bool) (rows given : List Row) (savepoint left : Contents) → finish_with stopped rows savepoint ≡ Stopped given left → (rows ≡ given) × (savepoint ≡ left) × (stopped ≡ true)
-  by_stop false rows given savepoint left e = absurd cc
-  by_stop true rows given savepoint left e = (cc, cc, refl)
+  module _ (stop : Stop) where
+    rows_are : (stopped : Bool) (rows : List Row) → HasGone p i s (until_of stop) stopped rows → AreLegRows (job_to stop) rows
+    rows_are stopped rows gone =
+        let there : gone.cut ≡ cut_to i (until_of stop) = comes_there i (offsets_of s) (until_of stop) stopped gone.cut (never_asked stop) gone.comes in
+        λ has. subst (λ c. AreRowsOf (due_between p i.sources (offsets_of s) c) rows) there (gone.delivered has)
 
-  by_end : (stopped : Bool) (rows given : List Row) (savepoint : Contents) → finish_with stopped rows savepoint ≡ Ended given → (rows ≡ given) × (stopped ≡ false)
-  by_end false rows given savepoint e = (cc, refl)
-  by_end true rows given savepoint e = absurd cc
+    saved : (at : Stop) → stop ≡ at → (rows : List Row) (left : Contents) → IsSavepoint left → IsEndOf p i s [] (until_of stop) (Stopped rows left) → IsLegSaved (job_to at) (Some left)
+    saved Never same rows left sound e = absurd (false≢true (sym (e.0.comes.to_end (ap until_of same))))
+    saved (At cut) same rows left sound e =
+        let here = e.0.comes.to_cut cut.counts (ap until_of same) in
+        record { sound = sound; saved = λ has. subst (λ c. IsSavedAt p i c (s.number + 1) left) here.1 (e.1 has) }
 
-  module _ (stop : Stop) (finish : Finish) (e : IsEndOf p i s [] (until_of stop) finish) where
-    there : e.cut ≡ cut_to i (until_of stop)
-    there = comes_there i (offsets_of s) (until_of stop) e.stopped e.cut (never_asked stop) e.comes
+    unsaved : (at : Stop) → stop ≡ at → (rows : List Row) → HasGone p i s (until_of stop) false rows → IsLegSaved (job_to at) None
+    unsaved Never same rows gone = refl
+    unsaved (At cut) same rows gone = absurd (false≢true (gone.comes.to_cut cut.counts (ap until_of same)).0)
 
-    rows_are : (rows : List Row) → e.rows ≡ rows → AreLegRows (job_to stop) rows
-    rows_are rows same = λ has. subst (AreRowsOf (due_between p i.sources (offsets_of s) (cut_to i (until_of stop)))) same (subst (λ c. AreRowsOf (due_between p i.sources (offsets_of s) c) e.rows) there (e.delivered has))
+    of_stopped : (rows : List Row) (left : Contents) → IsSavepoint left → IsEndOf p i s [] (until_of stop) (Stopped rows left) → AreLegRows (job_to stop) rows × IsLegSaved (job_to stop) (Some left)
+    of_stopped rows left sound e = (rows_are true rows e.0, saved stop refl rows left sound e)
 
-    saved : (at : Stop) → stop ≡ at → (left : Contents) → e.savepoint ≡ left → IsSavepoint left → e.stopped ≡ true → IsLegSaved (job_to at) (Some left)
-    saved Never same left is sound stopped = absurd (false≢true (sym (e.comes.to_end (ap until_of same)) ∙ stopped))
-    saved (At cut) same left is sound stopped =
-        let here = e.comes.to_cut cut.counts (ap until_of same) in
-        record { sound = sound; saved = λ has. subst (IsSavedAt p i cut.counts (s.number + 1)) is (subst (λ c. IsSavedAt p i c (s.number + 1) e.savepoint) here.1 (e.saved stopped has)) }
-
-    unsaved : (at : Stop) → stop ≡ at → e.stopped ≡ false → IsLegSaved (job_to at) None
-    unsaved Never same stopped = refl
-    unsaved (At cut) same stopped = absurd (false≢true (sym stopped ∙ (e.comes.to_cut cut.counts (ap until_of same)).0))
-
-    of_stopped : (rows : List Row) (left : Contents) → IsSavepoint left → finish ≡ Stopped rows left → AreLegRows (job_to stop) rows × IsLegSaved (job_to stop) (Some left)
-    of_stopped rows left sound is =
-        let b = by_stop e.stopped e.rows rows e.savepoint left (sym e.is ∙ is) in
-        (rows_are rows b.0, saved stop refl left b.1 sound b.2)
-
-    of_ended : (rows : List Row) → finish ≡ Ended rows → AreLegRows (job_to stop) rows × IsLegSaved (job_to stop) None
-    of_ended rows is =
-        let b = by_end e.stopped e.rows rows e.savepoint (sym e.is ∙ is) in
-        (rows_are rows b.0, unsaved stop refl b.1)
+    of_ended : (rows : List Row) (sealed : Option Sealed) → IsEndOf p i s [] (until_of stop) (Ended rows sealed) → AreLegRows (job_to stop) rows × IsLegSaved (job_to stop) None
+    of_ended rows sealed e = (rows_are false rows e.0, unsaved stop refl rows e.0)
 
   -- a leg on threads can go so far just where one can that is to stop so
   pub can_stop : (stop : ThreadStop) → CanGo i.sources (offsets_of s) (threads.until_of stop) → CanStopSo (job_to (stop_in stop))
@@ -90,23 +79,26 @@ module _ (p : PlanData) (i : InputData) (s : StartData) where
   can_go (on_threads.Asked word) can = tt
 
   -- why it has no answer
-  pub halts : {X : Type 0} (Is : X → Type 0) (stop : ThreadStop) (fault : LegFault) → IsThreadRefusal i.sources (offsets_of s) (threads.until_of stop) fault → GivesLeg Is (job_to (stop_in stop)) (Err (leg_fault fault))
+  pub halts : {X : Type 0} (Is : X → Type 0) (stop : ThreadStop) (fault : LegFault) → IsThreadRefusal i.sources (offsets_of s) [] (threads.until_of stop) fault → GivesLeg Is (job_to (stop_in stop)) (Err (leg_fault fault))
   halts Is stop fault (inl (inl (range, not))) = subst (λ (f : LegFault). GivesLeg Is (job_to (stop_in stop)) (Err (leg_fault f))) (sym range) (inl (refl, λ can. not (can_go stop can)))
   halts Is stop fault (inl (inr (inl (range, can, not)))) = absurd (not (no_saves i.sources (offsets_of s) (threads.until_of stop)))
   halts Is stop fault (inl (inr (inr (memory, can, save)))) = subst (λ (f : LegFault). GivesLeg Is (job_to (stop_in stop)) (Err (leg_fault f))) (sym memory) tt
-  halts Is stop fault (inr (wanted, can)) = subst (λ (f : LegFault). GivesLeg Is (job_to (stop_in stop)) (Err (leg_fault f))) (sym wanted) (inr refl)
+  halts Is stop fault (inr (wanted, can, save)) = subst (λ (f : LegFault). GivesLeg Is (job_to (stop_in stop)) (Err (leg_fault f))) (sym wanted) (inr refl)
 
   -- of a leg on threads
-  pub gives_ended : (stop : ThreadStop) (finish : Finish) → IsEndOf p i s [] (threads.until_of stop) finish → (rows : List Row) → finish ≡ Ended rows
+  ends_so : (until : Until) (finish other : Finish) → IsEndOf p i s [] until finish → finish ≡ other → IsEndOf p i s [] until other
+  ends_so until finish other e is = subst (IsEndOf p i s [] until) is e
+
+  pub gives_ended : (stop : ThreadStop) (finish : Finish) → IsEndOf p i s [] (threads.until_of stop) finish → (rows : List Row) (sealed : Option Sealed) → finish ≡ Ended rows sealed
       → EndsSo (may_ask stop) (λ leg. AreLegRows leg rows × IsLegSaved leg None) (job_to (stop_in stop))
-  gives_ended on_threads.Never finish e rows is = of_ended Never finish e rows is
-  gives_ended (on_threads.At cut) finish e rows is = of_ended (At cut) finish e rows is
-  gives_ended (on_threads.Asked word) finish e rows is = inl (subst (IsAskedEnd p i s) is (asked_legs_end p i s finish e), refl)
+  gives_ended on_threads.Never finish e rows sealed is = of_ended Never rows sealed (ends_so ToEnd finish (Ended rows sealed) e is)
+  gives_ended (on_threads.At cut) finish e rows sealed is = of_ended (At cut) rows sealed (ends_so (ToCut cut.counts) finish (Ended rows sealed) e is)
+  gives_ended (on_threads.Asked word) finish e rows sealed is = inl (subst (IsAskedEnd p i s) is (asked_legs_end p i s finish e), refl)
 
   pub gives_stopped : (stop : ThreadStop) (finish : Finish) → IsEndOf p i s [] (threads.until_of stop) finish → (rows : List Row) (left : Contents) → IsSavepoint left → finish ≡ Stopped rows left
       → EndsSo (may_ask stop) (λ leg. AreLegRows leg rows × IsLegSaved leg (Some left)) (job_to (stop_in stop))
-  gives_stopped on_threads.Never finish e rows left sound is = of_stopped Never finish e rows left sound is
-  gives_stopped (on_threads.At cut) finish e rows left sound is = of_stopped (At cut) finish e rows left sound is
+  gives_stopped on_threads.Never finish e rows left sound is = of_stopped Never rows left sound (ends_so ToEnd finish (Stopped rows left) e is)
+  gives_stopped (on_threads.At cut) finish e rows left sound is = of_stopped (At cut) rows left sound (ends_so (ToCut cut.counts) finish (Stopped rows left) e is)
   gives_stopped (on_threads.Asked word) finish e rows left sound is =
       let there = subst (IsAskedEnd p i s) is (asked_legs_end p i s finish e) in
       inr (record { counts = there.0 }, (there.1, there.2), (λ has. (there.3 has).0, record { sound = sound; saved = λ has. (there.3 has).1 }))

@@ -100,9 +100,9 @@ fn leg_rows<R: Threads + Wait + Clock + Sync, G: Gate>(
     requires starts { IsStartIn plan.now input.now start.now }
     ensures { let job = leg_job plan.now input.now start.now (stop_in stop) in GivesLeg (λ given. EndsSo (may_ask stop) (λ leg. AreLegRows leg given.rows.items × IsLegSaved leg given.savepoint) job) job result }
 {
-    let finish = run_leg(rt, alloc, keys, plan, input, start, scale, stop, gate)?;
+    let finish = run_leg(rt, alloc, keys, plan, input, start, scale, &[], stop, gate)?;
     match finish {
-        Finish::Ended(rows) => Ok(LegRows {
+        Finish::Ended(rows, _) => Ok(LegRows {
             rows: rows.into_vec(),
             savepoint: None,
         }),
@@ -113,6 +113,7 @@ fn leg_rows<R: Threads + Wait + Clock + Sync, G: Gate>(
                 savepoint: Some(savepoint),
             })
         }
+        Finish::Abandoned(_) => unreachable!(),
     }
 }
 

@@ -44,11 +44,12 @@ fn whole_rows<R: Threads + Wait + Clock + Sync, G: Gate>(
         input,
         &start,
         scale,
+        &[],
         Stop::Never,
         gate,
     )? {
-        Finish::Ended(rows) => Ok(rows.into_vec()),
-        Finish::Stopped(..) => unreachable!(),
+        Finish::Ended(rows, _) => Ok(rows.into_vec()),
+        Finish::Stopped(..) | Finish::Abandoned(_) => unreachable!(),
     }
 }
 

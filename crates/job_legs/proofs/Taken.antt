@@ -1,9 +1,8 @@
 -- A job that has come to a cut, and takes in what its next leg gives.
-use Rattle.std.proofs.Common.{◌≡◌, ◌∙◌, ℕ, ◌+◌, ◌≤◌, Bool, true, false, List, [], ◌∷◌, ◌++◌, map, length, Result, Ok, Err, IsErr, IsErrAnd, MatchResult, refl, sym, ap, subst}
+use Rattle.std.proofs.Common.{◌≡◌, ℕ, ◌+◌, ◌≤◌, List, [], ◌∷◌, ◌++◌, map, length, Result, Ok, Err, IsErr, IsErrAnd, MatchResult, sym, subst}
 use Rattle.std.specs.List.{AllZip}
 use Rattle.plan_model.specs.PlanData.{PlanData}
 use Rattle.plan_model.specs.Rows.{AreRowsOf}
-use Rattle.plan_model.specs.declared.spec.Row.{Row}
 use Rattle.stream_model.specs.declared.entry.Entry.{Entry}
 use Rattle.stream_model.specs.InputData.{InputData, IsInput}
 use Rattle.stream_model.specs.Watermarks.{IsCut, IsBefore, full_cut}
@@ -12,12 +11,9 @@ use Rattle.dataflow_laws.specs.Compiled.{cut_to}
 use Rattle.legs.specs.declared.fault.LegFault.{LegFault}
 use Rattle.legs.specs.declared.stop.Stop.{Stop}
 use Rattle.legs.specs.declared.stop.Stop.TheVariants.{Never, At}
-use Rattle.legs.specs.Requirements.{stops}
 use Rattle.legs.specs.Stops.{until_of}
 use Rattle.redistribute.specs.Stopping.{CanStop}
-use Rattle.savepoint_codec.specs.declared.savepoint.Contents.{Contents}
 use Rattle.core_steps.specs.declared.finish.Finish.{Finish}
-use Rattle.core_steps.specs.Finishing.{finish_with}
 use Rattle.core_steps.proofs.Ending.{end_is_cut}
 use Rattle.job_legs.specs.Laws.{RowsAddUp}
 use Rattle.job_legs.specs.Reached.{IsAt, IsAfter, IsLegGiven, IsLeftBy, rows_of, saved_of}
@@ -42,22 +38,13 @@ pub fails : {T : Type 0} (Q : T → Type 0) (P : LegFault → Type 0) (fault : L
 fails Q P fault (Ok x) failed is h = absurd cc
 fails Q P fault (Err e) failed is h = subst P (sym is) h
 
-rows_with : (stopped : Bool) (rows : List Row) (s : Contents) → rows_of (finish_with stopped rows s) ≡ rows
-rows_with false rows s = refl
-rows_with true rows s = refl
-
 module _ (p : PlanData) (i : InputData) (input : IsInput i) (add : RowsAddUp) (cut : List (List ℕ)) (number : ℕ) where
-  left : (stop : Stop) (finish : Finish) (g : IsLegGiven p i cut number stop finish) (at : Stop) → stop ≡ at → IsLeftBy p i (number + 1) at (saved_of (finish_with (stops at) g.rows g.savepoint))
-  left stop finish g Never same = refl
-  left stop finish g (At end) same = g.saved end same
-
   pub after : (old new : Reached) (stop : Stop) (finish : Finish) → IsAt p i cut number old → IsLegGiven p i cut number stop finish
       → new.rows.items ≡ old.rows.items ++ rows_of finish → new.savepoint ≡ saved_of finish → IsAfter p i stop (number + 1) new
   after old new stop finish at g rows saved =
       let is = end_is_cut i cut stop g.can in
-      let taken : new.rows.items ≡ old.rows.items ++ g.rows = rows ∙ ap (λ f. old.rows.items ++ rows_of f) g.is ∙ ap (λ rs. old.rows.items ++ rs) (rows_with (stops stop) g.rows g.savepoint) in
       record {
         is_cut = is;
-        rows = subst (AreRowsOf (due_rows p i.sources (cut_to i (until_of stop)))) (sym taken) (add p i cut (cut_to i (until_of stop)) old.rows.items g.rows input (before_end i cut stop at.is_cut g.can) is at.rows g.delivered);
-        saved = subst (IsLeftBy p i (number + 1) stop) (sym (saved ∙ ap saved_of g.is)) (left stop finish g stop refl);
+        rows = subst (AreRowsOf (due_rows p i.sources (cut_to i (until_of stop)))) (sym rows) (add p i cut (cut_to i (until_of stop)) old.rows.items (rows_of finish) input (before_end i cut stop at.is_cut g.can) is at.rows g.delivered);
+        saved = subst (IsLeftBy p i (number + 1) stop) (sym saved) g.left;
       }

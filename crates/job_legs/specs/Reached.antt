@@ -13,13 +13,11 @@ use Rattle.legs.specs.declared.fault.LegFault.{LegFault}
 use Rattle.legs.specs.declared.fault.LegFault.TheVariants.{StopRange, Memory}
 use Rattle.legs.specs.declared.stop.Stop.{Stop}
 use Rattle.legs.specs.declared.stop.Stop.TheVariants.{Never, At}
-use Rattle.legs.specs.Requirements.{stops}
 use Rattle.legs.specs.Stops.{until_of}
 use Rattle.redistribute.specs.Stopping.{CanStop}
 use Rattle.savepoint_codec.specs.declared.savepoint.Contents.{Contents}
 use Rattle.core_steps.specs.declared.finish.Finish.{Finish}
-use Rattle.core_steps.specs.declared.finish.Finish.TheVariants.{Ended, Stopped}
-use Rattle.core_steps.specs.Finishing.{finish_with}
+use Rattle.core_steps.specs.declared.finish.Finish.TheVariants.{Ended, Stopped, Abandoned}
 use Rattle.restarts.specs.Restart.{CanRestart}
 use Rattle.job_legs.specs.declared.running.Reached.{Reached}
 
@@ -34,26 +32,26 @@ IsLeftBy p i number Never saved = saved ≡ None
 IsLeftBy p i number (At cut) None = ⊥
 IsLeftBy p i number (At cut) (Some s) = CanRestart p i cut.counts number s
 
+-- the rows of a leg, and the savepoint that it leaves: of one that was given up the last that it had sealed
+abbrev pub rows_of : Finish → List Row
+rows_of (Ended rows sealed) = rows
+rows_of (Stopped rows s) = rows
+rows_of (Abandoned x) = x.rows
+
+abbrev pub saved_of : Finish → Option Contents
+saved_of (Ended rows sealed) = None
+saved_of (Stopped rows s) = Some s
+saved_of (Abandoned x) = Some x.savepoint
+
 -- what a leg gives that goes from a cut, after so many savepoints: the rows that become due, each once, and where it stops the next savepoint
 pub record IsLegGiven (p : PlanData) (i : InputData) (cut : List (List ℕ)) (number : ℕ) (stop : Stop) (finish : Finish) : Type 0 where
-  pub rows : List Row
-  pub savepoint : Contents
-  pub is : finish ≡ finish_with (stops stop) rows savepoint
   pub can : CanStop i.sources cut stop
-  pub delivered : AreRowsOf (due_between p i.sources cut (cut_to i (until_of stop))) rows
-  pub saved : (end : Cut) → stop ≡ At end → CanRestart p i end.counts (number + 1) savepoint
+  pub delivered : AreRowsOf (due_between p i.sources cut (cut_to i (until_of stop))) (rows_of finish)
+  pub left : IsLeftBy p i (number + 1) stop (saved_of finish)
 
 -- why a leg from a cut gives nothing: it cannot stop so, or memory ran out, or what the way in which it is run may answer besides
 abbrev pub IsStepRefusal : (LegFault → Type 0) → InputData → List (List ℕ) → Stop → LegFault → Type 0
 IsStepRefusal other i cut stop fault = ((fault ≡ StopRange) × ¬ CanStop i.sources cut stop) ⊎ (fault ≡ Memory) ⊎ other fault
-
-abbrev pub rows_of : Finish → List Row
-rows_of (Ended rows) = rows
-rows_of (Stopped rows s) = rows
-
-abbrev pub saved_of : Finish → Option Contents
-saved_of (Ended rows) = None
-saved_of (Stopped rows s) = Some s
 
 -- the rows are those that are due at the cut, each once, and the job can go on from there
 pub record IsAt (p : PlanData) (i : InputData) (cut : List (List ℕ)) (number : ℕ) (r : Reached) : Type 0 where

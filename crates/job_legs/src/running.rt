@@ -68,8 +68,9 @@ fn take_in(reached: &mut Reached, finish: Finish) -> Result<(), AllocError>
     ensures savepoint { OnOk result (reached.new.savepoint ≡ saved_of finish) }
 {
     let (rows, savepoint) = match finish {
-        Finish::Ended(rows) => (rows, None),
+        Finish::Ended(rows, _sealed) => (rows, None),
         Finish::Stopped(rows, savepoint) => (rows, Some(savepoint)),
+        Finish::Abandoned(sealed) => (sealed.rows, Some(sealed.savepoint)),
     };
     reached.rows.append(&mut rows.into_vec())?;
     reached.savepoint = savepoint;
@@ -221,7 +222,7 @@ pub fn run_legs_by(
             ensures { AnswersLeg (λ fault. ⊥) plan.now input.now start.now stop result }
         {
             let choices = next_choices(&mut lists);
-            run_leg_by(alloc, keys, plan, input, start, scale, stop, choices)
+            run_leg_by(alloc, keys, plan, input, start, scale, &[], stop, choices)
         },
     )
 }
@@ -264,7 +265,7 @@ pub fn run_legs<R: Threads + Wait + Clock + Sync, G: Gate>(
             ensures { AnswersLeg (λ fault. fault ≡ LegFault.Threads) plan.now input.now start.now stop result }
         {
             let stop = thread_runner::Stop::from(stop);
-            run_leg(rt, alloc, keys, plan, input, start, scale, stop, gate)
+            run_leg(rt, alloc, keys, plan, input, start, scale, &[], stop, gate)
         },
     )
 }

@@ -59,9 +59,9 @@ fn rows_after(
     let mut world = World::new(alloc, keys, given, stop)?;
     follow(alloc, &mut world, layout, &choices)?;
     match leg_of(alloc, world)? {
-        Some(Finish::Ended(rows)) => Ok(Some((rows.len(), false))),
+        Some(Finish::Ended(rows, _)) => Ok(Some((rows.len(), false))),
         Some(Finish::Stopped(rows, _)) => Ok(Some((rows.len(), true))),
-        None => Ok(None),
+        Some(Finish::Abandoned(_)) | None => Ok(None),
     }
 }
 

@@ -47,7 +47,7 @@ pub fn follow(
     choices: &[Choice],
 ) -> Result<(), AllocError>
     requires going { world.old.has_failed ≡ false }
-    ensures given { OnOk result (world.new.given ≡ world.old.given) }
+    ensures given { world.new.given ≡ world.old.given }
     ensures going { OnOk result (world.new.has_failed ≡ false) }
 {
     let mut schedule = Schedule::new(alloc, world, layout)?;
@@ -70,7 +70,8 @@ pub(crate) fn run(alloc: Global, world: &mut World, layout: &Layout) -> Result<(
     requires same { layout.now ≡ world.old.given.layout }
     requires laid_out { IsLayoutOf world.old.given.plan layout.now }
     requires going { world.old.has_failed ≡ false }
-    ensures { IfOk result (λ _. HasRun world.old world.new) }
+    ensures given { world.new.given ≡ world.old.given }
+    ensures has { IfOk result (λ _. HasRun world.old world.new) }
 {
     let mut hints = Vec::new(alloc);
     while let Some(step) = next_step(world, layout, &mut hints) {

@@ -2,7 +2,7 @@
 
 ghost use Rattle.std.specs.Prelude.{◌≡◌, IfOk, IfSome, MatchOption, Some};
 ghost use Rattle.answers.specs.Answer.{Gives};
-ghost use Rattle.core_steps.specs.Finishing.{HasFinished, finish_in};
+ghost use Rattle.core_steps.specs.Finishing.{HasFinished, IsFinishIn};
 ghost use Rattle.job_texts.specs.Fault.{is_memory};
 ghost use Rattle.legs.specs.declared.stop.Stop.{Stop};
 ghost use Rattle.legs.specs.Stops.{until_of};
@@ -25,7 +25,7 @@ use stream_model::Input;
 ///
 /// Only where memory runs out.
 pub fn leg_of(alloc: Global, world: World<'_>) -> Result<Option<Finish>, AllocError>
-    ensures is { IfOk result (λ answer. MatchOption answer (HasFinished world.entry → ⊥) (λ finish. HasFinished world.entry × (finish ≡ finish_in world.entry))) }
+    ensures is { IfOk result (λ answer. MatchOption answer (HasFinished world.entry → ⊥) (λ finish. HasFinished world.entry × IsFinishIn world.entry finish)) }
     ensures leg { let g = world.entry.given in IfOk result (λ answer. IfSome answer (λ _. (stop : Stop) → g.until ≡ until_of stop → IsLeg g.plan g.input g.start g.saves stop (end_in world.entry))) }
 {
     let _failed = world.has_failed();

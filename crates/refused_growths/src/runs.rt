@@ -58,7 +58,7 @@ fn run_leg_by_once<R: Print + AllocGlobal>(
     let alloc = rt.alloc();
     let stop = Stop::At(read_cut(alloc, word)?);
     begins(rt, "run_leg_by")?;
-    let finish = run_leg_by(alloc, keys, plan, input, start, scale, stop, choices);
+    let finish = run_leg_by(alloc, keys, plan, input, start, scale, &[], stop, choices);
     told(rt, finish)
 }
 
@@ -88,6 +88,57 @@ pub(crate) fn run_leg_by_calls<R: Files + Print + AllocGlobal>(
     Ok(())
 }
 
+fn run_leg_saving_once<R: Print + AllocGlobal>(
+    rt: &R,
+    keys: HashKeys,
+    plan: &Plan,
+    input: &Input,
+    start: &Start,
+    scale: &Scale,
+    word: &str,
+) -> Result<bool, JobFault>
+    requires belongs { BelongsTo plan.now input.now }
+    requires scale { IsScale plan.now scale.now }
+    requires starts { IsStartIn plan.now input.now start.now }
+{
+    let alloc = rt.alloc();
+    let saves = [read_cut(alloc, word)?];
+    begins(rt, "run_leg_saving")?;
+    let finish = run_leg_by(
+        alloc,
+        keys,
+        plan,
+        input,
+        start,
+        scale,
+        &saves,
+        Stop::Never,
+        &[],
+    );
+    told(rt, finish)
+}
+
+/// Runs a leg in one thread to its end, with a savepoint on its way where the others stop.
+pub(crate) fn run_leg_saving_calls<R: Files + Print + AllocGlobal>(
+    rt: &R,
+    keys: HashKeys,
+    plan: &Plan,
+    input: &Input,
+    start: &Start,
+    scale: &Scale,
+) -> Result<(), JobFault>
+    requires belongs { BelongsTo plan.now input.now }
+    requires scale { IsScale plan.now scale.now }
+    requires starts { IsStartIn plan.now input.now start.now }
+{
+    let stop = word(rt, "stop")?;
+    let stop = stop.as_str();
+    if !run_leg_saving_once(rt, keys, plan, input, start, scale, stop)? {
+        run_leg_saving_once(rt, keys, plan, input, start, scale, stop)?;
+    }
+    Ok(())
+}
+
 fn run_leg_once<R: Print + Threads + Wait + Clock + Sync + AllocGlobal>(
     rt: &R,
     keys: HashKeys,
@@ -104,7 +155,7 @@ fn run_leg_once<R: Print + Threads + Wait + Clock + Sync + AllocGlobal>(
     let alloc = rt.alloc();
     let stop = thread_runner::Stop::At(read_cut(alloc, word)?);
     begins(rt, "run_leg")?;
-    let finish = run_leg(rt, alloc, keys, plan, input, start, scale, stop, &OpenGate);
+    let finish = run_leg(rt, alloc, keys, plan, input, start, scale, &[], stop, &OpenGate);
     told(rt, finish)
 }
 

@@ -1,9 +1,10 @@
 //! The texts of answers.
 
-use core_steps::Finish;
+use core_steps::{Finish, Sealed};
 use job_legs::LegsEnd;
 use job_texts::{sort_rows, text_of_rows, text_of_savepoint};
 use plan_model::Row;
+use savepoint_codec::Savepoint;
 use std::alloc::{AllocError, Global};
 
 fn text_of_sorted(alloc: Global, rows: Vec<Row>) -> Result<String, AllocError> {
@@ -17,15 +18,38 @@ pub(crate) trait Told {
     fn text(self, alloc: Global) -> Result<String, AllocError>;
 }
 
-/// The rows of a leg, in the order of start and key, and what the savepoint holds that it left where it stopped.
+fn text_of_stop(
+    alloc: Global,
+    rows: Vec<Row>,
+    savepoint: &Savepoint,
+) -> Result<String, AllocError> {
+    let mut text = text_of_sorted(alloc, rows)?;
+    text.push_str(text_of_savepoint(alloc, savepoint.contents())?.as_str())?;
+    Ok(text)
+}
+
+fn text_of_end(
+    alloc: Global,
+    rows: Vec<Row>,
+    sealed: Option<Sealed>,
+) -> Result<String, AllocError> {
+    let mut text = text_of_sorted(alloc, rows)?;
+    if let Some(sealed) = sealed {
+        let part = text_of_stop(alloc, sealed.rows.into_vec(), &sealed.savepoint)?;
+        text.push_str(part.as_str())?;
+    }
+    Ok(text)
+}
+
+/// The rows of a leg, in the order of start and key, and what the savepoint holds that it left where it stopped, or the rows and
+/// the savepoint that it has sealed on its way.
 impl Told for Finish {
     fn text(self, alloc: Global) -> Result<String, AllocError> {
         match self {
-            Finish::Ended(rows) => text_of_sorted(alloc, rows.into_vec()),
-            Finish::Stopped(rows, savepoint) => {
-                let mut text = text_of_sorted(alloc, rows.into_vec())?;
-                text.push_str(text_of_savepoint(alloc, savepoint.contents())?.as_str())?;
-                Ok(text)
+            Finish::Ended(rows, sealed) => text_of_end(alloc, rows.into_vec(), sealed),
+            Finish::Stopped(rows, savepoint) => text_of_stop(alloc, rows.into_vec(), &savepoint),
+            Finish::Abandoned(sealed) => {
+                text_of_stop(alloc, sealed.rows.into_vec(), &sealed.savepoint)
             }
         }
     }

@@ -43,8 +43,8 @@ fn drawn(alloc: Global, seed: u32, count: usize) -> Result<Vec<Choice>, AllocErr
 /// The keys of the rows of a leg in the order in which they came, where it ends.
 fn keys_of(alloc: Global, finish: Finish) -> Result<Vec<i64>, AllocError> {
     match finish {
-        Finish::Ended(rows) => rows.as_slice().iter().map(|row| row.key).collect(alloc),
-        Finish::Stopped(..) => Ok(Vec::new(alloc)),
+        Finish::Ended(rows, _) => rows.as_slice().iter().map(|row| row.key).collect(alloc),
+        Finish::Stopped(..) | Finish::Abandoned(_) => Ok(Vec::new(alloc)),
     }
 }
 
@@ -76,6 +76,7 @@ fn keys_from(alloc: Global, leg: Leg<'_>, start: &Start, scale: &Scale) -> Resul
         input,
         start,
         scale,
+        &[],
         Stop::Never,
         &choices,
     )?;

@@ -185,9 +185,9 @@ fn follow_all(
 /// The rows of a leg, if it has ended.
 fn rows_in(finish: &Option<Finish>) -> Option<&[Row]> {
     match finish {
-        Some(Finish::Ended(rows)) => Some(rows.as_slice()),
+        Some(Finish::Ended(rows, _)) => Some(rows.as_slice()),
         Some(Finish::Stopped(rows, _)) => Some(rows.as_slice()),
-        None => None,
+        Some(Finish::Abandoned(_)) | None => None,
     }
 }
 

@@ -1,16 +1,24 @@
 ghost use Rattle.stream_model.specs.InputData.{BelongsTo};
+ghost use Rattle.layout_rules.specs.Scale.{IsScale};
+ghost use Rattle.redistribute.specs.Begins.{IsStartIn};
 
 use crate::making::stop_at;
+use core_steps::Finish;
+use layout_rules::Scale;
+use leg_runs::run_leg_by;
 use legs::{Cut, LegFault, Stop, Until};
 use logical_plan::ReadPlan;
 use plain_data::Items;
 use plan_model::Plan;
+use plan_scale::ReadScale;
 use redistribute::Start;
 use std::alloc::{AllocError, Global};
 use std::process::Abort;
+use std::random::RandomSource;
 use std::test::Fail;
 use stream_input::ReadInput;
 use stream_model::Input;
+use window_state::HashKeys;
 
 const PLAN: &str =
     r#"{"columns":3,"maxParallelism":128,"time":0,"key":1,"sources":[{"uid":"s","partitions":2}],"window":{"uid":"w","size":10,"aggregates":[{"fn":"count"}]}}"#;
@@ -18,6 +26,8 @@ const PLAN: &str =
 /// Three entries in each of two partitions.
 const INPUT: &str =
     r#"{"s":[[{"rows":[[1,1,5],[12,1,7]]},{"watermark":9},{"rows":[[15,0,-3]]}],[{"rows":[[3,0,4]]},{"watermark":11},{"rows":[[13,1,2]]}]]}"#;
+
+const ONE_ONE: &str = r#"{"ring":4,"operators":{"s":{"parallelism":1},"w":{"parallelism":1}}}"#;
 
 /// A cut where so many entries of each partition were read.
 fn cut_of(alloc: Global, counts: &[u64]) -> Result<Cut, AllocError> {
@@ -101,15 +111,100 @@ fn check_limits<R: AllocGlobal + Abort>(rt: &R, input: &Input, start: &Start) ->
     Ok(())
 }
 
-fn check_start<R: AllocGlobal + Abort>(rt: &R, plan: &Plan, input: &Input) -> Result<(), Fail>
+/// What a leg comes to that goes to its end: its rows, and what it has sealed, a barrier with rows and the savepoint's number.
+#[derive(Clone, Copy, Debug, PartialEq, Eq)]
+struct Ended {
+    rows: usize,
+    sealed: Option<(u64, usize, u64)>,
+}
+
+fn ended_so(finish: &Finish) -> Option<Ended> {
+    let Finish::Ended(rows, sealed) = finish else {
+        return None;
+    };
+    let sealed = match sealed {
+        Some(sealed) => Some((
+            sealed.barrier,
+            sealed.rows.len(),
+            sealed.savepoint.contents().number,
+        )),
+        None => None,
+    };
+    Some(Ended {
+        rows: rows.len(),
+        sealed,
+    })
+}
+
+fn check_legs_at<R: AllocGlobal + Abort + RandomSource>(
+    rt: &R,
+    plan: &Plan,
+    input: &Input,
+    start: &Start,
+    scale: &Scale,
+) -> Result<(), Fail>
+    requires belongs { BelongsTo plan.now input.now }
+    requires scale { IsScale plan.now scale.now }
+    requires starts { IsStartIn plan.now input.now start.now }
+{
+    let alloc = rt.alloc();
+    let keys = HashKeys::random(rt)?;
+    let mut saves = Vec::new(alloc);
+    for sealed in [None, Some((1, 0, 1)), Some((2, 2, 2)), Some((3, 2, 3))] {
+        let finish = run_leg_by(
+            alloc,
+            keys,
+            plan,
+            input,
+            start,
+            scale,
+            &saves,
+            Stop::Never,
+            &[],
+        )?;
+        assert_eq!(rt; ended_so(&finish), Some(Ended { rows: 4, sealed }));
+        let count = (saves.len() as u64).min(1) * 2;
+        saves.push(cut_of(alloc, &[count, count])?)?;
+    }
+    saves.push(cut_of(alloc, &[1, 2])?)?;
+    let refused = run_leg_by(
+        alloc,
+        keys,
+        plan,
+        input,
+        start,
+        scale,
+        &saves,
+        Stop::Never,
+        &[],
+    );
+    assert_eq!(rt; refused.err(), Some(LegFault::SaveRange));
+    Ok(())
+}
+
+fn check_legs<R: AllocGlobal + Abort + RandomSource>(
+    rt: &R,
+    plan: &Plan,
+    input: &Input,
+    start: &Start,
+) -> Result<(), Fail>
+    requires belongs { BelongsTo plan.now input.now }
+    requires starts { IsStartIn plan.now input.now start.now }
+{
+    let scale = Scale::read(rt.alloc(), plan, ONE_ONE.as_bytes())?;
+    check_legs_at(rt, plan, input, start, &scale)
+}
+
+fn check_start<R: AllocGlobal + Abort + RandomSource>(rt: &R, plan: &Plan, input: &Input) -> Result<(), Fail>
     requires { BelongsTo plan.now input.now }
 {
     let start = Start::empty(rt.alloc(), plan, input)?;
     check_cases(rt, input, &start)?;
-    check_limits(rt, input, &start)
+    check_limits(rt, input, &start)?;
+    check_legs(rt, plan, input, &start)
 }
 
-fn check_plan<R: AllocGlobal + Abort>(rt: &R, plan: &Plan) -> Result<(), Fail> {
+fn check_plan<R: AllocGlobal + Abort + RandomSource>(rt: &R, plan: &Plan) -> Result<(), Fail> {
     let input = Input::read(rt.alloc(), plan, INPUT.as_bytes())?;
     check_start(rt, plan, &input)
 }

@@ -157,7 +157,8 @@ type Shown = (i64, i64, [i64; 2]);
 #[derive(Clone, Copy)]
 enum Ending {
     GoesOn,
-    Ended(&'static [Shown]),
+    /// With these rows, and this sealed on its way.
+    Ended(&'static [Shown], Option<Seal>),
     Stopped(&'static [Shown]),
 }
 
@@ -176,7 +177,9 @@ fn are_shown(rows: &[Row], shown: &[Shown]) -> bool {
 fn has_ended_so(finish: &Option<Finish>, ending: &Ending) -> bool {
     match (finish, ending) {
         (None, Ending::GoesOn) => true,
-        (Some(Finish::Ended(rows)), Ending::Ended(shown)) => are_shown(rows.as_slice(), shown),
+        (Some(Finish::Ended(rows, sealed)), Ending::Ended(shown, seal)) => {
+            are_shown(rows.as_slice(), shown) && is_sealed_so(sealed, seal)
+        }
         (Some(Finish::Stopped(rows, savepoint)), Ending::Stopped(shown)) => {
             are_shown(rows.as_slice(), shown) && savepoint.contents().number == 1
         }
@@ -513,7 +516,7 @@ fn it_ends_with_all_rows(rt: HostRuntime) -> Result<(), Fail> {
             Part::Steps(TO_THE_END),
             Part::Sealed(None),
         ],
-        ending: Ending::Ended(ROWS),
+        ending: Ending::Ended(ROWS, None),
     };
     assert_eq!(rt; check(&rt, case)?, Ok(()));
     Ok(())
@@ -593,7 +596,7 @@ fn it_takes_a_savepoint_and_goes_on(rt: HostRuntime) -> Result<(), Fail> {
             Part::Steps(TO_THE_END),
             Part::Sealed(Some(FIRST_SEAL)),
         ],
-        ending: Ending::Ended(ROWS),
+        ending: Ending::Ended(ROWS, Some(FIRST_SEAL)),
     };
     assert_eq!(rt; check(&rt, case)?, Ok(()));
     Ok(())

@@ -109,13 +109,17 @@ fn lines(alloc: Global, rows: Items<Row>, sorts: bool) -> Result<String, AllocEr
 /// What a leg came to, with its rows sorted or in the order in which they came.
 pub fn outcome_of(alloc: Global, finish: Finish, sorts: bool) -> Result<Outcome, AllocError> {
     match finish {
-        Finish::Ended(rows) => Ok(Outcome {
+        Finish::Ended(rows, _) => Ok(Outcome {
             rows: lines(alloc, rows, sorts)?,
             savepoint: None,
         }),
         Finish::Stopped(rows, savepoint) => Ok(Outcome {
             rows: lines(alloc, rows, sorts)?,
             savepoint: Some(encode(alloc, &savepoint)?),
+        }),
+        Finish::Abandoned(sealed) => Ok(Outcome {
+            rows: lines(alloc, sealed.rows, sorts)?,
+            savepoint: Some(encode(alloc, &sealed.savepoint)?),
         }),
     }
 }
@@ -176,9 +180,9 @@ fn run_scaled<R: AllocGlobal + RandomSource + Threads + Wait + Clock + Sync, G: 
     Ok(match threads {
         Some(OnThreads { gate, word }) => {
             let stop = stop_on_threads(stop, word)?;
-            run_leg(rt, alloc, keys, plan, input, start, scale, stop, gate)
+            run_leg(rt, alloc, keys, plan, input, start, scale, &[], stop, gate)
         }
-        None => run_leg_by(alloc, keys, plan, input, start, scale, stop, &[]),
+        None => run_leg_by(alloc, keys, plan, input, start, scale, &[], stop, &[]),
     })
 }
 

@@ -1,5 +1,5 @@
 use Rattle.std.proofs.Common.{◌≡◌, ℕ, suc, ◌+◌, Bool, false, true, List, length, refl, sym, ap, subst, ◌∙◌, arith}
-use Rattle.std.specs.Prelude.{nat_lt, slice_index_or}
+use Rattle.std.specs.Prelude.{IfSome, nat_lt, slice_index_or}
 use Rattle.std.proofs.lemmas.List.{length-map}
 use Rattle.dataflow_model.specs.State.{State}
 use Rattle.legs.specs.declared.cut.Cut.{Cut}
@@ -12,9 +12,11 @@ use Rattle.core_steps.specs.declared.finish.Finish.TheVariants.{Ended, Stopped}
 use Rattle.core_steps.specs.Given.{GivenData, given_data, layout_in}
 use Rattle.core_steps.specs.World.{state_at}
 use Rattle.core_steps.specs.Finishing.{AreAtEnd, has_stopped, number_after}
+use Rattle.core_steps.specs.Sealing.{AreOnTheWay, IsSealOf, IsSealed}
 use Rattle.core_steps.proofs.Sound.{sound}
 use Rattle.core_steps.proofs.Ending.{can_save, ended_is, numbered, of_sink, own_panes, stopped_is}
-use Rattle.core_steps.proofs.Delivered.{end_of, whole_run}
+use Rattle.core_steps.proofs.Delivered.{gone, stopped_of, whole_run}
+use Rattle.core_steps.proofs.OnWay.{at_end_on_way, before_stop, sealed_on_way}
 use Rattle.core_steps.proofs.finish.finish_of.Goals as goal
 
 -- the number of the savepoint, as it is counted
@@ -54,6 +56,11 @@ sink_rows-requires-2 c =
     let two = c.requires.count in
     omega (arith, one, two)
 
+pub sealed_of-requires : goal.sealed_of-requires
+sealed_of-requires c =
+    let g = given_data c.args.given (until_in c.args.until.now) in
+    subst (AreOnTheWay g) (sym c.as_slice-then-not-has_stopped.ensures.value) (at_end_on_way g c.args.tasks.items c.requires)
+
 pub save-requires-clause-tasks : goal.save-requires-clause-tasks
 save-requires-clause-tasks c =
     let g = given_data c.args.given (until_in c.args.until.now) in
@@ -64,40 +71,34 @@ pub returns-then-not-has_stopped-clause-is : goal.returns-then-not-has_stopped-c
 returns-then-not-has_stopped-clause-is c =
     let g = given_data c.args.given (until_in c.args.until.now) in
     let goes_on = sink_tells g c.args.given.saves.now c.args.tasks.items _ false c.has_stopped.result c.requires refl c.as_slice.ensures.value c.if-not-has_stopped.true c.has_stopped.ensures in
-    let is = ended_is g c.args.tasks.items c.requires c.sink_rows.result c.sink_rows.ensures goes_on in
-    is
+    let sealed = subst (λ (ts : List TaskData). IsSealed g (state_at g ts) c.in_ok-sealed.sealed) c.as_slice-then-not-has_stopped.ensures.value c.in_ok-sealed.ensures.is in
+    ended_is g c.args.tasks.items c.requires c.sink_rows.result c.sink_rows.ensures goes_on c.in_ok-sealed.sealed sealed
 
 pub returns-then-not-has_stopped-clause-ends : goal.returns-then-not-has_stopped-clause-ends
 returns-then-not-has_stopped-clause-ends c =
     let g = given_data c.args.given (until_in c.args.until.now) in
-    let goes_on = sink_tells g c.args.given.saves.now c.args.tasks.items _ false c.has_stopped.result c.requires refl c.as_slice.ensures.value c.if-not-has_stopped.true c.has_stopped.ensures in
-    let is = ended_is g c.args.tasks.items c.requires c.sink_rows.result c.sink_rows.ensures goes_on in
-    end_of g (state_at g c.args.tasks.items) c.requires.ended (Ended c.sink_rows.result) is
+    let states = state_at g c.args.tasks.items in
+    let is = returns-then-not-has_stopped-clause-is c in
+    let exact = subst (λ (ts : List TaskData). IfSome c.in_ok-sealed.sealed (IsSealOf g (state_at g ts))) c.as_slice-then-not-has_stopped.ensures.value c.in_ok-sealed.ensures.exact in
+    (gone g states c.requires.ended false c.sink_rows.result is.0 is.1, sealed_on_way g states c.in_ok-sealed.sealed (before_stop g states is.0) is.2 exact)
 
 pub returns-then-not-has_stopped-clause-whole : goal.returns-then-not-has_stopped-clause-whole
 returns-then-not-has_stopped-clause-whole c = λ nothing ends.
     let g = given_data c.args.given (until_in c.args.until.now) in
-    let goes_on = sink_tells g c.args.given.saves.now c.args.tasks.items _ false c.has_stopped.result c.requires refl c.as_slice.ensures.value c.if-not-has_stopped.true c.has_stopped.ensures in
-    let is = ended_is g c.args.tasks.items c.requires c.sink_rows.result c.sink_rows.ensures goes_on in
-    whole_run g (state_at g c.args.tasks.items) c.requires.ended (Ended c.sink_rows.result) is nothing ends
+    whole_run g (state_at g c.args.tasks.items) c.requires.ended (Ended c.sink_rows.result c.in_ok-sealed.sealed) (returns-then-not-has_stopped-clause-is c) nothing ends
 
 pub returns-clause-is : goal.returns-clause-is
 returns-clause-is c =
     let g = given_data c.args.given (until_in c.args.until.now) in
     let stopped = sink_tells g c.args.given.saves.now c.args.tasks.items _ true c.has_stopped.result c.requires refl c.as_slice.ensures.value c.if-not-has_stopped.false c.has_stopped.ensures in
-    let is = stopped_is g c.args.tasks.items c.requires c.sink_rows-2.result c.sink_rows-2.ensures c.in_ok-savepoint.savepoint _ _ c.as_slice-2.ensures.value c.in_ok-savepoint.ensures (number_of g.start.number c.args.given.saves.now _ _ c.number.ensures refl) stopped in
-    is
+    stopped_is g c.args.tasks.items c.requires c.sink_rows-2.result c.sink_rows-2.ensures c.in_ok-savepoint.savepoint _ _ c.as_slice-2.ensures.value c.in_ok-savepoint.ensures (number_of g.start.number c.args.given.saves.now _ _ c.number.ensures refl) stopped
 
 pub returns-clause-ends : goal.returns-clause-ends
 returns-clause-ends c =
     let g = given_data c.args.given (until_in c.args.until.now) in
-    let stopped = sink_tells g c.args.given.saves.now c.args.tasks.items _ true c.has_stopped.result c.requires refl c.as_slice.ensures.value c.if-not-has_stopped.false c.has_stopped.ensures in
-    let is = stopped_is g c.args.tasks.items c.requires c.sink_rows-2.result c.sink_rows-2.ensures c.in_ok-savepoint.savepoint _ _ c.as_slice-2.ensures.value c.in_ok-savepoint.ensures (number_of g.start.number c.args.given.saves.now _ _ c.number.ensures refl) stopped in
-    end_of g (state_at g c.args.tasks.items) c.requires.ended (Stopped c.sink_rows-2.result c.in_ok-savepoint.savepoint) is
+    stopped_of g (state_at g c.args.tasks.items) c.requires.ended c.sink_rows-2.result c.in_ok-savepoint.savepoint (returns-clause-is c)
 
 pub returns-clause-whole : goal.returns-clause-whole
 returns-clause-whole c = λ nothing ends.
     let g = given_data c.args.given (until_in c.args.until.now) in
-    let stopped = sink_tells g c.args.given.saves.now c.args.tasks.items _ true c.has_stopped.result c.requires refl c.as_slice.ensures.value c.if-not-has_stopped.false c.has_stopped.ensures in
-    let is = stopped_is g c.args.tasks.items c.requires c.sink_rows-2.result c.sink_rows-2.ensures c.in_ok-savepoint.savepoint _ _ c.as_slice-2.ensures.value c.in_ok-savepoint.ensures (number_of g.start.number c.args.given.saves.now _ _ c.number.ensures refl) stopped in
-    whole_run g (state_at g c.args.tasks.items) c.requires.ended (Stopped c.sink_rows-2.result c.in_ok-savepoint.savepoint) is nothing ends
+    whole_run g (state_at g c.args.tasks.items) c.requires.ended (Stopped c.sink_rows-2.result c.in_ok-savepoint.savepoint) (returns-clause-is c) nothing ends

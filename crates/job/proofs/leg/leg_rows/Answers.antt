@@ -26,7 +26,7 @@ returns-in-Ended g c =
     let i = c.args.input.now in
     let s = c.args.start.now in
     let t = c.args.stop in
-    let gives = gives_ended p i s t c.in_ok-finish.finish e.ends c.in-Ended.rows c.in-Ended.is in
+    let gives = gives_ended p i s t c.in_ok-finish.finish e.ends c.in-Ended.rows c.in-Ended.field-1 c.in-Ended.is in
     (can_stop p i s t e.stops, subst (λ (rows : List Row). EndsSo (may_ask t) (λ leg. AreLegRows leg rows × IsLegSaved leg None) (leg_job p i s (stop_in t))) (sym c.into_vec.ensures) gives)
 
 pub returns-in-Stopped : goal.returns-in-Stopped

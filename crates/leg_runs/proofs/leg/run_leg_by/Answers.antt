@@ -3,7 +3,7 @@ use Rattle.dataflow_model.specs.Leg.Until.{ToEnd}
 use Rattle.legs.specs.Stops.{until_of}
 use Rattle.redistribute.specs.Begins.{IsFromNothing}
 use Rattle.core_steps.specs.Given.{GivenData}
-use Rattle.core_steps.specs.Ending.{IsEndOf, IsWholeRun}
+use Rattle.core_steps.specs.Ending.{IsEndOf, IsWholeOrGivenUp}
 use Rattle.leg_runs.proofs.leg.run_leg_by.Goals as goal
 
 pub returns-clause-ends : goal.returns-clause-ends
@@ -11,4 +11,4 @@ returns-clause-ends c = subst (λ (x : GivenData). IsEndOf x.plan x.input x.star
 
 pub returns-clause-whole : goal.returns-clause-whole
 returns-clause-whole c = λ nothing never.
-    subst (λ (x : GivenData). IsFromNothing x.input x.start → x.until ≡ ToEnd → IsWholeRun x.plan x.input c.in_ok-finish_by.field-0) c.in_ok-world.ensures.opens.given c.in_ok-finish_by.ensures.whole nothing (ap until_of never)
+    subst (λ (x : GivenData). IsFromNothing x.input x.start → x.until ≡ ToEnd → IsWholeOrGivenUp x.plan x.input c.in_ok-finish_by.field-0) c.in_ok-world.ensures.opens.given c.in_ok-finish_by.ensures.whole nothing (ap until_of never)

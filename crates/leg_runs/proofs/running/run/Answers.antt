@@ -7,8 +7,8 @@ use Rattle.leg_runs.proofs.running.run.Goals as goal
 pub loop-step-smaller : goal.loop-step-smaller
 loop-step-smaller c = step_falls c.loop-step.world c.apply.new.self c.in-Some.step c.has_failed-failed.ensures.sound c.loop-step.invariant.1 c.in-Ok.ensures.2 c.in-Ok.ensures.3
 
-pub returns : goal.returns
-returns c =
+pub returns-clause-has : goal.returns-clause-has
+returns-clause-has c =
     let none = missed _ c.next_step.result c.in_default.not-Some c.next_step.ensures in
     record {
       given = c.loop-step.invariant.0;

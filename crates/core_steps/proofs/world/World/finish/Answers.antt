@@ -1,5 +1,5 @@
-use Rattle.std.proofs.Common.{sym, ap, subst, ◌∙◌}
-use Rattle.core_steps.specs.Finishing.{finish_in, HasFinished}
+use Rattle.std.proofs.Common.{sym, subst, ◌∙◌}
+use Rattle.core_steps.specs.Finishing.{HasFinished, IsFinishIn}
 use Rattle.core_steps.specs.World.{world_view}
 use Rattle.core_steps.proofs.Ending.{at_end}
 use Rattle.core_steps.proofs.world.World.finish.Goals as goal
@@ -12,5 +12,5 @@ finish_of-requires c =
 pub returns-clause-is : goal.returns-clause-is
 returns-clause-is c = (
   record { going = sym c.has_failed.ensures.says ∙ c.if-has_failed.false; finished = c.is_finished.ensures.done.0 c.if-not-is_finished.false },
-  c.in_ok-finish_of.ensures.is ∙ ap finish_in c.self.view_is,
+  subst (λ w. IsFinishIn w c.in_ok-finish_of.field-0) c.self.view_is c.in_ok-finish_of.ensures.is,
 )

@@ -1,4 +1,4 @@
-use Rattle.std.proofs.Common.{sym, subst}
+use Rattle.std.proofs.Common.{subst}
 use Rattle.legs.specs.Stops.{until_in}
 use Rattle.dataflow_laws.specs.Compiled.{layout_to}
 use Rattle.leg_tasks.specs.Beginning.{BeginLeg}

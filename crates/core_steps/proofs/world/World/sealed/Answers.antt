@@ -1,8 +1,10 @@
-use Rattle.std.proofs.Common.{List, IfOk, sym, subst}
+use Rattle.std.proofs.Common.{◌≡◌, true, List, Result, Ok, Err, IfOk, sym, subst}
 use Rattle.std.specs.Prelude.{IfSome}
 use Rattle.task_steps.specs.TaskData.{TaskData}
 use Rattle.core_steps.specs.Sealing.{AreOnTheWay, IsSealOf, IsSealed}
+use Rattle.core_steps.specs.Ending.{HasSealed}
 use Rattle.core_steps.specs.World.{WorldData, world_in, world_view, state_at}
+use Rattle.core_steps.proofs.OnWay.{before_failing, sealed_on_way}
 use Rattle.core_steps.proofs.Sealings.{world_on_the_way}
 use Rattle.core_steps.proofs.world.World.sealed.Goals as goal
 
@@ -22,3 +24,18 @@ returns-clause-exact c =
     let g = (world_view c.self.inside).given in
     subst (λ (w : WorldData). IfOk c.sealed_of.result (λ answer. IfSome answer (IsSealOf w.given (world_in w).tasks))) c.self.view_is
     (subst (λ (ts : List TaskData). IfOk c.sealed_of.result (λ answer. IfSome answer (IsSealOf g (state_at g ts)))) c.as_slice.ensures.value c.sealed_of.ensures.exact)
+
+-- what is so of two things that an answer is
+both : {X E : Type 0} (r : Result X E) (P Q R : X → Type 0) → ((x : X) → P x → Q x → R x) → IfOk r P → IfOk r Q → IfOk r R
+both (Ok x) P Q R f p q = f x p q
+both (Err e) P Q R f p q = tt
+
+pub returns-clause-on_the_way : goal.returns-clause-on_the_way
+returns-clause-on_the_way c =
+    let v = world_view c.self.inside in
+    let g = v.given in
+    subst (λ (w : WorldData). w.has_failed ≡ true → IfOk c.sealed_of.result (λ answer. IfSome answer (HasSealed w.given.plan w.given.input w.given.start w.given.saves))) c.self.view_is
+    (λ failed. both c.sealed_of.result (IsSealed g (state_at g v.tasks)) (λ answer. IfSome answer (IsSealOf g (state_at g v.tasks))) (λ answer. IfSome answer (HasSealed g.plan g.input g.start g.saves))
+    (λ answer is seal. sealed_on_way g (state_at g v.tasks) answer (before_failing v.has_failed v c.self.invariant.sound c.self.invariant.built c.self.invariant.reached failed) is seal)
+    (subst (λ (ts : List TaskData). IfOk c.sealed_of.result (IsSealed g (state_at g ts))) c.as_slice.ensures.value c.sealed_of.ensures.is)
+    (subst (λ (ts : List TaskData). IfOk c.sealed_of.result (λ answer. IfSome answer (IsSealOf g (state_at g ts)))) c.as_slice.ensures.value c.sealed_of.ensures.exact))
