@@ -1,10 +1,11 @@
 //! The files that an import writes.
 
 use crate::words::ImportWords;
+use import_asides::{BadRecords, SetAside};
 use import_columns::Column;
 use import_copies::Places;
 use import_words::{ImportCode, ImportFault, refused};
-use imports::{BadRecords, RowFault, SetAside};
+use imports::RowFault;
 use new_files::{NewFile, NewStream};
 use std::alloc::{AllocError, Global};
 use std::io;

@@ -1,8 +1,10 @@
 //! The table of names, from its file and back.
 
 use crate::keeping::{write_fault, written};
+use import_asides::text_of_names;
+use import_tellings::refused_names;
 use import_words::{ImportCode, ImportFault, refused};
-use imports::{CsvRows, read_names, refused_names, text_of_names};
+use imports::{CsvRows, read_names};
 use name_table::NameTable;
 use new_files::{LockFile, write_whole};
 use std::fs;

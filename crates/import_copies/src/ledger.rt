@@ -5,12 +5,14 @@ use crate::firsts::Firsts;
 use crate::outcome::Outcome;
 use crate::refusals::{Refusals, no_refusals};
 use crate::taking::Source;
+use import_asides::{BadRecords, SetAside};
 use import_columns::Column;
 use import_entries::PlaceFault;
 use import_fates::FateCounts;
 use import_reports::ImportReport;
+use import_tellings::{reason_of, refused_row};
 use import_words::ImportFault;
-use imports::{BadRecords, Records, RowFault, SetAside, at_line, reason_of, refused_row};
+use imports::{Records, RowFault};
 use std::alloc::{AllocError, Global};
 use std::io::{Read, Write};
 

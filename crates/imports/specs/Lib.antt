@@ -1,4 +1,3 @@
 pub mod Faults
 pub mod Reading
 pub mod Separators
-pub mod Telling

@@ -72,14 +72,6 @@ pub(crate) fn read_fault(error: &Error) -> RowFault
     }
 }
 
-/// The fault of a record that is not written.
-pub(crate) fn write_fault(error: &Error) -> RowFault {
-    match error.kind() {
-        ErrorKind::OutOfMemory => RowFault::Memory,
-        _ => RowFault::Write,
-    }
-}
-
 /// The fault of a line that gives no record.
 pub(crate) fn line_fault(fault: LineFault) -> RowFault
     ensures { result ≡ fault_said fault }

@@ -149,4 +149,12 @@ impl<R: Read + Drop> Records<R> {
             Records::Objects(lines) => lines.line(),
         }
     }
+
+    /// How many lines have been read: all of them once there is no further record.
+    pub fn lines(&self) -> u64 {
+        match self {
+            Records::Rows(rows) => rows.lines(),
+            Records::Objects(lines) => lines.line(),
+        }
+    }
 }

@@ -2,7 +2,6 @@
 
 use crate::fault::RowFault;
 use crate::records::CsvRows;
-use crate::writer::CsvWriter;
 use csv::ByteRecord;
 use itoa::Buffer;
 use name_table::NameTable;
@@ -45,24 +44,4 @@ pub fn read_names<R: Read + Drop>(
         add(&mut names, rows.record())?;
     }
     Err(RowFault::Read)
-}
-
-fn write_name(out: &mut CsvWriter<Vec<u8>>, number: u64, name: &str) -> Result<(), RowFault> {
-    let mut buffer = Buffer::new();
-    out.put(buffer.format(number).as_bytes())?;
-    out.put(name.as_bytes())?;
-    out.end_record()
-}
-
-/// The CSV text of a table.
-///
-/// # Errors
-///
-/// `Memory`, and `Write` where memory ran out for the text.
-pub fn text_of_names(alloc: Global, names: &NameTable) -> Result<Vec<u8>, RowFault> {
-    let mut out = CsvWriter::new(alloc, Vec::new(alloc))?;
-    for (i, name) in names.names().iter().enumerate() {
-        write_name(&mut out, i as u64 + 1, name.as_str())?;
-    }
-    out.finish()
 }

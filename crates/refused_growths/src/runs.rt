@@ -155,7 +155,18 @@ fn run_leg_once<R: Print + Threads + Wait + Clock + Sync + AllocGlobal>(
     let alloc = rt.alloc();
     let stop = thread_runner::Stop::At(read_cut(alloc, word)?);
     begins(rt, "run_leg")?;
-    let finish = run_leg(rt, alloc, keys, plan, input, start, scale, &[], stop, &OpenGate);
+    let finish = run_leg(
+        rt,
+        alloc,
+        keys,
+        plan,
+        input,
+        start,
+        scale,
+        &[],
+        stop,
+        &OpenGate,
+    );
     told(rt, finish)
 }
 

@@ -195,7 +195,11 @@ fn check_legs<R: AllocGlobal + Abort + RandomSource>(
     check_legs_at(rt, plan, input, start, &scale)
 }
 
-fn check_start<R: AllocGlobal + Abort + RandomSource>(rt: &R, plan: &Plan, input: &Input) -> Result<(), Fail>
+fn check_start<R: AllocGlobal + Abort + RandomSource>(
+    rt: &R,
+    plan: &Plan,
+    input: &Input,
+) -> Result<(), Fail>
     requires { BelongsTo plan.now input.now }
 {
     let start = Start::empty(rt.alloc(), plan, input)?;

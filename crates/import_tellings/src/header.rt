@@ -1,4 +1,4 @@
-//! What stands in a header that lacks a field.
+//! What stands in a header that lacks a field, or is not that of the first file.
 
 use csv::ByteRecord;
 use std::alloc::{AllocError, Global};
@@ -11,7 +11,7 @@ const MOST_FIELDS: usize = 10;
 const MOST_SHOWN: usize = 100;
 
 /// The name of a field, if it is no long one.
-pub(crate) fn field_text(alloc: Global, field: &[u8]) -> Result<String, AllocError> {
+fn field_text(alloc: Global, field: &[u8]) -> Result<String, AllocError> {
     let count = field.len();
     match str::from_utf8(field) {
         Ok(text) if count <= MOST_SHOWN => format!(in alloc; "{text:?}"),
@@ -61,4 +61,32 @@ pub(crate) fn fields_text(alloc: Global, header: &ByteRecord) -> Result<String, 
             }
         }
     }
+}
+
+/// The place of the first field that two headers have otherwise, if both have it.
+fn other_place(header: &ByteRecord, first: &ByteRecord) -> Option<usize> {
+    for (place, field) in header.into_iter().enumerate() {
+        match first.get(place) {
+            Some(wanted) if wanted != field => return Some(place),
+            _ => {}
+        }
+    }
+    None
+}
+
+/// In what a header differs from the first one.
+pub(crate) fn difference(
+    alloc: Global,
+    header: &ByteRecord,
+    first: &ByteRecord,
+) -> Result<String, AllocError> {
+    let Some(place) = other_place(header, first) else {
+        let (count, wanted) = (header.len(), first.len());
+        return format!(in alloc; "it has {count} fields in place of {wanted}");
+    };
+    let (field, wanted) = (header.get(place), first.get(place));
+    let field = field_text(alloc, field.unwrap_or(b""))?;
+    let wanted = field_text(alloc, wanted.unwrap_or(b""))?;
+    let number = (place as u64).saturating_add(1);
+    format!(in alloc; "field {number} is {field} in place of {wanted}")
 }

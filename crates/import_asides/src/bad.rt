@@ -1,9 +1,9 @@
 //! Bad records, kept as CSV.
 
-use crate::fault::RowFault;
-use crate::kinds::Records;
+use crate::text::text_of;
 use crate::writer::CsvWriter;
 use import_words::{ImportCode, ImportFault};
+use imports::{Records, RowFault};
 use itoa::Buffer;
 use std::alloc::Global;
 use std::io::{Read, Write};
@@ -67,7 +67,7 @@ impl<W: Write + Drop> BadRecords<W> {
             return Err(RowFault::Memory);
         };
         self.put_reason(file, rows.line(), *code, reason.as_str())?;
-        let text = rows.text(self.alloc)?;
+        let text = text_of(self.alloc, rows)?;
         self.writer.put(&text)?;
         self.writer.end_record()
     }

@@ -1,9 +1,9 @@
 //! Records that are set aside, kept as CSV.
 
-use crate::fault::RowFault;
 use crate::writer::CsvWriter;
 use csv::ByteRecord;
 use import_columns::Column;
+use imports::RowFault;
 use std::alloc::Global;
 use std::io::Write;
 

@@ -1,9 +1,17 @@
 //! Writing CSV.
 
-use crate::fault::{RowFault, write_fault};
-use csv::{Writer, WriterBuilder};
+use csv::{Error, ErrorKind, Writer, WriterBuilder};
+use imports::RowFault;
 use std::alloc::Global;
 use std::io::Write;
+
+/// The fault of a record that is not written.
+fn write_fault(error: &Error) -> RowFault {
+    match error.kind() {
+        ErrorKind::OutOfMemory => RowFault::Memory,
+        _ => RowFault::Write,
+    }
+}
 
 /// A writer of CSV on the heap, since it has room for what it writes. It comes onto the stack when it is made and when it is let
 /// go, in frames of their own, which are not there while it writes.

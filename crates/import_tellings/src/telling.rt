@@ -1,18 +1,15 @@
 //! The sentences of refusals: where something stands, and what it has to be.
 
 ghost use Rattle.import_words.specs.Judging.{IsRefusal};
-ghost use Rattle.imports.specs.Telling.{member_code, place_code, KeepsCode, TellsRow, TellsNames};
+ghost use Rattle.import_tellings.specs.Telling.{member_code, place_code, KeepsCode, TellsRow, TellsNames};
 
-use crate::fault::RowFault;
-use crate::first::FirstHeader;
-use crate::header::fields_text;
-use crate::kinds::Records;
-use crate::records::CsvRows;
+use crate::header::{difference, fields_text};
 use csv::ByteRecord;
 use field_values::FieldFault;
 use import_columns::{Column, ColumnKind, ValueKind};
 use import_entries::PlaceFault;
 use import_words::{ImportCode, ImportFault, refused};
+use imports::{CsvRows, FirstHeader, Records, RowFault};
 use instant_texts::FineUnit;
 use local_times::{Clocks, TimeUnit};
 use object_lines::MemberFault;
@@ -203,7 +200,7 @@ fn other_header_sentence(
     header: &ByteRecord,
 ) -> Result<String, AllocError> {
     let wanted = first.file;
-    let difference = first.difference(alloc, header)?;
+    let difference = difference(alloc, header, &first.header)?;
     format!(in alloc; "the header is not that of {wanted}: {difference}")
 }
 
@@ -324,7 +321,7 @@ pub fn reason_of<R: Read + Drop>(
 }
 
 /// What is told of a reason, with the file and the line where it stands in front.
-pub fn at_line(alloc: Global, file: &str, line: u64, reason: ImportFault) -> ImportFault
+fn at_line(alloc: Global, file: &str, line: u64, reason: ImportFault) -> ImportFault
     ensures { KeepsCode reason result }
 {
     match reason {
