@@ -2,6 +2,7 @@
 use Rattle.std.specs.Prelude.{OnErr, IfSome}
 use Rattle.std.proofs.Common.{◌≡◌, ℕ, ◌==◌, ◌<◌, cond, List, [], ◌∷◌, ◌++◌, map, length, reverse, get_or, set, refl, sym, ap, subst, ◌∙◌, append_assoc, inl, inr, get_or-set_same, get_or-set_other, Bool, true, false, arith, Option, Some, None, Result, Ok, Err, IfNone, MatchOption}
 use Rattle.std.proofs.lemmas.List.{map-set, length-map, get_or-map, reverse-append}
+use Rattle.std.proofs.lemmas.Bool.{false≢true}
 use Rattle.std.proofs.lemmas.Bool.Decides.{eqb_tells}
 use Rattle.std.proofs.Math.Seq.{map-set_same}
 use Rattle.plan_model.specs.PlanData.{PlanData}
@@ -72,6 +73,13 @@ is_task_on p k i d u on h = subst (IsTaskOf p k i) (sym on.is) (record { stands 
 pub finds_on : (i : InputData) (d u : TaskData) → GoesOn d u → Finds i d → Finds i u
 finds_on i d u on h = subst (Finds i) (sym on.is) (record { columns = h.columns; time = h.time; has = h.has })
 
+-- what is left of a task stands, and finds, what the task does
+pub is_task_left : (p : PlanData) (k : AbstractTask) (i : InputData) (u d : TaskData) → IsLeftOf u d → IsTaskOf p k i u → IsTaskOf p k i d
+is_task_left p k i u d left h = subst (IsTaskOf p k i) (sym left.is) (record { stands = stands_still p k u (record u.state { windows = left.windows }) left.has_failed h.stands; reads = h.reads })
+
+pub finds_left : (i : InputData) (u d : TaskData) → IsLeftOf u d → Finds i u → Finds i d
+finds_left i u d left h = subst (Finds i) (sym left.is) (record { columns = h.columns; time = h.time; has = h.has })
+
 pub goes_on : {d u t : TaskData} → GoesOn d u → GoesOn u t → GoesOn d t
 goes_on {d} {u} {t} a b = record { is = b.is ∙ ap (λ (v : TaskData). record v { state = t.state }) a.is }
 
@@ -115,12 +123,12 @@ module _ (i : InputData) where
 
 -- a refused step leaves the task as it was, but for its windows
 pub left_of : (is : PlanData → AbstractTask → Type 0) (can : PlanData → AbstractTask → State → Type 0) (e : Event) (d d' : TaskData) (f : StepFault) → Answers is can e d d' (Err f) → IsLeftOf d d'
-left_of is can e d d' NotEnabled a = record { windows = d.state.windows; has_failed = d.has_failed; is = a.1 }
-left_of is can e d d' Memory a = record { windows = a.1.windows; has_failed = true; is = a.1.is }
-left_of is can e d d' Failed a = record { windows = d.state.windows; has_failed = d.has_failed; is = a.1 }
+left_of is can e d d' NotEnabled a = record { windows = d.state.windows; has_failed = d.has_failed; is = a.1; whole = λ _. refl }
+left_of is can e d d' Memory a = record { windows = a.1.windows; has_failed = true; is = a.1.is; whole = λ over. absurd (false≢true (sym a.1.going ∙ over)) }
+left_of is can e d d' Failed a = record { windows = d.state.windows; has_failed = d.has_failed; is = a.1; whole = λ _. refl }
 
 pub left_same : (d : TaskData) → IsLeftOf d d
-left_same d = record { windows = d.state.windows; has_failed = d.has_failed; is = refl }
+left_same d = record { windows = d.state.windows; has_failed = d.has_failed; is = refl; whole = λ _. refl }
 
 -- the logs of the ends, once one end's grew
 pub at_set : {A B : Type 0} (f : A → List B) (xs : List A) (i k : ℕ) (y d : A) (zs : List B) → i < length xs → f y ≡ zs ++ f (get_or xs i d)

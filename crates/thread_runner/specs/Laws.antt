@@ -8,6 +8,7 @@ use Rattle.core_steps.specs.Given.{GivenData}
 use Rattle.core_steps.specs.World.{IsSound}
 use Rattle.core_steps.specs.Beginning.{AreNewTasks}
 use Rattle.core_steps.specs.Finishing.{AreAtEnd}
+use Rattle.core_steps.specs.Sealing.{AreOnTheWay}
 use Rattle.thread_runner.specs.declared.jobs.Job.{Job}
 use Rattle.thread_runner.specs.declared.jobs.Done.{Done}
 use Rattle.thread_runner.specs.Edges.{HasEdges, HasRings, AreJoined, AreLeft, SameDones, job_task, done_task, out_names, in_names, put_tables, taken_tables}
@@ -21,11 +22,15 @@ LayoutsHaveEdges = (p : PlanData) (l : LayoutData) → IsPlan p → IsLayoutOf p
 abbrev pub JobsAreWired : Type 0
 JobsAreWired = (g : GivenData) (first js : List Job) → AreNewTasks g (map job_task first) → Wired g.layout.stages first js → AreWired g js
 
--- workers without a fault hand back one task each, and both ends of every ring
+-- workers hand back one task each, and both ends of every ring, also where memory was refused to some
 abbrev pub WorkersHandBackRings : Type 0
-WorkersHandBackRings = (g : GivenData) (ds : List Done) → AreWorked g ds → NoFaults ds
+WorkersHandBackRings = (g : GivenData) (ds : List Done) → AreWorked g ds
     → (length ds ≡ task_count g.layout.stages) × AreJoined g.layout.stages (out_names ds) (in_names ds)
 
--- and what they hand back, settled, is the end of a complete consistent history
+-- and what they hand back, settled, stands on the way of a leg: a consistent history of the steps that were accepted leads there
+abbrev pub WorkersAreOnTheWay : Type 0
+WorkersAreOnTheWay = (g : GivenData) (ds ds' : List Done) → IsSound g → AreWorked g ds → SameDones ds ds' → AreLeft g.layout.stages (put_tables ds') (taken_tables ds') → AreOnTheWay g (map done_task ds')
+
+-- without a fault it is the end of a complete one
 abbrev pub WorkersAreAtEnd : Type 0
 WorkersAreAtEnd = (g : GivenData) (ds ds' : List Done) → IsSound g → AreWorked g ds → NoFaults ds → SameDones ds ds' → AreLeft g.layout.stages (put_tables ds') (taken_tables ds') → AreAtEnd g (map done_task ds')

@@ -51,11 +51,12 @@ pub record Works (i : InputData) (d : TaskData) (ins : List Receiver) (outs : Li
   pub taken : (n : ℕ) → taken_at ins' n ≡ taken n steps ++ taken_at ins n
   pub put : (n : ℕ) → put_at outs' n ≡ sent n steps ++ put_at outs n
 
--- a task is as its accepted steps left it, but for its windows, and whether a step found no memory
+-- a task is as its accepted steps left it, but for its windows, which are the same where it is over, and whether a step found no memory
 pub record IsLeftOf (u d : TaskData) : Type 0 where
   pub windows : Windows
   pub has_failed : Bool
   pub is : d ≡ record u { state = record u.state { windows = windows }; has_failed = has_failed }
+  pub whole : u.state.over ≡ true → windows ≡ u.state.windows
 
 -- the same up to a step that was not made, for which a message more may have been taken from one input that could be taken from
 pub record WorksUpTo (i : InputData) (d : TaskData) (ins : List Receiver) (outs : List Sender) (d' : TaskData) (ins' : List Receiver) (outs' : List Sender) : Type 0 where

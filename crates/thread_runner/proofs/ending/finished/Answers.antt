@@ -4,13 +4,13 @@ use Rattle.thread_runner.proofs.LegLemmas.{are_at_end, as_many, are_joined}
 use Rattle.thread_runner.proofs.ending.finished.Goals as goal
 
 pub settled-dones-requires-clause-count : goal.settled-dones-requires-clause-count
-settled-dones-requires-clause-count c = as_many (given_data c.args.given (until_in c.args.until.now)) c.args.dones.items c.requires.worked c.requires.fine
+settled-dones-requires-clause-count c = as_many (given_data c.args.given (until_in c.args.until.now)) c.args.dones.items c.requires.worked
 
 pub settled-dones-requires-clause-edges : goal.settled-dones-requires-clause-edges
 settled-dones-requires-clause-edges c = (c.layouts_have_edges-edges.ensures c.args.given.plan.now c.args.given.layout.now c.requires.sound.given.plan c.requires.sound.given.laid_out).0
 
 pub settled-dones-requires-clause-joined : goal.settled-dones-requires-clause-joined
-settled-dones-requires-clause-joined c = are_joined (given_data c.args.given (until_in c.args.until.now)) c.args.dones.items c.requires.worked c.requires.fine
+settled-dones-requires-clause-joined c = are_joined (given_data c.args.given (until_in c.args.until.now)) c.args.dones.items c.requires.worked
 
 pub finish_of-requires : goal.finish_of-requires
 finish_of-requires c =

@@ -3,13 +3,13 @@ use Rattle.core_steps.specs.Given.{given_data}
 use Rattle.thread_tests.proofs.wiring.settle.Goals as goal
 
 pub settled-dones-requires-clause-count : goal.settled-dones-requires-clause-count
-settled-dones-requires-clause-count c = (c.workers_hand_back_rings-rings.ensures (given_data c.args.given (until_in c.args.until.now)) c.args.dones.items c.requires.worked c.requires.fine).0
+settled-dones-requires-clause-count c = (c.workers_hand_back_rings-rings.ensures (given_data c.args.given (until_in c.args.until.now)) c.args.dones.items c.requires.worked).0
 
 pub settled-dones-requires-clause-edges : goal.settled-dones-requires-clause-edges
 settled-dones-requires-clause-edges c = (c.layouts_have_edges-edges.ensures c.args.given.plan.now c.args.given.layout.now c.requires.sound.given.plan c.requires.sound.given.laid_out).0
 
 pub settled-dones-requires-clause-joined : goal.settled-dones-requires-clause-joined
-settled-dones-requires-clause-joined c = (c.workers_hand_back_rings-rings.ensures (given_data c.args.given (until_in c.args.until.now)) c.args.dones.items c.requires.worked c.requires.fine).1
+settled-dones-requires-clause-joined c = (c.workers_hand_back_rings-rings.ensures (given_data c.args.given (until_in c.args.until.now)) c.args.dones.items c.requires.worked).1
 
 pub finish_of-requires : goal.finish_of-requires
 finish_of-requires c =
