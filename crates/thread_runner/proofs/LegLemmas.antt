@@ -1,11 +1,14 @@
 -- The history of a leg, out of what its workers say.
 use Rattle.std.specs.Prelude.{MatchOption}
-use Rattle.std.proofs.Common.{◌≡◌, ℕ, zero, suc, ◌-◌, ◌<◌, ◌==◌, cond, List, [], ◌∷◌, ◌++◌, map, length, reverse, take, get_or, refl, sym, ap, subst, ◌∙◌, append_assoc, arith, true, All, Option, Some, None}
+use Rattle.std.proofs.Common.{◌≡◌, ℕ, zero, suc, ◌+◌, ◌-◌, ◌<◌, ◌≤◌, ◌==◌, cond, List, [], ◌∷◌, ◌++◌, map, length, reverse, take, get_or, refl, sym, ap, subst, ◌∙◌, append_assoc, arith, true, All, Option, Some, None}
 use Rattle.std.specs.List.{AllZip}
 use Rattle.std.proofs.lemmas.Option.{none-some}
 use Rattle.std.proofs.lemmas.List.{length-map, get_or-map, append-nil, reverse-append, length-append, take_at}
 use Rattle.plan_model.specs.PlanData.{PlanData}
+use Rattle.plan_model.specs.Rows.{AreRowsOf}
 use Rattle.stream_model.specs.InputData.{InputData}
+use Rattle.stream_model.specs.Watermarks.{IsCut, IsBefore}
+use Rattle.dataflow_laws.specs.Inputs.{due_between}
 use Rattle.dataflow_model.specs.declared.message.Message.{Message}
 use Rattle.dataflow_model.specs.AbstractTask.{AbstractTask}
 use Rattle.dataflow_model.specs.State.{State}
@@ -19,11 +22,15 @@ use Rattle.layout_rules.specs.Below.{count_below}
 use Rattle.layout_rules.specs.Stages.{task_count, is_ring}
 use Rattle.task_steps.specs.TaskData.{TaskData}
 use Rattle.task_steps.specs.Answers.{GoesOn}
+use Rattle.redistribute.specs.StartData.{offsets_of}
+use Rattle.leg_tasks.specs.Saved.{IsSavedAt}
 use Rattle.core_steps.specs.Given.{GivenData, layout_in, start_in}
 use Rattle.core_steps.specs.World.{state_at, IsPlaced, IsSound}
 use Rattle.core_steps.specs.Beginning.{AreNewTasks}
 use Rattle.core_steps.specs.Finishing.{AreAtEnd}
-use Rattle.core_steps.specs.Sealing.{AreOnTheWay}
+use Rattle.core_steps.specs.declared.sealing.Sealed.{Sealed}
+use Rattle.core_steps.specs.Ending.{HasSealed}
+use Rattle.core_steps.specs.Sealing.{AreOnTheWay, IsSealOf}
 use Rattle.thread_runner.specs.declared.jobs.Job.{Job}
 use Rattle.thread_runner.specs.declared.jobs.Done.{Done}
 use Rattle.thread_runner.specs.Rings.{put_of, taken_of}
@@ -86,7 +93,7 @@ worked_up_to i j d fault w = record {
 
 worked_by : (i : InputData) (j : Job) (d : Done) (fault : Option LegFault) → d.fault ≡ fault
     → MatchOption fault (IsDone d.task.state × Works i j.task j.inputs.items j.outputs.items d.task d.inputs.items d.outputs.items)
-      (λ fault. (fault ≡ Memory) × WorksUpTo i j.task j.inputs.items j.outputs.items d.task d.inputs.items d.outputs.items)
+    (λ fault. (fault ≡ Memory) × WorksUpTo i j.task j.inputs.items j.outputs.items d.task d.inputs.items d.outputs.items)
     → Worked i j d
 worked_by i j d None e w = worked i j d w
 worked_by i j d (Some fault) e w = worked_up_to i j d (λ none. none-some fault (sym none ∙ e)) w.1
@@ -254,7 +261,7 @@ module _ (g : GivenData) (js : List Job) (ds : List Done) (sound : IsSound g) (w
       let took = ap reverse there ∙ all.1 in
       front_of (sent o (steps s)) (reverse rest.0 ++ all.0) (taken ((layout_in g).in_at s t) (steps t))
       (sym put ∙ (ap reverse rest.1 ∙ (reverse-append (taken_there g.layout.stages (taken_tables ds) s o) rest.0
-        ∙ (ap (λ (l : List Message). reverse rest.0 ++ l) took ∙ sym (append_assoc (reverse rest.0) all.0 (taken ((layout_in g).in_at s t) (steps t)))))))
+      ∙ (ap (λ (l : List Message). reverse rest.0 ++ l) took ∙ sym (append_assoc (reverse rest.0) all.0 (taken ((layout_in g).in_at s t) (steps t)))))))
 
   abbrev history_to : (end : ℕ → State) → ((t : ℕ) → lasts t ≡ end t) → History g.plan (layout_in g) (start_in g)
   history_to end same = record {
@@ -335,3 +342,18 @@ wired_jobs g first js new w = record {
   fresh = w.fresh;
   joined = w.joined;
 }
+
+-- what was sealed at a savepoint on the way
+pub has_sealed : (g : GivenData) (states : ℕ → State) (x : Sealed) → IsSealOf g states x → x.barrier ≤ length g.saves → HasSealed g.plan g.input g.start g.saves x
+has_sealed g states x is few =
+    let passed : is.passed < length g.saves = let b = is.barrier in omega (arith, b, few) in
+    let at = is.is_cut.on_the_way passed in
+    record {
+      passed = is.passed;
+      barrier = is.barrier;
+      few = passed;
+      is_cut = subst (IsCut g.input.sources) at is.is_cut.is_cut;
+      no_earlier = subst (IsBefore (offsets_of g.start)) at is.is_cut.no_earlier;
+      delivered = λ snap. subst (λ (cut : List (List ℕ)). AreRowsOf (due_between g.plan g.input.sources (offsets_of g.start) cut) x.rows) at (is.delivered snap);
+      saved = λ snap. subst (λ (cut : List (List ℕ)). IsSavedAt g.plan g.input cut (g.start.number + x.barrier) x.savepoint) at (is.saved snap);
+    }

@@ -8,14 +8,14 @@ ghost use Rattle.redistribute.specs.Begins.{IsFromNothing};
 ghost use Rattle.task_setups.specs.Legs.{counts_of};
 ghost use Rattle.core_steps.specs.Given.{given_data};
 ghost use Rattle.core_steps.specs.World.{IsSound};
-ghost use Rattle.core_steps.specs.Ending.{IsEndOf, IsWholeRun};
+ghost use Rattle.core_steps.specs.Ending.{IsEndOf, IsWholeRun, IsWholeOrGivenUp};
 ghost use Rattle.thread_runner.specs.Edges.{SameDones, HasEdges, AreJoined, AreLeft, out_names, in_names, put_tables, taken_tables, done_task};
 ghost use Rattle.thread_runner.specs.Legs.{NoFaults, AreWorked};
 
 use crate::edges::settle_all;
 use crate::jobs::Done;
 use crate::laws::layouts_have_edges;
-use core_steps::{Finish, Given, finish_of};
+use core_steps::{Finish, Given, finish_of, sealed_of};
 use legs::Until;
 use plan_compiler::Layout;
 use std::alloc::{AllocError, Global};
@@ -86,6 +86,30 @@ fn finished(
     finish_of(alloc, given, until, tasks)
 }
 
+/// What a leg comes to that is given up, since memory was refused to a worker: what it had sealed on its way. The barrier of a stop
+/// is none of these: where every task has passed it, no worker has ended early.
+fn given_up(
+    alloc: Global,
+    given: Given<'_>,
+    until: &Until,
+    dones: Vec<Done>,
+) -> Result<Finish, AllocError>
+    requires sound { IsSound (given_data given (until_in until.now)) }
+    requires worked { AreWorked (given_data given (until_in until.now)) dones.items }
+    ensures ends { IfOk result (λ finish. IsEndOf given.entry.plan.now given.entry.input.now given.entry.start.now (counts_of given.entry.saves.now) (until_in until.now) finish) }
+    ensures whole { IfOk result (λ finish. IsWholeOrGivenUp given.entry.plan.now given.entry.input.now finish) }
+{
+    let _edges = layouts_have_edges();
+    let dones = settled(given.layout, dones);
+    let tasks = tasks_of(alloc, dones)?;
+    match sealed_of(alloc, given, until, tasks.as_slice())? {
+        Some(sealed) if sealed.barrier <= given.saves.len() as u64 => {
+            Ok(Finish::Abandoned(sealed))
+        }
+        _ => Err(AllocError),
+    }
+}
+
 /// What a leg comes to, out of what its workers have done.
 pub(crate) fn conclude(
     alloc: Global,
@@ -96,10 +120,10 @@ pub(crate) fn conclude(
     requires sound { IsSound (given_data given (until_in until.now)) }
     requires worked { AreWorked (given_data given (until_in until.now)) dones.items }
     ensures ends { IfOk result (λ finish. IsEndOf given.entry.plan.now given.entry.input.now given.entry.start.now (counts_of given.entry.saves.now) (until_in until.now) finish) }
-    ensures whole { IfOk result (λ finish. IsFromNothing given.entry.input.now given.entry.start.now → until_in until.now ≡ ToEnd → IsWholeRun given.entry.plan.now given.entry.input.now finish) }
+    ensures whole { IfOk result (λ finish. IsFromNothing given.entry.input.now given.entry.start.now → until_in until.now ≡ ToEnd → IsWholeOrGivenUp given.entry.plan.now given.entry.input.now finish) }
 {
     if has_fault(dones.as_slice()) {
-        return Err(AllocError);
+        return given_up(alloc, given, until, dones);
     }
     finished(alloc, given, until, dones)
 }

@@ -1,16 +1,16 @@
 //! A leg of a job, run in a thread for each task.
 
-ghost use Rattle.std.specs.Prelude.{[], ◌≡◌, IfOk, IfErr, OnOk};
+ghost use Rattle.std.specs.Prelude.{◌≡◌, IfOk, IfErr, OnOk};
 ghost use Rattle.stream_model.specs.InputData.{BelongsTo};
 ghost use Rattle.layout_rules.specs.Scale.{IsScale};
 ghost use Rattle.legs.specs.Stops.{until_in};
 ghost use Rattle.redistribute.specs.StartData.{offsets_of};
 ghost use Rattle.redistribute.specs.Begins.{IsStartIn, IsFromNothing};
-ghost use Rattle.redistribute.specs.Stopping.{CanGo, IsRefusal};
+ghost use Rattle.redistribute.specs.Stopping.{CanGo, CanSaveAt, IsRefusal};
 ghost use Rattle.task_setups.specs.Legs.{IsLayoutOf, counts_of};
 ghost use Rattle.core_steps.specs.Given.{given_data};
 ghost use Rattle.core_steps.specs.World.{IsSound};
-ghost use Rattle.core_steps.specs.Ending.{IsEndOf, IsWholeRun};
+ghost use Rattle.core_steps.specs.Ending.{IsEndOf, IsWholeOrGivenUp};
 ghost use Rattle.thread_runner.specs.Legs.{AreWired};
 ghost use Rattle.thread_runner.specs.Refusal.{IsThreadRefusal};
 ghost use Rattle.thread_runner.specs.declared.stop.Stop.TheVariants.{Never};
@@ -27,7 +27,7 @@ use core_steps::laws::{each_leg_is_sound, tasks_begin_new};
 use core_steps::{Finish, Given};
 use layout_rules::Scale;
 use leg_tasks::tasks;
-use legs::LegFault;
+use legs::{Cut, LegFault};
 use plan_compiler::compile;
 use plan_model::Plan;
 use redistribute::Start;
@@ -93,13 +93,15 @@ fn word_in(asked: &Option<Arc<AtomicBool>>) -> Option<&AtomicBool> {
 /// It ends at a cut that no one knows before, with the savepoint of there, or at the end of its input, where all its sources were
 /// closed before they saw the word.
 ///
+/// At each of its savepoints on the way every task keeps its state and goes on. Where memory is refused to a worker behind one that
+/// is complete, the leg is given up with what it had sealed there.
+///
 /// The input and the scale were read by the plan, and the start is one of the input.
 ///
 /// # Errors
 ///
-/// `StopRange` where a leg from the start cannot stop so, else `Threads` where a thread was refused, and `Memory` where
-/// memory runs out.
-#[tactic(auto, using(redistribute::proofs::Facts::no_saves))]
+/// `StopRange` where a leg from the start cannot stop so, else `SaveRange` where it cannot take its savepoints on the way, else
+/// `Threads` where a thread was refused, and `Memory` where memory runs out and no savepoint on the way is complete.
 pub fn run_leg<R: Threads + Wait + Clock + Sync, G: Gate>(
     rt: &R,
     alloc: Global,
@@ -108,6 +110,7 @@ pub fn run_leg<R: Threads + Wait + Clock + Sync, G: Gate>(
     input: &Input,
     start: &Start,
     scale: &Scale,
+    saves: &[Cut],
     stop: Stop,
     gate: &G,
 ) -> Result<Finish, LegFault>
@@ -115,19 +118,21 @@ pub fn run_leg<R: Threads + Wait + Clock + Sync, G: Gate>(
     requires scale { IsScale plan.now scale.now }
     requires starts { IsStartIn plan.now input.now start.now }
     ensures stops { OnOk result (CanGo input.now.sources (offsets_of start.now) (until_of stop)) }
-    ensures ends { IfOk result (λ finish. IsEndOf plan.now input.now start.now [] (until_of stop) finish) }
-    ensures whole { IfOk result (λ finish. IsFromNothing input.now start.now → stop ≡ Never → IsWholeRun plan.now input.now finish) }
-    ensures refused { IfErr result (λ fault. IsThreadRefusal input.now.sources (offsets_of start.now) (until_of stop) fault) }
+    ensures saves { OnOk result (CanSaveAt input.now.sources (offsets_of start.now) (counts_of saves.now) (until_of stop)) }
+    ensures ends { IfOk result (λ finish. IsEndOf plan.now input.now start.now (counts_of saves.now) (until_of stop) finish) }
+    ensures whole { IfOk result (λ finish. IsFromNothing input.now start.now → stop ≡ Never → IsWholeOrGivenUp plan.now input.now finish) }
+    ensures refused { IfErr result (λ fault. IsThreadRefusal input.now.sources (offsets_of start.now) (counts_of saves.now) (until_of stop) fault) }
 {
     let (until, asked) = stop.into_parts();
     start.check_until(input, &until)?;
+    start.check_saves_until(input, saves, &until)?;
     let layout = compile(alloc, plan, scale)?;
     let given = Given {
         plan,
         input,
         start,
         layout: &layout,
-        saves: &[],
+        saves,
     };
     let leg = Leg {
         number: start.number(),
