@@ -37,6 +37,7 @@ fn cut_of(alloc: Global, counts: &[u64]) -> Result<Cut, AllocError> {
 }
 
 /// Cuts at which a leg is to take savepoints, where it stops, if it does, and whether it can take them.
+#[derive(Clone, Copy)]
 struct Case<'a> {
     saves: &'a [&'a [u64]],
     stop: Option<&'a [u64]>,
@@ -72,17 +73,49 @@ fn check_case<R: AllocGlobal + Abort>(
 }
 
 fn check_cases<R: AllocGlobal + Abort>(rt: &R, input: &Input, start: &Start) -> Result<(), Fail> {
-    for (saves, stop, can) in [
-        (&[] as &[&[u64]], None, true),
-        (&[&[2, 2]], None, true),
-        (&[&[0, 0], &[0, 0], &[3, 3]], None, true),
-        (&[&[2, 2], &[1, 3]], None, false),
-        (&[&[3, 4]], None, false),
-        (&[&[2]], None, false),
-        (&[&[1, 2], &[2, 2]], Some(&[2, 2] as &[u64]), true),
-        (&[&[2, 2]], Some(&[2, 1]), false),
+    for case in [
+        Case {
+            saves: &[],
+            stop: None,
+            can: true,
+        },
+        Case {
+            saves: &[&[2, 2]],
+            stop: None,
+            can: true,
+        },
+        Case {
+            saves: &[&[0, 0], &[0, 0], &[3, 3]],
+            stop: None,
+            can: true,
+        },
+        Case {
+            saves: &[&[2, 2], &[1, 3]],
+            stop: None,
+            can: false,
+        },
+        Case {
+            saves: &[&[3, 4]],
+            stop: None,
+            can: false,
+        },
+        Case {
+            saves: &[&[2]],
+            stop: None,
+            can: false,
+        },
+        Case {
+            saves: &[&[1, 2], &[2, 2]],
+            stop: Some(&[2, 2]),
+            can: true,
+        },
+        Case {
+            saves: &[&[2, 2]],
+            stop: Some(&[2, 1]),
+            can: false,
+        },
     ] {
-        check_case(rt, input, start, &Case { saves, stop, can })?;
+        check_case(rt, input, start, &case)?;
     }
     Ok(())
 }
@@ -90,19 +123,20 @@ fn check_cases<R: AllocGlobal + Abort>(rt: &R, input: &Input, start: &Start) -> 
 /// A leg takes so many savepoints, and not one more; where it may be asked to stop, none.
 fn check_limits<R: AllocGlobal + Abort>(rt: &R, input: &Input, start: &Start) -> Result<(), Fail> {
     let alloc = rt.alloc();
-    let mut saves = Vec::new(alloc);
+    let one = [cut_of(alloc, &[1, 1])?];
     assert_eq!(rt;
-        start.check_saves_until(input, &saves, &Until::TillAsked),
+        start.check_saves_until(input, &[], &Until::TillAsked),
         Ok(())
     );
+    assert_eq!(rt;
+        start.check_saves_until(input, &one, &Until::TillAsked),
+        Err(LegFault::SaveRange)
+    );
+    let mut saves = Vec::new(alloc);
     for _ in 0..1024 {
         saves.push(cut_of(alloc, &[1, 1])?)?;
     }
     assert_eq!(rt; start.check_saves(input, &saves, &Stop::Never), Ok(()));
-    assert_eq!(rt;
-        start.check_saves_until(input, &saves[..1], &Until::TillAsked),
-        Err(LegFault::SaveRange)
-    );
     saves.push(cut_of(alloc, &[1, 1])?)?;
     assert_eq!(rt;
         start.check_saves(input, &saves, &Stop::Never),
