@@ -1,1 +1,3 @@
-pub mod Lists
+pub mod Cuts
+pub mod Firsts
+pub mod Links

@@ -1,25 +1,41 @@
 //! A table of texts.
 
-use indexmap::IndexSet;
+ghost use Rattle.std.specs.Prelude.{◌≡◌};
+ghost use Rattle.twice_table.specs.Texts.{text_code};
+
+use crate::chains::Chains;
+use crate::packed::PackedTexts;
 use std::alloc::{AllocError, Global};
-use std::hash::RandomState;
+use std::hash::{BuildHasher, Hasher, RandomState};
 use std::marker::Model;
+
+/// The code of a text, which starts from secret numbers.
+fn code_of(state: &RandomState, text: &[u8]) -> u32
+    ensures { result ≡ text_code state.now text.now }
+{
+    let mut hasher = state.build_hasher();
+    hasher.write(text);
+    (hasher.finish() & 0xffff_ffff) as u32
+}
 
 /// Texts of any bytes, each once, in the order in which they came, by hashes that start from secret numbers: so no texts can be
 /// made whose hashes are all alike. Where hashes are alike the texts are compared.
 #[derive(Drop)]
 pub struct TextTable {
-    alloc: Global,
-    texts: IndexSet<Vec<u8>, RandomState>,
+    state: RandomState,
+    texts: PackedTexts,
+    chains: Chains,
 }
 
 impl Model for TextTable {
-    ghost use Rattle.std.specs.Prelude.{ℕ, List};
-    ghost use Rattle.twice_table.specs.Texts.{texts_of};
+    ghost use Rattle.std.specs.Prelude.{◌≡◌, ℕ, List, map};
+    ghost use Rattle.twice_table.specs.Texts.{text_code, AreOnce};
 
     ghost Value = { List (List ℕ) };
 
-    ghost view = { λ t. texts_of t.texts };
+    ghost view = { λ t. t.texts };
+
+    ghost invariant = { λ t. (t.chains ≡ map (text_code t.state) t.texts) × AreOnce t.texts };
 }
 
 impl TextTable {
@@ -32,8 +48,9 @@ impl TextTable {
         ensures { result ≡ [] }
     {
         TextTable {
-            alloc,
-            texts: IndexSet::with_hasher(alloc, state),
+            state,
+            texts: PackedTexts::new(alloc),
+            chains: Chains::new(alloc),
         }
     }
 
@@ -42,7 +59,8 @@ impl TextTable {
         ensures place { result ≡ position (bytes_eq text.now) self.now }
         ensures found { is_some result ≡ list_any (bytes_eq text.now) self.now }
     {
-        self.texts.get_index_of(text)
+        self.chains
+            .find(&self.texts, code_of(&self.state, text), text)
     }
 
     /// Adds a text that is not there.
@@ -51,8 +69,12 @@ impl TextTable {
         ensures texts { OnOk result (self.new ≡ self.old ++ text.now ∷ []) }
         ensures err { OnErr result (self.new ≡ self.old) }
     {
-        let text = Vec::from_slice(self.alloc, text)?;
-        self.texts.insert(text)?;
+        self.texts.push(text)?;
+        let code = code_of(&self.state, text);
+        if self.chains.push(code).is_err() {
+            self.texts.pop();
+            return Err(AllocError);
+        }
         Ok(())
     }
 
@@ -60,7 +82,7 @@ impl TextTable {
     ///
     /// # Errors
     ///
-    /// Only where memory runs out, and then no text is added.
+    /// Only where memory runs out, or there are 2^32 - 1 texts, and then no text is added.
     pub fn see(&mut self, text: &[u8]) -> Result<Option<usize>, AllocError>
         ensures place { IfOk result (λ place. place ≡ position (bytes_eq text.now) self.old) }
         ensures found { IfOk result (λ place. is_some place ≡ list_any (bytes_eq text.now) self.old) }
