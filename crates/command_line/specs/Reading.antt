@@ -55,7 +55,8 @@ HasImportWords words said =
     × (option_map (λ w. w.now) said.twice ≡ first_value words (codes "twice")) × (option_map (λ w. w.now) said.report ≡ first_value words (codes "report"))
     × (option_map (λ w. w.now) said.zones ≡ first_value words (codes "zones"))
     × (option_map (λ w. w.now) said.zone ≡ first_value words (codes "zone")) × (option_map (λ w. w.now) said.fold ≡ first_value words (codes "fold"))
-    × (option_map (λ w. w.now) said.separator ≡ first_value words (codes "separator")) × IsFlag words (codes "align") said.is_aligned
+    × (option_map (λ w. w.now) said.separator ≡ first_value words (codes "separator"))
+    × (option_map (λ w. w.now) said.decimal ≡ first_value words (codes "decimal")) × IsFlag words (codes "align") said.is_aligned
 
 -- what stands there, or else something else
 abbrev pub or_else : Option (List ℕ) → Option (List ℕ) → Option (List ℕ)

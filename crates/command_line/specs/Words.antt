@@ -77,7 +77,7 @@ abbrev pub import_zone_shape : Shape
 import_zone_shape = record import_aside_shape { rules = import_aside_shape.rules ++ option_rule (codes "zone") ∷ option_rule (codes "fold") ∷ [] }
 
 abbrev pub import_shape : Shape
-import_shape = record import_zone_shape { rules = import_zone_shape.rules ++ option_rule (codes "report") ∷ option_rule (codes "zones") ∷ option_rule (codes "separator") ∷ [] }
+import_shape = record import_zone_shape { rules = import_zone_shape.rules ++ option_rule (codes "report") ∷ option_rule (codes "zones") ∷ option_rule (codes "separator") ∷ option_rule (codes "decimal") ∷ [] }
 
 -- the plan, the rows and the columns of an export, and its options
 abbrev pub export_files_shape : Shape

@@ -36,6 +36,7 @@ fn import_words<'m>(words: &'m ArgMatches<'_>) -> ImportWords<'m>
         zone: words.get_str("zone"),
         fold: words.get_str("fold"),
         separator: words.get_str("separator"),
+        decimal: words.get_str("decimal"),
         is_aligned: words.get_flag("align"),
         rows: words.get_str("rows"),
     }

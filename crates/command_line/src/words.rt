@@ -367,11 +367,12 @@ const IMPORT: &str = "\
 Each FILE is CSV with a header, or, where its name ends in .ndjson or .jsonl, a JSON object a line, and
 becomes a partition of its source; INPUT is written once all of them are read. COLUMNS has a field of the
 header, or a member of the objects, for each number of a record, in the plan's order, with commas
-between: `bytes` is a whole number; `power:3` a decimal times 1000; `at:ms` a time in ISO 8601 with its
-zone, in milliseconds since 1970, and `at:day:Europe/Berlin` the day there, or month, year, hour, weekday;
-`customer:name` the number of a name in the file of --names; `status:ge:500` is 1 where the number is at
-least 500, else 0, and `fuel:eq:diesel` where the text is that. `@FILE` reads the columns from a file, a
-line each.
+between: `bytes` is a whole number; `power:3` a decimal times 1000, and `price*quantity:2` a product times
+100; `at:ms` a time in ISO 8601 with its zone, in milliseconds since 1970, and `at:day:Europe/Berlin` the
+day there, or month, year, hour, weekday; `customer:name` the number of a name in the file of --names, and
+`customer+region:name` that of both together; `status:ge:500` is 1 where the number is at least 500, else
+0, and `fuel:eq:diesel` where the text is that. `geo.country` is a member of a member. `@FILE` reads the
+columns from a file, a line each.
 
 Example: streamjob import plan.json input.json time:ms,customer:name,bytes --names names.csv api=0.csv,1.csv
 Page: docs/FORMATS.md, under Import";
@@ -513,12 +514,19 @@ fn import_words<'a>(alloc: Global) -> Result<Command<'a>, AllocError>
         "FOLDER",
         "Folder of the time zones (/usr/share/zoneinfo)",
     )?;
-    option(
+    let command = option(
         alloc,
         command,
         "separator",
         "C",
         "What stands between the fields of CSV: one character, or `tab` (,)",
+    )?;
+    option(
+        alloc,
+        command,
+        "decimal",
+        "C",
+        "What stands for the point of decimals in CSV: a point or a comma (.)",
     )
 }
 

@@ -1,1 +1,2 @@
+mod Quotients
 pub mod Shifts

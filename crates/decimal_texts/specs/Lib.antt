@@ -1,2 +1,4 @@
 pub mod Exponents
 pub mod Exact
+pub mod Points
+pub mod Products

@@ -41,7 +41,7 @@ fn digits_after(before: u64, digits: &[u8]) -> Option<u64>
 }
 
 /// The number that the digits of both write, where 64 bits without a sign hold it.
-fn number_of_both(front: &[u8], back: &[u8]) -> Option<u64>
+pub(crate) fn number_of_both(front: &[u8], back: &[u8]) -> Option<u64>
     requires front { IsTrue (list_all is_ascii_digit front.now) }
     requires back { IsTrue (list_all is_ascii_digit back.now) }
     ensures { SomeIff result (digits_value 10 (front.now ++ back.now) < 2 ^ 64) (digits_value 10 (front.now ++ back.now)) }
@@ -51,7 +51,7 @@ fn number_of_both(front: &[u8], back: &[u8]) -> Option<u64>
 }
 
 /// The number times ten to the power of the places, where 64 bits without a sign hold it.
-fn raised(number: u64, places: usize) -> Option<u64>
+pub(crate) fn raised(number: u64, places: usize) -> Option<u64>
     ensures { SomeIff result (number * 10 ^ places < 2 ^ 64) (number * 10 ^ places) }
 {
     if number == 0 {

@@ -37,7 +37,7 @@ fn magnitude(whole: &[u8], decimals: &[u8], up: usize, down: usize) -> Result<u6
 }
 
 /// The number with this sign and magnitude, where 64 bits hold it.
-fn signed(is_negative: bool, magnitude: u64) -> Option<i64>
+pub(crate) fn signed(is_negative: bool, magnitude: u64) -> Option<i64>
     ensures { result ≡ signed is_negative magnitude }
 {
     if is_negative {

@@ -1,5 +1,8 @@
 -- A column with the zones in place of their names.
-use Rattle.std.specs.Prelude.{◌≡◌, ℕ, ℤ, List, Option, Some, None}
+use Rattle.std.specs.Prelude.{◌≡◌, ℕ, ℤ, ◌==◌, nat_lt, List, length, Option, Some, None, if◌then◌else◌}
+use Rattle.std.specs.List.{slice_split}
+use Rattle.asked_fields.specs.declared.joint.Joint.{Joint}
+use Rattle.asked_fields.specs.declared.joint.Joint.TheVariants.{Plus, Times}
 use Rattle.lane_kernels.specs.declared.Cmp.{Cmp}
 use Rattle.jiff_tz.specs.declared.timezone.TimeZone.{TimeZone}
 use Rattle.jiff_tz.specs.declared.tzif.Tzif.{Tzif as Table}
@@ -58,6 +61,16 @@ abbrev pub IsKind : List Table → Clocks → ColumnKind → Kind → Type 0
 IsKind tables clocks (column.Value kind) said = IsValue tables clocks kind said
 IsKind tables clocks column.Name said = said ≡ Name
 
+-- how many parts a name has with a byte between
+abbrev pub parts_by : ℕ → List ℕ → ℕ
+parts_by mark name = length (slice_split (λ b. b == mark) name)
+
+-- what stands between the names of fields in the name of a column: pluses for names, and one asterisk for decimals
+abbrev pub joint_said : List ℕ → Kind → Option Joint
+joint_said field Name = if nat_lt 1 (parts_by 43 field) then Some Plus else None
+joint_said field (Scaled places) = if parts_by 42 field == 2 then Some Times else None
+joint_said field kind = None
+
 -- the column is what was said
 abbrev pub IsColumn : List Table → Clocks → Column → Said → Type 0
-IsColumn tables clocks read said = (read.field.now ≡ said.field) × IsKind tables clocks read.kind said.kind
+IsColumn tables clocks read said = (read.field.now ≡ said.field) × (read.joint ≡ joint_said said.field said.kind) × IsKind tables clocks read.kind said.kind

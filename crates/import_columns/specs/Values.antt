@@ -1,5 +1,7 @@
 -- The number that a text is.
-use Rattle.std.specs.Prelude.{◌≡◌, ℤ, pos, Bool, not, bytes_eq, List, ℕ, Result, Ok, Err, if◌then◌else◌}
+use Rattle.std.specs.Prelude.{◌≡◌, ℤ, pos, Bool, true, false, not, bytes_eq, List, ℕ, Option, Some, Result, Ok, Err, if◌then◌else◌}
+use Rattle.asked_fields.specs.declared.joint.Joint.{Joint}
+use Rattle.asked_fields.specs.declared.joint.Joint.TheVariants.{Times}
 use Rattle.lane_kernels.specs.declared.Cmp.{Cmp}
 use Rattle.lane_kernels.specs.Compare.{holds}
 use Rattle.jiff_core.specs.Timestamp.{IsTimestampNanos}
@@ -7,6 +9,9 @@ use Rattle.jiff_tz.specs.declared.timezone.TimeZone.{TimeZone}
 use Rattle.field_values.specs.declared.fault.FieldFault.{FieldFault}
 use Rattle.field_values.specs.declared.fault.FieldFault.TheVariants.{NoSuchTime}
 use Rattle.decimal_texts.specs.Exact.{exact_said}
+use Rattle.decimal_texts.specs.Points.{pointed}
+use Rattle.decimal_texts.specs.Products.{exact_product}
+use Rattle.decimal_texts.specs.declared.point.DecimalPoint.{DecimalPoint}
 use Rattle.local_times.specs.Local.{IsTimeOf}
 use Rattle.local_times.specs.declared.clocks.Clocks.{Clocks}
 use Rattle.local_times.specs.declared.unit.TimeUnit.TheVariants.{Milliseconds}
@@ -53,3 +58,18 @@ IsValueOf (Compared cmp bound) text answer = answer ≡ compared_value cmp bound
 IsValueOf (CalendarCompared part zone clocks cmp bound) text answer = IsComparedPart part zone clocks cmp bound text answer
 IsValueOf (Same wanted) text answer = answer ≡ Ok (bit (bytes_eq text wanted.now))
 IsValueOf (Other wanted) text answer = answer ≡ Ok (bit (not (bytes_eq text wanted.now)))
+
+-- the same of a column, whose decimal may be a product
+abbrev pub IsNumberOf : Option Joint → ValueKind → List ℕ → Result ℤ FieldFault → Type 0
+IsNumberOf (Some Times) (Scaled places) text answer = answer ≡ exact_product places text
+IsNumberOf joint kind text answer = IsValueOf kind text answer
+
+-- the text of a field is a decimal
+abbrev pub has_point : ValueKind → Bool
+has_point (Scaled places) = true
+has_point (Compared cmp bound) = true
+has_point kind = false
+
+-- the text of a field as its column reads it: a decimal by what stands for its point
+abbrev pub read_text : DecimalPoint → ValueKind → List ℕ → List ℕ
+read_text point kind text = if has_point kind then pointed point text else text

@@ -14,5 +14,5 @@ pub use fault::ColumnFault;
 pub use kind::{ColumnKind, ValueKind};
 pub use placing::{place_column, zone_of};
 pub use reading::column_word;
-pub use value::value_of;
+pub use value::{has_point, number_of};
 pub use word::{ColumnWord, WordKind};

@@ -1,12 +1,14 @@
 //! From a word to a column, by the zones that are known.
 
-ghost use Rattle.std.specs.Prelude.{◌≡◌, Some, MatchOption, option_map};
+ghost use Rattle.std.specs.Prelude.{◌≡◌, ◌==◌, ◌<◌, length, Some, MatchOption, option_map};
+ghost use Rattle.std.specs.List.{slice_split};
 ghost use Rattle.import_columns.specs.Columns.{view_kind, view_column};
-ghost use Rattle.import_columns.specs.Placed.{zone_named, IsKind, IsColumn, NamesNoZone};
+ghost use Rattle.import_columns.specs.Placed.{zone_named, joint_said, IsKind, IsColumn, NamesNoZone};
 
 use crate::column::Column;
 use crate::kind::{ColumnKind, ValueKind};
 use crate::word::{ColumnWord, WordKind};
+use asked_fields::Joint;
 use calendar_numbers::Zones;
 use local_times::{Clocks, TimeUnit};
 
@@ -63,8 +65,28 @@ fn placed<'w>(kind: &WordKind<'w>, zones: &'w Zones, clocks: Clocks<'w>) -> Opti
     }
 }
 
+/// How many parts a name has with a byte between.
+fn count_of(name: &str, mark: char) -> usize
+    requires { mark < 128 }
+    ensures { result ≡ length (slice_split (λ b. b == mark) name.now) }
+{
+    name.split(mark).count()
+}
+
+/// What stands between the names of fields in the name of a column.
+fn joint_of(field: &str, kind: &WordKind<'_>) -> Option<Joint>
+    ensures { result ≡ joint_said field.now (view_kind kind.now) }
+{
+    match kind {
+        WordKind::Name if count_of(field, '+') > 1 => Some(Joint::Plus),
+        WordKind::Scaled(_) if count_of(field, '*') == 2 => Some(Joint::Times),
+        _ => None,
+    }
+}
+
 /// The column that a word says, with the zone in place of its name, or `None` where no zone has the name. Its times that have no
-/// zone are read by the clocks.
+/// zone are read by the clocks. Where pluses stand in the name of a column of names, or one asterisk in that of a decimal, it may be the
+/// names of several fields.
 pub fn place_column<'w>(
     said: &ColumnWord<'w>,
     zones: &'w Zones,
@@ -75,6 +97,7 @@ pub fn place_column<'w>(
     match placed(&said.kind, zones, clocks) {
         Some(kind) => Some(Column {
             field: said.field,
+            joint: joint_of(said.field, &said.kind),
             kind,
         }),
         None => None,

@@ -2,11 +2,12 @@
 
 ghost use Rattle.std.specs.Prelude.{◌≡◌};
 ghost use Rattle.decimal_texts.specs.Exact.{exact_said};
-ghost use Rattle.import_columns.specs.Values.{compared_value, IsPart, IsPartOf, IsComparedPart, IsValueOf};
+ghost use Rattle.import_columns.specs.Values.{compared_value, IsPart, IsPartOf, IsComparedPart, IsValueOf, IsNumberOf, has_point};
 
 use crate::kind::ValueKind;
+use asked_fields::Joint;
 use calendar_numbers::{CalendarPart, calendar_number};
-use decimal_texts::exact;
+use decimal_texts::{exact, exact_product};
 use field_values::{FieldFault, Places};
 use jiff_tz::TimeZone;
 use lane_kernels::Cmp;
@@ -66,7 +67,7 @@ fn compared_part(
 ///
 /// Those of [`exact`] and [`time_of`]; `NoSuchTime` also for an instant that has no civil date in each zone, which are those in
 /// the last day of the year 9999.
-pub fn value_of(kind: &ValueKind<'_>, text: &[u8]) -> Result<i64, FieldFault>
+fn value_of(kind: &ValueKind<'_>, text: &[u8]) -> Result<i64, FieldFault>
     ensures { IsValueOf kind.now text.now result }
 {
     match kind {
@@ -80,4 +81,25 @@ pub fn value_of(kind: &ValueKind<'_>, text: &[u8]) -> Result<i64, FieldFault>
         ValueKind::Same(wanted) => Ok(i64::from(text == wanted.as_bytes())),
         ValueKind::Other(wanted) => Ok(i64::from(text != wanted.as_bytes())),
     }
+}
+
+/// The number that the text of a column is, which may be a product where an asterisk stands in the name of the column.
+///
+/// # Errors
+///
+/// Those of [`exact_product`] and of [`value_of`].
+pub fn number_of(joint: Option<Joint>, kind: &ValueKind<'_>, text: &[u8]) -> Result<i64, FieldFault>
+    ensures { IsNumberOf joint kind.now text.now result }
+{
+    match (joint, kind) {
+        (Some(Joint::Times), ValueKind::Scaled(places)) => exact_product(text, *places),
+        _ => value_of(kind, text),
+    }
+}
+
+/// Whether the text of a field is a decimal, which has a point or what stands for one.
+pub fn has_point(kind: &ValueKind<'_>) -> bool
+    ensures { result ≡ has_point kind.now }
+{
+    matches!(kind, ValueKind::Scaled(_) | ValueKind::Compared(_, _))
 }

@@ -6,7 +6,7 @@ ghost use Rattle.import_command.specs.Apart.{are_apart};
 use crate::apart::check_apart;
 use crate::keeping::{BesideFiles, named, written};
 use crate::names::{NameFile, no_names, random_state};
-use crate::words::{ImportWords, entry_rule, once_columns, separator_of};
+use crate::words::{ImportWords, entry_rule, once_columns, point_of, separator_of};
 use crate::zoning::{clocks_of, placed_columns, zones_of};
 use column_files::columns_text;
 use import_columns::{Column, ColumnWord};
@@ -32,6 +32,7 @@ fn rule_of<'i, R: AllocGlobal>(
     check_columns(rt.alloc(), said, plan.columns(), words.names.is_some())?;
     let entries = entry_rule(rt.alloc(), words, plan.window())?;
     let separator = separator_of(rt.alloc(), words.separator)?;
+    let point = point_of(rt.alloc(), words.decimal, separator)?;
     check_sources(rt.alloc(), words.sources, plan.sources())?;
     check_apart(rt.alloc(), words)?;
     Ok(ImportRule {
@@ -40,6 +41,7 @@ fn rule_of<'i, R: AllocGlobal>(
         columns,
         time: plan.window().time as usize,
         separator,
+        point,
         entries,
         once: None,
     })
@@ -53,6 +55,7 @@ fn with_once<'i>(rule: ImportRule<'i>, once: OnceRule<'i>) -> ImportRule<'i> {
         columns: rule.columns,
         time: rule.time,
         separator: rule.separator,
+        point: rule.point,
         entries: rule.entries,
         once: Some(once),
     }

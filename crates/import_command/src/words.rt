@@ -4,9 +4,10 @@ ghost use Rattle.std.specs.Prelude.{◌≡◌};
 ghost use Rattle.import_words.specs.Files.{parts};
 ghost use Rattle.import_words.specs.Judging.{IsRefusal};
 ghost use Rattle.import_command.specs.Once.{column_of, GivesPlaces, GivesOnce};
-ghost use Rattle.import_command.specs.Separating.{GivesSeparator};
+ghost use Rattle.import_command.specs.Separating.{GivesSeparator, GivesPoint};
 
 use columns::MOST_ROWS;
+use decimal_texts::DecimalPoint;
 use field_values::are_digits;
 use import_columns::Column;
 use import_entries::{EntryRule, WindowEnds};
@@ -32,6 +33,8 @@ pub struct ImportWords<'a> {
     pub late: Option<&'a str>,
     /// What stands between the fields of CSV: a comma, where no word says so.
     pub separator: Option<&'a str>,
+    /// What stands for the point of decimals in CSV: a point, where no word says so.
+    pub decimal: Option<&'a str>,
     /// The folder of the zones: that of the system, where no word says so.
     pub zones: Option<&'a str>,
     /// The zone of times that have none.
@@ -140,6 +143,41 @@ pub(crate) fn separator_of(alloc: Global, word: Option<&str>) -> Result<Separato
     match Separator::said_by(word) {
         Some(separator) => Ok(separator),
         None => Err(refused_separator(alloc, word)),
+    }
+}
+
+fn refused_point(alloc: Global, word: &str, what: &str) -> ImportFault
+    ensures { IsRefusal ImportCode.Options result }
+{
+    refused(
+        ImportCode::Options,
+        format!(in alloc; "--decimal: {word:?} {what}"),
+    )
+}
+
+/// What stands for the point of decimals in CSV with a separator.
+///
+/// # Errors
+///
+/// `Options` where a word says no such, or what stands between the fields; `Memory`.
+pub(crate) fn point_of(
+    alloc: Global,
+    word: Option<&str>,
+    separator: Separator,
+) -> Result<DecimalPoint, ImportFault>
+    ensures { GivesPoint word.entry separator result }
+{
+    let Some(word) = word else {
+        return Ok(DecimalPoint::Point);
+    };
+    match DecimalPoint::said_by(word) {
+        Some(point) if point.byte() != separator.byte() => Ok(point),
+        Some(_) => Err(refused_point(
+            alloc,
+            word,
+            "stands between the fields, and --separator names another",
+        )),
+        None => Err(refused_point(alloc, word, "is neither a point nor a comma")),
     }
 }
 

@@ -10,9 +10,11 @@ use Rattle.import_fates.specs.Fates.{Taken, fate_said, fates, keys_with, keys_af
 use Rattle.import_fates.specs.declared.counts.FateCounts.{FateCounts}
 use Rattle.imports.specs.Reading.{Rest, StandsAt, IsBegun}
 use Rattle.imports.specs.declared.kinds.Records.{Records}
+use Rattle.import_copies.specs.Asking.{Asks}
 use Rattle.import_copies.specs.Files.{Asked, TakesRecord, TakesAll, AreOfFile, HasNone}
 use Rattle.import_copies.specs.Known.{keys_in}
 use Rattle.import_copies.specs.Outcomes.{fate_of}
+use Rattle.import_copies.specs.declared.files.ImportRule.{ImportRule}
 use Rattle.import_copies.specs.declared.known.KnownRecords.{KnownRecords}
 use Rattle.import_copies.specs.declared.outcome.Outcome.{Outcome}
 
@@ -48,9 +50,9 @@ abbrev pub CopiesFile : {R : Type 0} → (R → Option (List ℕ)) → Asked →
 CopiesFile remaining asked old rule keys rows start now known partition counts = (records : List Taken) × Sorts rule keys rows start now known partition counts records × AreOfFile remaining asked old records
 
 -- the same of a file from its beginning on, whose header comes first if it is CSV
-abbrev pub CopiesWhole : {R : Type 0} → (R → Option (List ℕ)) → Option (List ℕ) → Records R → EntryRule → List (List ℕ) → List Row → Option (List ℕ) → Option (List ℕ) → Option KnownRecords → PartitionText → FateCounts → Type 0
-CopiesWhole remaining columns old rule keys rows start now known partition counts = (records : List Taken) × Sorts rule keys rows start now known partition counts records
-    × (asked : Asked) × (asked.columns ≡ columns) × ((rest more : Rest) → StandsAt remaining old rest → IsBegun rest more → TakesAll asked more records)
+abbrev pub CopiesWhole : {R : Type 0} → (R → Option (List ℕ)) → ImportRule → Option (List ℕ) → Records R → EntryRule → List (List ℕ) → List Row → Option (List ℕ) → Option (List ℕ) → Option KnownRecords → PartitionText → FateCounts → Type 0
+CopiesWhole remaining asks columns old rule keys rows start now known partition counts = (records : List Taken) × Sorts rule keys rows start now known partition counts records
+    × (asked : Asked) × Asks asks old columns asked × ((rest more : Rest) → StandsAt remaining old rest → IsBegun rest more → TakesAll asked more records)
 
 -- of some records that went where they had to, those that are written are the rows of a partition from its start on
 abbrev pub CopiesRows : EntryRule → List (List ℕ) → Option (List ℕ) → Option (List ℕ) → Option KnownRecords → PartitionText → Type 0

@@ -1,24 +1,41 @@
 -- The records of a file, each with what it was taken for.
-use Rattle.std.specs.Prelude.{◌≡◌, false, ℕ, List, [], ◌∷◌, Option, Some, None, Result, Ok, Err}
+use Rattle.std.specs.Prelude.{◌≡◌, ◌⊎◌, false, ℕ, List, [], ◌∷◌, Option, Some, None, Result, Ok, Err}
+use Rattle.asked_fields.specs.declared.asked.AskedField.{AskedField}
+use Rattle.csv.specs.Records.{fields_of}
 use Rattle.import_fates.specs.Fates.{Taken, faulty, good}
 use Rattle.imports.specs.Faults.{is_final}
-use Rattle.imports.specs.Reading.{Rest, RecordText, next_of, width_left, GivesFields, StandsAt, IsNext}
+use Rattle.imports.specs.Reading.{Rest, RecordText, next_of, width_left, GivesFields, StandsAt, IsNext, record_in}
 use Rattle.imports.specs.declared.fault.RowFault.{RowFault}
 use Rattle.imports.specs.declared.kinds.Records.{Records}
+use Rattle.imports.specs.declared.picking.Pick.{Pick}
+use Rattle.imports.specs.declared.row.RowRule.{RowRule}
 use Rattle.import_copies.specs.Known.{key_by}
+use Rattle.import_copies.specs.Rows.{said_of, rule_in, HasRow, RefusesRow}
 use Rattle.import_copies.specs.declared.row.GoodRow.{GoodRow}
+use Rattle.import_copies.specs.declared.taking.Source.{Source}
 
--- what is read of the records of a file: the fields of these names, which stand at these places, and of which those of some columns may
--- tell a record from others
+-- what is read of the records of a file: the texts of these fields, which in CSV stand there; of them the numbers of a row with its time
+-- at a place; and the columns whose texts may tell a record from others
 pub record Asked : Type 0 where
-  pub names : List (List ℕ)
-  pub places : List ℕ
+  pub fields : List AskedField
+  pub picks : List Pick
+  pub rule : RowRule
+  pub time : ℕ
   pub columns : Option (List ℕ)
 
--- what a record is taken for, where records have so many fields: a row of its fields, known by those that tell it from others
+-- a record gives no row: it has no texts, or one of them is refused, or its time is
+pub record IsFaulty (asked : Asked) (width : Option ℕ) (text : RecordText) : Type 0 where
+  pub fields : List (List ℕ)
+  pub fault : RowFault
+  pub of_record : is_final fault ≡ false
+  pub why : GivesFields asked.fields asked.picks width text fields (Err fault)
+      ⊎ (GivesFields asked.fields asked.picks width text fields (Ok tt) × RefusesRow asked.rule asked.time fields fault)
+
+-- what a record is taken for, where records have so many fields: a row of its texts, known by those that tell it from others, if it gives one
 abbrev pub TakenFor : Asked → Option ℕ → RecordText → Taken → Type 0
-TakenFor asked width text faulty = Unit {0}
-TakenFor asked width text (good key row) = (fields : List (List ℕ)) × GivesFields asked.names width text fields (Ok tt) × (key ≡ key_by asked.columns asked.places fields)
+TakenFor asked width text faulty = IsFaulty asked width text
+TakenFor asked width text (good key row) = (fields : List (List ℕ)) × GivesFields asked.fields asked.picks width text fields (Ok tt)
+    × HasRow asked.rule asked.time fields row × (key ≡ key_by asked.columns asked.rule.places.now fields)
 
 -- the next record of a file is taken for this, and then that is left
 abbrev pub TakesOne : Asked → Rest → Taken → Rest → Type 0
@@ -46,7 +63,9 @@ abbrev pub HasNone : {R : Type 0} → (R → Option (List ℕ)) → Records R �
 HasNone remaining rows = (rest : Rest) → StandsAt remaining rows rest → next_of rest ≡ None
 
 -- the next record gave a row, or none, or there is none, or the file ends there
-abbrev pub ReadsRow : {R : Type 0} → (R → Option (List ℕ)) → List (List ℕ) → Rest → Records R → Result (Option GoodRow) RowFault → Type 0
-ReadsRow remaining names rest new (Ok None) = next_of rest ≡ None
-ReadsRow remaining names rest new (Ok (Some row)) = IsNext remaining names rest new (Ok tt)
-ReadsRow remaining names rest new (Err fault) = is_final fault ≡ false → (answer : Result (Unit {0}) RowFault) × IsNext remaining names rest new answer
+abbrev pub ReadsRow : {R : Type 0} → (R → Option (List ℕ)) → Source → Rest → Records R → Result (Option GoodRow) RowFault → Type 0
+ReadsRow remaining source rest new (Ok None) = next_of rest ≡ None
+ReadsRow remaining source rest new (Ok (Some row)) = IsNext remaining source.fields.now source.picks.now rest new (Ok tt)
+    × HasRow (rule_in source) source.time (fields_of (record_in new)) (said_of row)
+ReadsRow remaining source rest new (Err fault) = is_final fault ≡ false → IsNext remaining source.fields.now source.picks.now rest new (Err fault)
+    ⊎ (IsNext remaining source.fields.now source.picks.now rest new (Ok tt) × RefusesRow (rule_in source) source.time (fields_of (record_in new)) fault)

@@ -1,6 +1,7 @@
 pub mod Asking
 pub mod Copies
 pub mod Files
+pub mod Joined
 pub mod Known
 pub mod Outcomes
 pub mod Refused

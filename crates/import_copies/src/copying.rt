@@ -13,7 +13,7 @@ use crate::partition::write_much;
 use crate::taking::{Source, take_record};
 use entry_texts::PartitionText;
 use import_fates::FateCounts;
-use imports::{Records, RowFault};
+use imports::{Records, RowFault, RowNumbers};
 use name_table::NameTable;
 use std::alloc::Global;
 use std::io::{Read, Write};
@@ -38,7 +38,7 @@ pub(crate) fn copy_records<R: Read + Drop, W: Write, L: Write + Drop>(
     ensures sorts { (before : List Row) (start : Option (List ℕ)) → WritesRows before start (W.contents out.old) partition.old
         → IfOk result (λ counts. CopiesFile R.remaining (asked_of source.entry known.old) rows.old (rule_of partition.old) (keys_in known.old) before start (W.contents out.new) known.new partition.new counts) }
 {
-    let mut numbers = Vec::new(alloc);
+    let mut numbers = RowNumbers::new(alloc);
     let mut counts = FateCounts::new();
     for _ in 0..u64::MAX {
         let outcome = match take_record(rows, source, names, &mut numbers, known, partition)? {
@@ -46,7 +46,7 @@ pub(crate) fn copy_records<R: Read + Drop, W: Write, L: Write + Drop>(
             None => return Ok(counts),
         };
         counts.add(fate_of(outcome));
-        ledger.take(source, rows, &numbers, outcome)?;
+        ledger.take(source, rows, numbers.numbers(), outcome)?;
         write_much(partition, out)?;
     }
     Err(RowFault::Read)

@@ -10,6 +10,7 @@ use crate::known::KnownRecords;
 use crate::ledger::Ledger;
 use crate::partition::write_end;
 use crate::taking::Source;
+use decimal_texts::DecimalPoint;
 use entry_texts::PartitionText;
 use import_columns::Column;
 use import_entries::EntryRule;
@@ -48,6 +49,8 @@ pub struct ImportRule<'i> {
     pub time: usize,
     /// What stands between the fields of CSV.
     pub separator: Separator,
+    /// What stands for the point of its decimals.
+    pub point: DecimalPoint,
     /// What is asked of the entries.
     pub entries: EntryRule,
     /// What tells records from one another, if anything does: of those that are the same the first is a row.
@@ -92,15 +95,18 @@ fn copy_rows<'f, R: Read + Drop, W: Write, L: Write + Drop>(
 ) -> Result<FateCounts, RowFault>
     ensures rule { rule_of partition.new ≡ rule_of partition.old }
     ensures sorts { (before : List Row) (start : Option (List ℕ)) → WritesRows before start (W.contents out.old) partition.old
-        → IfOk result (λ counts. CopiesWhole R.remaining (columns_in known.old) rows.old (rule_of partition.old) (keys_in known.old) before start (W.contents out.new) known.new partition.new counts) }
+        → IfOk result (λ counts. CopiesWhole R.remaining rule.entry (columns_in known.old) rows.old (rule_of partition.old) (keys_in known.old) before start (W.contents out.new) known.new partition.new counts) }
 {
-    let places = rows.begin(alloc, rule.columns, file, first)?;
+    let point = rows.point_by(rule.point);
     let fields = fields_of(alloc, rule.columns)?;
+    let stand = rows.begin(alloc, &fields, file, first)?;
     let source = Source {
         file,
         columns: rule.columns,
         fields: &fields,
-        places: &places,
+        picks: &stand.picks,
+        places: &stand.places,
+        point,
         time: rule.time,
     };
     copy_records(alloc, rows, source, names, known, partition, ledger, out)

@@ -8,6 +8,7 @@ mod copying;
 mod files;
 mod firsts;
 mod known;
+pub mod laws;
 mod ledger;
 mod outcome;
 mod partition;

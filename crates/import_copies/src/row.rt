@@ -1,7 +1,6 @@
 //! The row of a record.
 
-ghost use Rattle.std.specs.Prelude.{◌≡◌, true, IfOk};
-ghost use Rattle.plan_model.specs.Windows.{is_time};
+ghost use Rattle.import_copies.specs.Rows.{IsGood};
 
 use import_entries::PlaceFault;
 use imports::RowFault;
@@ -21,7 +20,7 @@ pub(crate) struct GoodRow<'r> {
 ///
 /// `Place` with `Range` where the time is none, or there is no number.
 pub(crate) fn good_row(numbers: &[i64], time: usize) -> Result<GoodRow<'_>, RowFault>
-    ensures { IfOk result (λ row. is_time row.time ≡ true) }
+    ensures { IsGood time numbers.now result }
 {
     let Some((first, others)) = numbers.split_first() else {
         return Err(RowFault::Place(PlaceFault::Range));

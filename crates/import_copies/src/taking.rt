@@ -1,6 +1,6 @@
 //! A record, from the file to where it goes.
 
-ghost use Rattle.std.specs.Prelude.{◌≡◌, ℕ, List, Option, map, IfOk};
+ghost use Rattle.std.specs.Prelude.{◌≡◌, ℕ, List, Option, IfOk};
 ghost use Rattle.entry_texts.specs.Partitions.{Row, rule_of};
 ghost use Rattle.import_copies.specs.Copies.{WritesRows, Takes, TakesNext};
 ghost use Rattle.imports.specs.Reading.{Rest, StandsAt};
@@ -8,16 +8,18 @@ ghost use Rattle.import_copies.specs.Asking.{asked_of};
 ghost use Rattle.import_copies.specs.Files.{ReadsRow};
 ghost use Rattle.import_copies.specs.Known.{keys_in, columns_in};
 ghost use Rattle.csv.specs.Records.{fields_of};
-ghost use Rattle.import_copies.specs.Rows.{good_of};
+ghost use Rattle.import_copies.specs.Rows.{good_of, rule_in, MakesRow};
 
 use crate::known::{KnownRecords, known_before};
 use crate::outcome::{Outcome, is_final};
 use crate::partition::put;
 use crate::row::{GoodRow, good_row};
+use asked_fields::AskedField;
 use csv::ByteRecord;
+use decimal_texts::DecimalPoint;
 use entry_texts::PartitionText;
 use import_columns::Column;
-use imports::{Records, RowFault, fill_row};
+use imports::{Pick, Records, RowFault, RowNumbers, RowRule, fill_row};
 use name_table::NameTable;
 use std::io::Read;
 
@@ -28,12 +30,46 @@ pub(crate) struct Source<'s> {
     pub(crate) file: &'s str,
     /// What each number of a row is.
     pub(crate) columns: &'s [Column<'s>],
-    /// The names of their fields.
-    pub(crate) fields: &'s [&'s str],
-    /// Where these stand in a record.
+    /// The fields that they ask for.
+    pub(crate) fields: &'s [AskedField<'s>],
+    /// Where the texts of these stand in a row of CSV, where they do not all stand in it as they are.
+    pub(crate) picks: &'s [Pick],
+    /// Where these texts stand in a record.
     pub(crate) places: &'s [usize],
+    /// What stands for the point of decimals.
+    pub(crate) point: DecimalPoint,
     /// Which of the columns is the time.
     pub(crate) time: usize,
+}
+
+impl<'s> Source<'s> {
+    /// How the numbers of a row come of a record.
+    fn row_rule(&self) -> RowRule<'s>
+        ensures { result ≡ rule_in self.now }
+    {
+        RowRule {
+            columns: self.columns,
+            places: self.places,
+            point: self.point,
+        }
+    }
+}
+
+/// The row of a record.
+///
+/// # Errors
+///
+/// Why it gives none; `Memory`.
+fn row_of<'n>(
+    record: &ByteRecord,
+    source: &Source<'_>,
+    names: &mut NameTable,
+    numbers: &'n mut RowNumbers,
+) -> Result<GoodRow<'n>, RowFault>
+    ensures { MakesRow (rule_in source.now) source.now.time (fields_of record.now) result }
+{
+    fill_row(numbers, names, source.row_rule(), record)?;
+    good_row(numbers.numbers(), source.time)
 }
 
 /// The row of the next record, if there is a record.
@@ -45,15 +81,15 @@ fn next_row<'n, R: Read + Drop>(
     rows: &mut Records<R>,
     source: Source<'_>,
     names: &mut NameTable,
-    numbers: &'n mut Vec<i64>,
+    numbers: &'n mut RowNumbers,
 ) -> Result<Option<GoodRow<'n>>, RowFault>
-    ensures { (rest : Rest) → StandsAt R.remaining rows.old rest → ReadsRow R.remaining (map (λ n. n.now) source.entry.fields.now) rest rows.new result }
+    ensures { (rest : Rest) → StandsAt R.remaining rows.old rest → ReadsRow R.remaining source.entry rest rows.new result }
 {
-    if !rows.advance(source.fields)? {
+    if !rows.advance(source.fields, source.picks)? {
         return Ok(None);
     }
-    fill_row(numbers, names, source.columns, source.places, rows.record())?;
-    Ok(Some(good_row(numbers, source.time)?))
+    let row = row_of(rows.record(), &source, names, numbers)?;
+    Ok(Some(row))
 }
 
 /// Puts the row of a record into a partition, if no record before is the same and it is not late.
@@ -88,7 +124,7 @@ pub(crate) fn take_record<R: Read + Drop>(
     rows: &mut Records<R>,
     source: Source<'_>,
     names: &mut NameTable,
-    numbers: &mut Vec<i64>,
+    numbers: &mut RowNumbers,
     known: &mut Option<KnownRecords>,
     partition: &mut PartitionText,
 ) -> Result<Option<Outcome>, RowFault>

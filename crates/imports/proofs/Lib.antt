@@ -1,2 +1,3 @@
 pub mod Advances
+pub mod Numbers
 pub mod Readings

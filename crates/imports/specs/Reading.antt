@@ -1,6 +1,7 @@
 -- The records of a file, one after the other.
 use Rattle.std.specs.Prelude.{◌≡◌, ◌≢◌, ◌==◌, ◌||◌, codes, if◌then◌else◌, ℕ, List, [], length, Bool, true, false, Option, Some, None, option_map, Result, Ok, Err}
 use Rattle.std.specs.List.{ends_with}
+use Rattle.asked_fields.specs.declared.asked.AskedField.{AskedField}
 use Rattle.csv.specs.Machine.{next_record}
 use Rattle.csv.specs.Reading.{Ready, reader_config, reader_state, reader_trim, source_of, strip_bom}
 use Rattle.csv.specs.Records.{Row, fields_of}
@@ -11,7 +12,11 @@ use Rattle.csv.specs.declared.reader.Trim.TheVariants as trim
 use Rattle.object_lines.specs.Lines.{next_line, lines_left, lines_said}
 use Rattle.object_lines.specs.Records.{IsRead}
 use Rattle.object_lines.specs.declared.fault.LineFault.TheVariants as line
+use Rattle.decimal_texts.specs.declared.point.DecimalPoint.{DecimalPoint}
+use Rattle.decimal_texts.specs.declared.point.DecimalPoint.TheVariants.{Point}
 use Rattle.imports.specs.Faults.{is_final}
+use Rattle.imports.specs.Picks.{picked}
+use Rattle.imports.specs.declared.picking.Pick.{Pick}
 use Rattle.imports.specs.Separators.{separated}
 use Rattle.imports.specs.declared.fault.RowFault.{RowFault}
 use Rattle.imports.specs.declared.fault.RowFault.TheVariants.{Width, NoObject, Member}
@@ -70,9 +75,18 @@ StandsAt remaining (Rows rows) rest = RowsStandAt remaining rows rest
 StandsAt remaining (Objects objects) (Csv separator width state text) = ⊥
 StandsAt remaining (Objects objects) (Lines lines) = lines_left remaining objects ≡ Some lines
 
+-- the record of the texts of columns, or the row itself
+abbrev pub taken_in : {R : Type 0} → CsvRows R → Row
+taken_in rows = if rows.is_picked then rows.picked else rows.record
+
 abbrev pub record_in : {R : Type 0} → Records R → Row
-record_in (Rows rows) = rows.record
+record_in (Rows rows) = taken_in rows
 record_in (Objects objects) = objects.record
+
+-- what stands for the point of decimals
+abbrev pub point_in : {R : Type 0} → Records R → DecimalPoint → DecimalPoint
+point_in (Rows rows) mark = mark
+point_in (Objects objects) mark = Point
 
 abbrev pub FitsWidth : Option ℕ → ℕ → Type 0
 FitsWidth None count = Unit {0}
@@ -84,33 +98,42 @@ ChecksWidth old new (Ok is_there) = (is_there ≡ true) × (new ≡ record old {
 ChecksWidth old new (Err (Width count wanted)) = (new ≡ old) × (count ≡ length (fields_of old.record)) × (old.width ≡ Some wanted) × (count ≢ wanted)
 ChecksWidth old new (Err fault) = ⊥
 
--- what comes of a record, where records have so many fields: its fields, or those of the members that are asked for; or why it has none
-abbrev pub GivesFields : List (List ℕ) → Option ℕ → RecordText → List (List ℕ) → Result (Unit {0}) RowFault → Type 0
-GivesFields names width (Fields said) fields (Ok done) = (fields ≡ said) × FitsWidth width (length said)
-GivesFields names width (Fields said) fields (Err (Width count wanted)) = (fields ≡ said) × (count ≡ length said) × (width ≡ Some wanted) × (count ≢ wanted)
-GivesFields names width (Fields said) fields (Err fault) = ⊥
-GivesFields names width (Line said) fields (Ok done) = IsRead names fields said (Ok tt)
-GivesFields names width (Line said) fields (Err NoObject) = IsRead names fields said (Err line.NoObject)
-GivesFields names width (Line said) fields (Err (Member column why)) = IsRead names fields said (Err (line.Member column why))
-GivesFields names width (Line said) fields (Err fault) = ⊥
+-- a row of CSV has another number of fields than those before
+abbrev pub HasOtherWidth : Option ℕ → List (List ℕ) → List (List ℕ) → RowFault → Type 0
+HasOtherWidth width said fields (Width count wanted) = (fields ≡ said) × (count ≡ length said) × (width ≡ Some wanted) × (count ≢ wanted)
+HasOtherWidth width said fields fault = ⊥
+
+-- a line of NDJSON has no text for each field that is asked for
+abbrev pub HasNoTexts : List AskedField → List ℕ → List (List ℕ) → RowFault → Type 0
+HasNoTexts asked said fields NoObject = IsRead asked fields said (Err line.NoObject)
+HasNoTexts asked said fields (Member column why) = IsRead asked fields said (Err (line.Member column why))
+HasNoTexts asked said fields fault = ⊥
+
+-- what comes of a record, where records have so many fields: its fields or the texts that are picked out of them, or those of the members
+-- that are asked for; or why it has none
+abbrev pub GivesFields : List AskedField → List Pick → Option ℕ → RecordText → List (List ℕ) → Result (Unit {0}) RowFault → Type 0
+GivesFields asked picks width (Fields said) fields (Ok done) = (fields ≡ picked picks said) × FitsWidth width (length said)
+GivesFields asked picks width (Fields said) fields (Err fault) = HasOtherWidth width said fields fault
+GivesFields asked picks width (Line said) fields (Ok done) = IsRead asked fields said (Ok tt)
+GivesFields asked picks width (Line said) fields (Err fault) = HasNoTexts asked said fields fault
 
 -- the next record was read, and this came of it
-pub record IsNext {R : Type 0} (remaining : R → Option (List ℕ)) (names : List (List ℕ)) (rest : Rest) (new : Records R) (answer : Result (Unit {0}) RowFault) : Type 0 where
+pub record IsNext {R : Type 0} (remaining : R → Option (List ℕ)) (asked : List AskedField) (picks : List Pick) (rest : Rest) (new : Records R) (answer : Result (Unit {0}) RowFault) : Type 0 where
   pub text : RecordText
   pub more : Rest
   pub next : next_of rest ≡ Some (text, more)
   pub stands : StandsAt remaining new more
-  pub gives : GivesFields names (width_left rest) text (fields_of (record_in new)) answer
+  pub gives : GivesFields asked picks (width_left rest) text (fields_of (record_in new)) answer
 
 -- so it is, or there is none, or the fault is of more than a record
-abbrev pub Advances : {R : Type 0} → (R → Option (List ℕ)) → List (List ℕ) → Rest → Records R → Result Bool RowFault → Type 0
-Advances remaining names rest new (Ok false) = next_of rest ≡ None
-Advances remaining names rest new (Ok true) = IsNext remaining names rest new (Ok tt)
-Advances remaining names rest new (Err fault) = is_final fault ≡ false → IsNext remaining names rest new (Err fault)
+abbrev pub Advances : {R : Type 0} → (R → Option (List ℕ)) → List AskedField → List Pick → Rest → Records R → Result Bool RowFault → Type 0
+Advances remaining asked picks rest new (Ok false) = next_of rest ≡ None
+Advances remaining asked picks rest new (Ok true) = IsNext remaining asked picks rest new (Ok tt)
+Advances remaining asked picks rest new (Err fault) = is_final fault ≡ false → IsNext remaining asked picks rest new (Err fault)
 
 -- the same of a row of CSV
-abbrev pub AdvancesRow : {R : Type 0} → (R → Option (List ℕ)) → List (List ℕ) → Rest → CsvRows R → Result Bool RowFault → Type 0
-AdvancesRow remaining names rest new answer = Advances remaining names rest (Rows new) answer
+abbrev pub AdvancesRow : {R : Type 0} → (R → Option (List ℕ)) → List AskedField → List Pick → Rest → CsvRows R → Result Bool RowFault → Type 0
+AdvancesRow remaining asked picks rest new answer = Advances remaining asked picks rest (Rows new) answer
 
 -- the name of a file says that it is NDJSON
 abbrev pub is_ndjson : List ℕ → Bool

@@ -1,15 +1,18 @@
 //! The records of a file, whatever kind of file it is.
 
-ghost use Rattle.std.specs.Prelude.{◌≡◌, ℕ, List, map, Some, IfOk, OnOk};
+ghost use Rattle.std.specs.Prelude.{◌≡◌, ℕ, List, Some, IfOk, OnOk};
 ghost use Rattle.imports.specs.Separators.{separator_of};
-ghost use Rattle.imports.specs.Reading.{Rest, RowsStandAt, StandsAt, Advances, IsBegun, beginning, record_in, is_ndjson};
+ghost use Rattle.imports.specs.Reading.{Rest, RowsStandAt, StandsAt, Advances, IsBegun, beginning, record_in, point_in, is_ndjson};
 
 use crate::fault::{RowFault, line_fault};
 use crate::first::{FirstHeader, check_header};
-use crate::placing::places_of;
+use crate::picking::Pick;
+use crate::placing::Places;
 use crate::records::CsvRows;
 use crate::separator::Separator;
+use asked_fields::AskedField;
 use csv::ByteRecord;
+use decimal_texts::DecimalPoint;
 use import_columns::Column;
 use object_lines::ObjectLines;
 use std::alloc::Global;
@@ -31,37 +34,31 @@ fn is_ndjson(path: &str) -> bool
     path.ends_with(".ndjson") || path.ends_with(".jsonl")
 }
 
-/// The names of the fields that columns ask for.
-pub fn fields_of<'w>(alloc: Global, columns: &[Column<'w>]) -> Result<Vec<&'w str>, RowFault> {
+/// The fields that columns ask for.
+pub fn fields_of<'w>(
+    alloc: Global,
+    columns: &[Column<'w>],
+) -> Result<Vec<AskedField<'w>>, RowFault> {
     let mut fields = Vec::new(alloc);
     for column in columns {
-        fields.push(column.field)?;
+        fields.push(AskedField::new(alloc, column.field, column.joint)?)?;
     }
     Ok(fields)
 }
 
-/// The first places of a record.
-fn first_places(alloc: Global, count: usize) -> Result<Vec<usize>, RowFault> {
-    let mut places = Vec::new(alloc);
-    for place in 0..count {
-        places.push(place)?;
-    }
-    Ok(places)
-}
-
-/// Goes behind the header of a CSV text, and tells the place of each column's text in the records behind it.
+/// Goes behind the header of a CSV text, and tells where the texts of fields stand in the records behind it.
 fn pass_header<'f, R: Read + Drop>(
     rows: &mut CsvRows<R>,
     alloc: Global,
-    columns: &[Column<'_>],
+    fields: &[AskedField<'_>],
     file: &'f str,
     first: &mut Option<FirstHeader<'f>>,
-) -> Result<Vec<usize>, RowFault>
+) -> Result<Places, RowFault>
     ensures { (rest : Rest) (more : Rest) → RowsStandAt R.remaining rows.old rest → IsBegun rest more → OnOk result (RowsStandAt R.remaining rows.new more) }
 {
     let _is_there = rows.advance()?;
     check_header(first, file, rows.record())?;
-    places_of(alloc, rows.record(), columns)
+    Places::in_header(alloc, rows.record(), fields)
 }
 
 impl<R: Read + Drop> Records<R> {
@@ -87,7 +84,7 @@ impl<R: Read + Drop> Records<R> {
         }
     }
 
-    /// Goes to where the first record is next, and tells the place of each column's text in all of them, counted from 0.
+    /// Goes to where the first record is next, and tells where the texts of fields stand in all of them.
     ///
     /// # Errors
     ///
@@ -95,28 +92,29 @@ impl<R: Read + Drop> Records<R> {
     pub fn begin<'f>(
         &mut self,
         alloc: Global,
-        columns: &[Column<'_>],
+        fields: &[AskedField<'_>],
         file: &'f str,
         first: &mut Option<FirstHeader<'f>>,
-    ) -> Result<Vec<usize>, RowFault>
+    ) -> Result<Places, RowFault>
         ensures { (rest : Rest) (more : Rest) → StandsAt R.remaining self.old rest → IsBegun rest more → OnOk result (StandsAt R.remaining self.new more) }
     {
         match self {
-            Records::Rows(rows) => pass_header(rows, alloc, columns, file, first),
-            Records::Objects(_) => first_places(alloc, columns.len()),
+            Records::Rows(rows) => pass_header(rows, alloc, fields, file, first),
+            Records::Objects(_) => Places::in_order(alloc, fields.len()),
         }
     }
 
-    /// Goes on to the next record, and tells whether there is one. Blank lines are passed over.
+    /// Goes on to the next record, and tells whether there is one. Blank lines are passed over. The texts of the fields stand where
+    /// [`Records::begin`] says, and so do the picks.
     ///
     /// # Errors
     ///
     /// `Read`; `Width`; `NoObject` or `Member` where the line is no object with a text for each of the fields; `Memory`.
-    pub fn advance(&mut self, fields: &[&str]) -> Result<bool, RowFault>
-        ensures { (rest : Rest) → StandsAt R.remaining self.old rest → Advances R.remaining (map (λ n. n.now) fields.now) rest self.new result }
+    pub fn advance(&mut self, fields: &[AskedField<'_>], picks: &[Pick]) -> Result<bool, RowFault>
+        ensures { (rest : Rest) → StandsAt R.remaining self.old rest → Advances R.remaining fields.now picks.now rest self.new result }
     {
         match self {
-            Records::Rows(rows) => rows.advance(),
+            Records::Rows(rows) => rows.advance_picked(picks),
             Records::Objects(lines) => match lines.advance(fields) {
                 Ok(is_there) => Ok(is_there),
                 Err(fault) => Err(line_fault(fault)),
@@ -124,12 +122,12 @@ impl<R: Read + Drop> Records<R> {
         }
     }
 
-    /// The record.
+    /// The record: a row of CSV, or the texts of the fields that are asked for.
     pub fn record(&self) -> &ByteRecord
         ensures { result.now ≡ record_in self.now }
     {
         match self {
-            Records::Rows(rows) => rows.record(),
+            Records::Rows(rows) => rows.taken(),
             Records::Objects(lines) => lines.record(),
         }
     }
@@ -139,6 +137,16 @@ impl<R: Read + Drop> Records<R> {
         match self {
             Records::Rows(rows) => rows.line(),
             Records::Objects(lines) => lines.line(),
+        }
+    }
+
+    /// What stands for the point of decimals in the records, where this does in CSV: in NDJSON it is a point.
+    pub fn point_by(&self, point: DecimalPoint) -> DecimalPoint
+        ensures { result ≡ point_in self.now point }
+    {
+        match self {
+            Records::Rows(_) => point,
+            Records::Objects(_) => DecimalPoint::Point,
         }
     }
 

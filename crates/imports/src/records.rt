@@ -1,12 +1,14 @@
 //! The records of a CSV text.
 
-ghost use Rattle.std.specs.Prelude.{◌≡◌, ℕ, List, None, Some, IfOk};
+ghost use Rattle.std.specs.Prelude.{◌≡◌, ℕ, List, [], false, None, Some, IfOk};
+ghost use Rattle.asked_fields.specs.declared.asked.AskedField.{AskedField};
 ghost use Rattle.csv.specs.Reading.{strip_bom};
 ghost use Rattle.csv.specs.declared.parser.State.TheVariants.{StartRecord};
 ghost use Rattle.imports.specs.Separators.{separator_of};
-ghost use Rattle.imports.specs.Reading.{Rest, Csv, RowsStandAt, AdvancesRow, ChecksWidth};
+ghost use Rattle.imports.specs.Reading.{Rest, Csv, RowsStandAt, AdvancesRow, ChecksWidth, taken_in};
 
 use crate::fault::RowFault;
+use crate::picking::{Pick, fill_picked};
 use crate::reader::CsvReader;
 use crate::separator::Separator;
 use crate::watched::Watched;
@@ -20,6 +22,9 @@ pub struct CsvRows<R> {
     reader: CsvReader<Watched<R>>,
     record: ByteRecord,
     width: Option<usize>,
+    picked: ByteRecord,
+    joined: Vec<u8>,
+    is_picked: bool,
 }
 
 /// How many line feeds stand in the fields of a record.
@@ -61,6 +66,9 @@ impl<R: Read + Drop> CsvRows<R> {
             reader: CsvReader::new(alloc, Watched::new(alloc, input), separator)?,
             record: ByteRecord::new(alloc),
             width: None,
+            picked: ByteRecord::new(alloc),
+            joined: Vec::new(alloc),
+            is_picked: false,
         })
     }
 
@@ -70,8 +78,10 @@ impl<R: Read + Drop> CsvRows<R> {
     ///
     /// `Read`; `Width` where it has another number of fields than the first record; `Memory`.
     pub(crate) fn advance(&mut self) -> Result<bool, RowFault>
-        ensures { (names : List (List ℕ)) (rest : Rest) → RowsStandAt R.remaining self.old rest → AdvancesRow R.remaining names rest self.new result }
+        ensures row { (asked : List AskedField) (rest : Rest) → RowsStandAt R.remaining self.old rest → AdvancesRow R.remaining asked [] rest self.new result }
+        ensures kept { self.new.is_picked ≡ false }
     {
+        self.is_picked = false;
         self.reader.source().watch_from(self.reader.next_byte());
         if !self.reader.read(&mut self.record)? {
             return Ok(false);
@@ -93,7 +103,39 @@ impl<R: Read + Drop> CsvRows<R> {
         }
     }
 
-    /// The record.
+    /// Goes on to the next record, and makes one of the texts of columns where these do not all stand in it as they are.
+    ///
+    /// # Errors
+    ///
+    /// `Read`; `Width`; `Memory`.
+    pub(crate) fn advance_picked(&mut self, picks: &[Pick]) -> Result<bool, RowFault>
+        ensures { (asked : List AskedField) (rest : Rest) → RowsStandAt R.remaining self.old rest → AdvancesRow R.remaining asked picks.now rest self.new result }
+    {
+        match self.advance() {
+            Ok(true) => {}
+            Ok(false) => return Ok(false),
+            Err(fault) => return Err(fault),
+        }
+        if picks.is_empty() {
+            return Ok(true);
+        }
+        fill_picked(&mut self.picked, &mut self.joined, picks, &self.record)?;
+        self.is_picked = true;
+        Ok(true)
+    }
+
+    /// The record of the texts of columns, or the row itself where it has them.
+    pub(crate) fn taken(&self) -> &ByteRecord
+        ensures { result.now ≡ taken_in self.now }
+    {
+        if self.is_picked {
+            &self.picked
+        } else {
+            &self.record
+        }
+    }
+
+    /// The row.
     pub(crate) fn record(&self) -> &ByteRecord
         ensures { result.now ≡ self.now.«record» }
     {

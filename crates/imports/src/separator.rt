@@ -32,7 +32,7 @@ impl Separator {
     }
 
     /// The byte.
-    pub(crate) fn byte(self) -> u8
+    pub fn byte(self) -> u8
         ensures { result ≡ separator_of self }
     {
         self.byte

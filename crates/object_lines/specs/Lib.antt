@@ -1,3 +1,4 @@
 pub mod Lines
 pub mod Members
 pub mod Records
+pub mod Steps

@@ -4,6 +4,7 @@ use Rattle.std.specs.List.{list_all}
 use Rattle.std.specs.Io.Buffered.{reader_remaining}
 use Rattle.csv.specs.Reading.{strip_bom}
 use Rattle.csv.specs.Records.{fields_of}
+use Rattle.asked_fields.specs.declared.asked.AskedField.{AskedField}
 use Rattle.object_lines.specs.Records.{IsRead}
 use Rattle.object_lines.specs.declared.fault.LineFault.{LineFault}
 use Rattle.object_lines.specs.declared.fault.LineFault.TheVariants.{Read, NoObject, Member, Memory}
@@ -62,10 +63,10 @@ StepsLine remaining left new false = left ≡ []
 StepsLine remaining left new true = (more : List (List ℕ)) × (left ≡ line_in new ∷ more) × (lines_left remaining new ≡ Some more)
 
 -- the fields are those of a line's object, if the line is not blank
-abbrev pub FillsLine : List (List ℕ) → List ℕ → List (List ℕ) → Result Bool LineFault → Type 0
-FillsLine names line fields (Ok false) = is_blank line ≡ true
-FillsLine names line fields (Ok true) = (is_blank line ≡ false) × IsRead names fields line (Ok tt)
-FillsLine names line fields (Err fault) = (is_blank line ≡ false) × IsRead names fields line (Err fault)
+abbrev pub FillsLine : List AskedField → List ℕ → List (List ℕ) → Result Bool LineFault → Type 0
+FillsLine asked line fields (Ok false) = is_blank line ≡ true
+FillsLine asked line fields (Ok true) = (is_blank line ≡ false) × IsRead asked fields line (Ok tt)
+FillsLine asked line fields (Err fault) = (is_blank line ≡ false) × IsRead asked fields line (Err fault)
 
 -- a fault is of the text and of no line
 abbrev pub IsOfText : LineFault → Type 0
@@ -75,17 +76,17 @@ IsOfText NoObject = ⊥
 IsOfText (Member place why) = ⊥
 
 -- the first line that is not blank was read, and this came of it
-pub record IsNextLine {R : Type 0} (remaining : R → Option (List ℕ)) (names left : List (List ℕ)) (new : ObjectLines R) (answer : Result (Unit {0}) LineFault) : Type 0 where
+pub record IsNextLine {R : Type 0} (remaining : R → Option (List ℕ)) (asked : List AskedField) (left : List (List ℕ)) (new : ObjectLines R) (answer : Result (Unit {0}) LineFault) : Type 0 where
   pub more : List (List ℕ)
   pub next : next_line left ≡ Some (line_in new, more)
   pub rest : lines_left remaining new ≡ Some more
-  pub read : IsRead names (fields_of new.record) (line_in new) answer
+  pub read : IsRead asked (fields_of new.record) (line_in new) answer
 
 -- so it is, or there is none, or the text cannot be read
-abbrev pub AdvancesLine : {R : Type 0} → (R → Option (List ℕ)) → List (List ℕ) → List (List ℕ) → ObjectLines R → Result Bool LineFault → Type 0
-AdvancesLine remaining names left new (Ok false) = next_line left ≡ None
-AdvancesLine remaining names left new (Ok true) = IsNextLine remaining names left new (Ok tt)
-AdvancesLine remaining names left new (Err NoObject) = IsNextLine remaining names left new (Err NoObject)
-AdvancesLine remaining names left new (Err (Member place why)) = IsNextLine remaining names left new (Err (Member place why))
-AdvancesLine remaining names left new (Err Read) = Unit {0}
-AdvancesLine remaining names left new (Err Memory) = Unit {0}
+abbrev pub AdvancesLine : {R : Type 0} → (R → Option (List ℕ)) → List AskedField → List (List ℕ) → ObjectLines R → Result Bool LineFault → Type 0
+AdvancesLine remaining asked left new (Ok false) = next_line left ≡ None
+AdvancesLine remaining asked left new (Ok true) = IsNextLine remaining asked left new (Ok tt)
+AdvancesLine remaining asked left new (Err NoObject) = IsNextLine remaining asked left new (Err NoObject)
+AdvancesLine remaining asked left new (Err (Member place why)) = IsNextLine remaining asked left new (Err (Member place why))
+AdvancesLine remaining asked left new (Err Read) = Unit {0}
+AdvancesLine remaining asked left new (Err Memory) = Unit {0}

@@ -1,23 +1,26 @@
 //! The lines of a text.
 
-ghost use Rattle.std.specs.Prelude.{◌≡◌, ℕ, List, map, Some, IfOk, IfErr};
+ghost use Rattle.std.specs.Prelude.{◌≡◌, ℕ, List, Some, IfOk, IfErr};
 ghost use Rattle.csv.specs.Records.{fields_of};
 ghost use Rattle.object_lines.specs.Lines.{is_space, is_blank, line_said, lines_said, line_in, lines_left, StepsLine, FillsLine, IsOfText, AdvancesLine};
 
 use crate::fault::LineFault;
 use crate::room::Room;
 use crate::text::fill_from_text;
+use asked_fields::AskedField;
 use csv::ByteRecord;
 use std::alloc::Global;
 use std::io;
 use std::io::{BufRead, BufReader, ErrorKind, Read};
 
-/// The records of a text, one after the other: of each line, which is a JSON object, the texts of the members of some names.
+/// The records of a text, one after the other: of each line, which is a JSON object, the texts of the fields that are
+/// asked for.
 #[derive(Drop)]
 pub struct ObjectLines<R> {
     alloc: Global,
     reader: BufReader<R>,
     line: Vec<u8>,
+    joined: Vec<u8>,
     room: Room,
     record: ByteRecord,
     number: u64,
@@ -74,6 +77,7 @@ impl<R: Read + Drop> ObjectLines<R> {
                 alloc,
                 reader,
                 line: Vec::new(alloc),
+                joined: Vec::new(alloc),
                 room: Room::new(alloc)?,
                 record: ByteRecord::new(alloc),
                 number: 0,
@@ -99,10 +103,10 @@ impl<R: Read + Drop> ObjectLines<R> {
     }
 
     /// Makes the record of the line, and tells whether there is one: a blank line has none.
-    fn fill(&mut self, names: &[&str]) -> Result<bool, LineFault>
+    fn fill(&mut self, asked: &[AskedField<'_>]) -> Result<bool, LineFault>
         ensures line { line_in self.new ≡ line_in self.old }
         ensures left { lines_left R.remaining self.new ≡ lines_left R.remaining self.old }
-        ensures fills { FillsLine (map (λ n. n.now) names.now) (line_in self.old) (fields_of self.new.record) result }
+        ensures fills { FillsLine asked.now (line_in self.old) (fields_of self.new.record) result }
     {
         let text = without_mark(&self.line, self.number);
         if is_blank(text) {
@@ -111,8 +115,9 @@ impl<R: Read + Drop> ObjectLines<R> {
         fill_from_text(
             self.alloc,
             &mut self.record,
-            names,
+            asked,
             text,
+            &mut self.joined,
             self.room.scratch(),
         )?;
         Ok(true)
@@ -123,14 +128,14 @@ impl<R: Read + Drop> ObjectLines<R> {
     /// # Errors
     ///
     /// `Read`; those of [`fill_record`](crate::fill_record), `NoObject` also where the line is no JSON text.
-    pub fn advance(&mut self, names: &[&str]) -> Result<bool, LineFault>
-        ensures { (left : List (List ℕ)) → lines_left R.remaining self.old ≡ Some left → AdvancesLine R.remaining (map (λ n. n.now) names.now) left self.new result }
+    pub fn advance(&mut self, asked: &[AskedField<'_>]) -> Result<bool, LineFault>
+        ensures { (left : List (List ℕ)) → lines_left R.remaining self.old ≡ Some left → AdvancesLine R.remaining asked.now left self.new result }
     {
         for _ in 0..u64::MAX {
             if !self.next_line()? {
                 return Ok(false);
             }
-            match self.fill(names) {
+            match self.fill(asked) {
                 Ok(true) => return Ok(true),
                 Ok(false) => {}
                 Err(fault) => return Err(fault),

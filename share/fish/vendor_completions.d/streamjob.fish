@@ -44,6 +44,7 @@ complete -c streamjob -n '__fish_seen_subcommand_from import' -l fold -r -d 'Whi
 complete -c streamjob -n '__fish_seen_subcommand_from import' -l report -r -d 'File to write to how many records of each file went where' -F
 complete -c streamjob -n '__fish_seen_subcommand_from import' -l zones -r -d 'Folder of the time zones (/usr/share/zoneinfo)' -f
 complete -c streamjob -n '__fish_seen_subcommand_from import' -l separator -r -d 'What stands between the fields of CSV: one character, or `tab` (,)' -f
+complete -c streamjob -n '__fish_seen_subcommand_from import' -l decimal -r -d 'What stands for the point of decimals in CSV: a point or a comma (.)' -f
 complete -c streamjob -n '__fish_seen_subcommand_from split' -F
 complete -c streamjob -n '__fish_seen_subcommand_from cuts' -F
 complete -c streamjob -n '__fish_seen_subcommand_from cuts' -l until -r -d 'A number, or a time in ISO 8601 with its zone, in milliseconds since 1970' -f

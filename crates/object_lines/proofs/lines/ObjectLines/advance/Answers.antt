@@ -13,7 +13,7 @@ pub returns-in-Err : goal.returns-in-Err
 returns-in-Err g c left is =
     let now = c.loop.invariant left is in
     let step = rw c.if-not-branch.false at c.in_ok-next_line.ensures.steps now.0 now.1 in
-    fault_found g.R.Read.remaining (map (λ n. n.now) c.args.names.now) left now.0 step.0 c.next_line.new.self c.fill.new.self c.in-Err.fault
+    fault_found g.R.Read.remaining c.args.asked.now left now.0 step.0 c.next_line.new.self c.fill.new.self c.in-Err.fault
     now.2 step.1 step.2 c.fill.ensures.line c.fill.ensures.left c.in-Err.ensures.fills
 
 pub returns-in-Ok-true : goal.returns-in-Ok-true
@@ -21,7 +21,7 @@ returns-in-Ok-true g c left is =
     let now = c.loop.invariant left is in
     let step = rw c.if-not-branch.false at c.in_ok-next_line.ensures.steps now.0 now.1 in
     let fills = rw c.in-Ok-true.field-0-test at c.in-Ok-true.ensures.fills in
-    found g.R.Read.remaining (map (λ n. n.now) c.args.names.now) left now.0 step.0 c.next_line.new.self c.fill.new.self (Ok tt)
+    found g.R.Read.remaining c.args.asked.now left now.0 step.0 c.next_line.new.self c.fill.new.self (Ok tt)
     now.2 step.1 step.2 c.fill.ensures.line c.fill.ensures.left fills.0 fills.1
 
 pub loop-preserved : goal.loop-preserved
