@@ -11,6 +11,7 @@ pub mod Readings
 pub mod Barriers
 pub mod Over
 mod KeptRows
+mod Packings
 mod Keeping
 mod Going
 mod Shutting

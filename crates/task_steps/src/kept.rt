@@ -1,11 +1,15 @@
 //! What a task keeps of itself for a savepoint while it goes on.
 
-ghost use Rattle.std.specs.Prelude.{◌≡◌, IfOk, option_map};
+ghost use Rattle.std.specs.Prelude.{◌≡◌, IfOk, map, option_map};
 ghost use Rattle.std.specs.FinMap.{entries};
+ghost use Rattle.aggregates.specs.Kinds.{kind_of};
 ghost use Rattle.window_state.specs.Parts.{entries_of};
-ghost use Rattle.task_steps.specs.Keeping.{kept_value, ArePartsOf};
+ghost use Rattle.task_steps.specs.Keeping.{kept_value, kinds_in, ArePartsOf};
 ghost use Rattle.task_steps.specs.TaskData.{windows_in};
 
+use crate::packed::PackedParts;
+use aggregates::Kind;
+use plan_model::Aggregate;
 use std::alloc::{AllocError, Global};
 use window_state::{Part, WindowState};
 
@@ -14,7 +18,7 @@ use window_state::{Part, WindowState};
 pub(crate) struct Kept {
     pub(crate) offsets: Vec<u64>,
     pub(crate) marks: Vec<i64>,
-    pub(crate) parts: Vec<Part>,
+    pub(crate) parts: PackedParts,
     pub(crate) rows: u64,
 }
 
@@ -32,6 +36,32 @@ pub(crate) fn parts_of(alloc: Global, window: &Option<WindowState>) -> Result<Ve
     }
 }
 
+/// The kind of each aggregate.
+fn kinds_of(alloc: Global, aggregates: &[Aggregate]) -> Result<Vec<Kind>, AllocError>
+    ensures { IfOk result (λ kinds. kinds.items ≡ map kind_of aggregates.now) }
+{
+    aggregates.iter().map(|a| Kind::of(*a)).collect(alloc)
+}
+
+/// The kind of each number in the windows of a task, if it has any.
+fn window_kinds(alloc: Global, window: &Option<WindowState>) -> Result<Vec<Kind>, AllocError>
+    ensures { IfOk result (λ kinds. kinds.items ≡ kinds_in (option_map (λ w. w.window) window.now)) }
+{
+    match window {
+        Some(window) => kinds_of(alloc, window.window().aggregates.as_slice()),
+        None => Ok(Vec::new(alloc)),
+    }
+}
+
+/// What stands in the windows of a task, packed.
+fn packed_of(alloc: Global, window: &Option<WindowState>) -> Result<PackedParts, AllocError>
+    ensures says { IfOk result (λ parts. entries_of parts ≡ entries (windows_in window.now)) }
+    ensures sound { IfOk result (λ parts. ArePartsOf (option_map (λ w. w.window) window.now) parts) }
+{
+    let parts = parts_of(alloc, window)?;
+    PackedParts::new(alloc, window_kinds(alloc, window)?, &parts)
+}
+
 impl Kept {
     /// What there is to keep.
     ///
@@ -46,13 +76,13 @@ impl Kept {
         rows: usize,
     ) -> Result<Kept, AllocError>
         ensures is { IfOk result (λ kept. kept_value kept ≡ record { offsets = offsets.now; marks = marks.now; windows = windows_in window.now; rows = rows }) }
-        ensures says { IfOk result (λ kept. entries_of kept.parts.items ≡ entries (windows_in window.now)) }
-        ensures sound { IfOk result (λ kept. ArePartsOf (option_map (λ w. w.window) window.now) kept.parts.items) }
+        ensures says { IfOk result (λ kept. entries_of kept.parts ≡ entries (windows_in window.now)) }
+        ensures sound { IfOk result (λ kept. ArePartsOf (option_map (λ w. w.window) window.now) kept.parts) }
     {
         Ok(Kept {
             offsets: Vec::from_slice(alloc, offsets)?,
             marks: Vec::from_slice(alloc, marks)?,
-            parts: parts_of(alloc, window)?,
+            parts: packed_of(alloc, window)?,
             rows: rows as u64,
         })
     }

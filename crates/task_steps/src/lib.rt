@@ -7,6 +7,7 @@ mod dealing;
 mod fault;
 mod firing;
 mod kept;
+mod packed;
 mod pending;
 mod reading;
 mod seen;

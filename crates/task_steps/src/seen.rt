@@ -71,7 +71,7 @@ impl Task {
         ensures operator { self.now.setup.role ≡ role.Window → (w : WindowSpec) × (self.now.window ≡ Some w) }
     {
         match self.kept(at) {
-            Some(kept) => Vec::from_slice(alloc, kept.parts.as_slice()),
+            Some(kept) => kept.parts.unpack(alloc),
             None => parts_of(alloc, &self.window),
         }
     }

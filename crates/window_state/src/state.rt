@@ -123,6 +123,13 @@ impl WindowState {
         Ok(rows)
     }
 
+    /// The window operator.
+    pub fn window(&self) -> &WindowSpec
+        ensures { result.now ≡ self.now.window }
+    {
+        self.windows.window()
+    }
+
     /// What stands in each pane, in the order of start and key.
     ///
     /// # Errors

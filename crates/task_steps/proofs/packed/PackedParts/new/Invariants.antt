@@ -1,0 +1,12 @@
+use Rattle.std.proofs.Common.{◌≡◌, length, map, take}
+use Rattle.std.specs.List.{All}
+use Rattle.aggregates.specs.Kinds.{IsAcc}
+use Rattle.task_steps.specs.Packing.{part_of}
+use Rattle.task_steps.proofs.packed.PackedParts.new.Given as goal
+
+abbrev pub invariant-loop-part : goal.invariant-loop-part
+invariant-loop-part l = record {
+  wide : l.entries.width ≡ length l.kinds.items;
+  same : map (part_of l.kinds.items) l.entries.entries ≡ take l.part-index l.parts;
+  sound : All (λ e. IsAcc (part_of l.kinds.items e).acc) l.entries.entries;
+}
