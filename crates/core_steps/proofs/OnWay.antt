@@ -1,7 +1,7 @@
 -- What a leg has sealed at a savepoint on its way.
-use Rattle.std.proofs.Common.{◌≡◌, ℕ, ◌+◌, ◌<◌, ◌≤◌, Bool, true, false, List, [], length, Option, Some, None, sym, ap, subst, ◌∙◌, arith}
+use Rattle.std.proofs.Common.{◌≡◌, ℕ, suc, ◌+◌, ◌<◌, ◌≤◌, Bool, true, false, List, [], ◌∷◌, length, Option, Some, None, refl, sym, ap, subst, ◌∙◌, inl, inr, arith}
 use Rattle.std.specs.Prelude.{IfSome, slice_index_or}
-use Rattle.std.proofs.lemmas.Bool.{false≢true, ltb-false}
+use Rattle.std.proofs.lemmas.Bool.{cases_lt, false≢true, ltb-false}
 use Rattle.plan_model.specs.PlanData.{PlanData}
 use Rattle.plan_model.specs.Rows.{AreRowsOf}
 use Rattle.stream_model.specs.InputData.{InputData}
@@ -18,10 +18,12 @@ use Rattle.core_steps.specs.declared.finish.Finish.TheVariants.{Abandoned}
 use Rattle.core_steps.specs.declared.sealing.Sealed.{Sealed}
 use Rattle.core_steps.specs.Given.{GivenData, layout_in, start_in}
 use Rattle.core_steps.specs.World.{WorldData, world_in, state_at, IsBuilt, IsEnd, IsSound}
-use Rattle.core_steps.specs.Finishing.{AreAtEnd, has_stopped}
-use Rattle.core_steps.specs.Ending.{HasSealed, IsEndOf}
+use Rattle.core_steps.specs.Finishing.{AreAtEnd, HasEnded, has_stopped}
+use Rattle.core_steps.specs.Ending.{HasSealed, HasSealedLast, IsEndOf}
 use Rattle.core_steps.specs.Sealing.{AreOnTheWay, IsSealOf, IsSealed}
 use Rattle.core_steps.proofs.Sealings.{spoiled}
+use Rattle.core_steps.proofs.Sound.{sound}
+use Rattle.seal_laws.proofs.Facts.{ended_have_passed}
 
 -- what was sealed at a barrier on the way is what such legs have sealed
 pub on_way : (g : GivenData) (states : ℕ → State) (x : Sealed) (seal : IsSealOf g states x) → seal.passed < length g.saves → HasSealed g.plan g.input g.start g.saves x
@@ -53,7 +55,33 @@ before_stop g states goes_on m aligned =
     let low = ltb-false (length g.saves) (states (layout_in g).sink).next goes_on in
     omega (arith, here, low)
 
--- and in a world that has failed, in which one task is not over
+-- and where all tasks are done, each has passed all barriers on the way
+all_passed : (g : GivenData) (states : ℕ → State) → HasEnded g states → (m : ℕ) → m < length g.saves → HaveAligned (layout_in g) m states
+all_passed g states ended m few t k =
+    let is = sound g ended.given in
+    let past = ended_have_passed g.plan (layout_in g) (start_in g) is.layout is.start ended.history ended.complete t k in
+    let saves : ((layout_in g).task t).saves ≡ length g.saves = (is.start.leg.alike t k).1 in
+    subst (λ (f : ℕ → State). m < (f t).next) ended.ends (omega (arith, past, saves, few))
+
+no_more : {X : Type 0} (xs : List X) → (0 < length xs → ⊥) → xs ≡ []
+no_more [] none = refl
+no_more (x ∷ xs) none = absurd (none (omega arith))
+
+-- so a leg that has come to its end has sealed at the last of them
+pub sealed_last : (g : GivenData) (states : ℕ → State) → HasEnded g states → has_stopped g states ≡ false → (answer : Option Sealed) → IsSealed g states answer → IfSome answer (IsSealOf g states) → HasSealedLast g.plan g.input g.start g.saves answer
+sealed_last g states ended goes_on None is seal = no_more g.saves (λ some. is (all_passed g states ended 0 some))
+sealed_last g states ended goes_on (Some x) is seal = (
+  elim (cases_lt (suc is.0) (length g.saves)) [
+    | inl more ↦ absurd (is.1.last (all_passed g states ended (suc is.0) more))
+    | inr most ↦ (
+        let barrier = is.1.barrier in
+        let few = before_stop g states goes_on is.0 is.1.aligned in
+        omega (arith, barrier, few, most))
+  ],
+  sealed_on_way g states (Some x) (before_stop g states goes_on) is seal,
+)
+
+-- no more than those are passed in a world that has failed, in which one task is not over
 pub before_failing : (failed : Bool) (w : WorldData) → IsSound w.given → IsBuilt w → IsEnd failed w → failed ≡ true → (m : ℕ) → HaveAligned (layout_in w.given) m (world_in w).tasks → m < length w.given.saves
 before_failing false w sound built reached e m aligned = absurd (false≢true e)
 before_failing true w sound built (v, reached, left) e m aligned =

@@ -1,5 +1,5 @@
 -- How a leg has ended.
-use Rattle.std.specs.Prelude.{◌≡◌, ℕ, suc, ◌+◌, ◌<◌, Bool, true, false, List, [], length, slice_index_or, IfSome}
+use Rattle.std.specs.Prelude.{◌≡◌, ℕ, suc, ◌+◌, ◌<◌, Bool, true, false, List, [], length, slice_index_or, Option, MatchOption}
 use Rattle.plan_model.specs.declared.spec.Row.{Row}
 use Rattle.plan_model.specs.PlanData.{PlanData}
 use Rattle.plan_model.specs.Rows.{AreRowsOf}
@@ -27,15 +27,19 @@ pub record HasSealed (p : PlanData) (i : InputData) (s : StartData) (saves : Lis
   pub delivered : HasSnapshot p i s → AreRowsOf (due_between p i.sources (offsets_of s) (slice_index_or saves passed [])) x.rows
   pub saved : HasSnapshot p i s → IsSavedAt p i (slice_index_or saves passed []) (s.number + x.barrier) x.savepoint
 
+-- a leg that was to take these savepoints on its way has come to its end, and has sealed so: at the last of them, and nothing just where it was to take none
+abbrev pub HasSealedLast : PlanData → InputData → StartData → List (List (List ℕ)) → Option Sealed → Type 0
+HasSealedLast p i s saves sealed = MatchOption sealed (saves ≡ []) (λ x. (x.barrier ≡ length saves) × HasSealed p i s saves x)
+
 -- a leg that was to go so far has come to a cut and ended there, stopped or not, and where its start had the snapshot of its cut, these are the rows that became due, each once, and nothing else
 pub record HasGone (p : PlanData) (i : InputData) (s : StartData) (until : Until) (stopped : Bool) (rows : List Row) : Type 0 where
   pub cut : List (List ℕ)
   pub comes : ComesTo i (offsets_of s) until stopped cut
   pub delivered : HasSnapshot p i s → AreRowsOf (due_between p i.sources (offsets_of s) cut) rows
 
--- a leg that was to take these savepoints on its way and to go so far ended so: with its rows, and what it has sealed on its way; stopped, with the savepoint of the cut that it has come to and the next number; or given up, with what it had sealed
+-- a leg that was to take these savepoints on its way and to go so far ended so: with its rows, and what it has sealed at the last savepoint on its way; stopped, with the savepoint of the cut that it has come to and the next number; or given up, with what it had sealed
 abbrev pub IsEndOf : PlanData → InputData → StartData → List (List (List ℕ)) → Until → Finish → Type 0
-IsEndOf p i s saves until (Ended rows sealed) = HasGone p i s until false rows × IfSome sealed (HasSealed p i s saves)
+IsEndOf p i s saves until (Ended rows sealed) = HasGone p i s until false rows × HasSealedLast p i s saves sealed
 IsEndOf p i s saves until (Stopped rows savepoint) = (gone : HasGone p i s until true rows) × (HasSnapshot p i s → IsSavedAt p i gone.cut (number_after s.number saves) savepoint)
 IsEndOf p i s saves until (Abandoned sealed) = HasSealed p i s saves sealed
 

@@ -25,7 +25,7 @@ use task_steps::{Moment, Task};
 /// How a leg ended, with the rows that it delivered, in the order in which they came.
 #[derive(Drop)]
 pub enum Finish {
-    /// It came to the end of its input, with what it has sealed at the last of its savepoints on the way.
+    /// It came to the end of its input, with what it has sealed at the last of its savepoints on the way, if it took any.
     Ended(Items<Row>, Option<Sealed>),
     /// It stopped at a cut, and leaves the savepoint of there.
     Stopped(Items<Row>, Savepoint),

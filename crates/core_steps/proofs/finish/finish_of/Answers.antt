@@ -16,7 +16,7 @@ use Rattle.core_steps.specs.Sealing.{AreOnTheWay, IsSealOf, IsSealed}
 use Rattle.core_steps.proofs.Sound.{sound}
 use Rattle.core_steps.proofs.Ending.{can_save, ended_is, numbered, of_sink, own_panes, stopped_is}
 use Rattle.core_steps.proofs.Delivered.{gone, stopped_of, whole_run}
-use Rattle.core_steps.proofs.OnWay.{at_end_on_way, before_stop, sealed_on_way}
+use Rattle.core_steps.proofs.OnWay.{at_end_on_way, sealed_last}
 use Rattle.core_steps.proofs.finish.finish_of.Goals as goal
 
 -- the number of the savepoint, as it is counted
@@ -80,7 +80,7 @@ returns-then-not-has_stopped-clause-ends c =
     let states = state_at g c.args.tasks.items in
     let is = returns-then-not-has_stopped-clause-is c in
     let exact = subst (λ (ts : List TaskData). IfSome c.in_ok-sealed.sealed (IsSealOf g (state_at g ts))) c.as_slice-then-not-has_stopped.ensures.value c.in_ok-sealed.ensures.exact in
-    (gone g states c.requires.ended false c.sink_rows.result is.0 is.1, sealed_on_way g states c.in_ok-sealed.sealed (before_stop g states is.0) is.2 exact)
+    (gone g states c.requires.ended false c.sink_rows.result is.0 is.1, sealed_last g states c.requires.ended is.0 c.in_ok-sealed.sealed is.2 exact)
 
 pub returns-then-not-has_stopped-clause-whole : goal.returns-then-not-has_stopped-clause-whole
 returns-then-not-has_stopped-clause-whole c = λ nothing ends.

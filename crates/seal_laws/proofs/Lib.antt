@@ -1,0 +1,4 @@
+mod Logs
+mod Tasks
+mod Histories
+pub mod Facts
