@@ -1,0 +1,4 @@
+pub mod Apart
+pub mod Bad
+pub mod Naming
+pub mod Written

@@ -1,3 +1,4 @@
 pub mod Each
+pub mod Keys
 pub mod Sorting
 pub mod Writing

@@ -1,5 +1,6 @@
 -- What is asked of the records of a file.
 use Rattle.std.specs.Prelude.{◌≡◌, ℕ, List, Option}
+use Rattle.imports.specs.Placing.{AreFields}
 use Rattle.imports.specs.Reading.{point_in}
 use Rattle.imports.specs.declared.kinds.Records.{Records}
 use Rattle.import_copies.specs.Files.{Asked}
@@ -14,4 +15,4 @@ asked_of source known = record { fields = source.fields.now; picks = source.pick
 
 -- what an import asks of the records of a file, of which these columns may tell records apart
 abbrev pub Asks : {R : Type 0} → ImportRule → Records R → Option (List ℕ) → Asked → Type 0
-Asks rule rows columns asked = (asked.columns ≡ columns) × (asked.rule.columns ≡ rule.columns) × (asked.rule.point ≡ point_in rows rule.point) × (asked.time ≡ rule.time)
+Asks rule rows columns asked = (asked.columns ≡ columns) × (asked.rule.columns ≡ rule.columns) × (asked.rule.point ≡ point_in rows rule.point) × (asked.time ≡ rule.time) × AreFields rule.columns.now asked.fields

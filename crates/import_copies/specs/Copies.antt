@@ -8,6 +8,7 @@ use Rattle.entry_texts.specs.declared.partition.PartitionText.{PartitionText}
 use Rattle.import_fates.specs.Counts.{counts_of}
 use Rattle.import_fates.specs.Fates.{Taken, fate_said, fates, keys_with, keys_after, rows_with, rows_after}
 use Rattle.import_fates.specs.declared.counts.FateCounts.{FateCounts}
+use Rattle.imports.specs.Placing.{IsPlaced}
 use Rattle.imports.specs.Reading.{Rest, StandsAt, IsBegun}
 use Rattle.imports.specs.declared.kinds.Records.{Records}
 use Rattle.import_copies.specs.Asking.{Asks}
@@ -49,10 +50,11 @@ CopiesAll rule keys rows start now known partition counts = (records : List Take
 abbrev pub CopiesFile : {R : Type 0} → (R → Option (List ℕ)) → Asked → Records R → EntryRule → List (List ℕ) → List Row → Option (List ℕ) → Option (List ℕ) → Option KnownRecords → PartitionText → FateCounts → Type 0
 CopiesFile remaining asked old rule keys rows start now known partition counts = (records : List Taken) × Sorts rule keys rows start now known partition counts records × AreOfFile remaining asked old records
 
--- the same of a file from its beginning on, whose header comes first if it is CSV
+-- the same of a file from its beginning on, whose header comes first if it is CSV, and says where the texts of columns stand
 abbrev pub CopiesWhole : {R : Type 0} → (R → Option (List ℕ)) → ImportRule → Option (List ℕ) → Records R → EntryRule → List (List ℕ) → List Row → Option (List ℕ) → Option (List ℕ) → Option KnownRecords → PartitionText → FateCounts → Type 0
 CopiesWhole remaining asks columns old rule keys rows start now known partition counts = (records : List Taken) × Sorts rule keys rows start now known partition counts records
-    × (asked : Asked) × Asks asks old columns asked × ((rest more : Rest) → StandsAt remaining old rest → IsBegun rest more → TakesAll asked more records)
+    × (asked : Asked) × Asks asks old columns asked × ((rest : Rest) → StandsAt remaining old rest → IsPlaced rest asked.fields asked.rule.places.now asked.picks)
+    × ((rest more : Rest) → StandsAt remaining old rest → IsBegun rest more → TakesAll asked more records)
 
 -- of some records that went where they had to, those that are written are the rows of a partition from its start on
 abbrev pub CopiesRows : EntryRule → List (List ℕ) → Option (List ℕ) → Option (List ℕ) → Option KnownRecords → PartitionText → Type 0

@@ -1,21 +1,17 @@
 -- What tells records apart.
-use Rattle.std.specs.Prelude.{ℕ, List, [], ◌++◌, length, slice_get, Option, Some, None, option_map, unwrap_or}
+use Rattle.std.specs.Prelude.{ℕ, List, [], ◌++◌, length, Option, Some, None, option_map}
 use Rattle.std.specs.Int.{bytes_low_first}
 use Rattle.std.specs.List.{flat_map}
-use Rattle.csv.specs.Records.{field_at}
+use Rattle.imports.specs.Rows.{column_text}
 use Rattle.import_copies.specs.declared.known.KnownRecords.{KnownRecords}
 
 -- the text of a field behind its length
 abbrev pub field_text : List ℕ → List ℕ
 field_text text = bytes_low_first 0 8 (length text) ++ text
 
--- the place of a column's field
-abbrev pub place_said : List ℕ → ℕ → ℕ
-place_said places column = unwrap_or (slice_get places column) column
-
 -- the texts of the fields of columns, which stand at these places
 abbrev pub key_said : List ℕ → List ℕ → List (List ℕ) → List ℕ
-key_said columns places fields = flat_map (λ column. field_text (unwrap_or (field_at fields (place_said places column)) [])) columns
+key_said columns places fields = flat_map (λ column. field_text (column_text places fields column)) columns
 
 -- the texts of the records before
 abbrev pub keys_in : Option KnownRecords → List (List ℕ)

@@ -6,3 +6,4 @@ pub mod Known
 pub mod Outcomes
 pub mod Refused
 pub mod Rows
+pub mod Told

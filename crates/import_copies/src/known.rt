@@ -1,9 +1,11 @@
 //! The records that were before, by what stands in some of their fields.
 
-ghost use Rattle.std.specs.Prelude.{◌≡◌, ◌++◌, [], is_some, unwrap_or, IfOk, OnOk};
-ghost use Rattle.csv.specs.Records.{field_at, fields_of};
+ghost use Rattle.std.specs.Prelude.{◌≡◌, ◌++◌, is_some, IfOk, OnOk};
+ghost use Rattle.csv.specs.Records.{fields_of};
 ghost use Rattle.import_fates.specs.Fates.{is_known, keys_seen};
-ghost use Rattle.import_copies.specs.Known.{field_text, place_said, key_said, keys_in, key_in, columns_in};
+ghost use Rattle.imports.specs.Picks.{text_at};
+ghost use Rattle.imports.specs.Rows.{place_said};
+ghost use Rattle.import_copies.specs.Known.{field_text, key_said, keys_in, key_in, columns_in};
 
 use csv::ByteRecord;
 use imports::RowFault;
@@ -40,7 +42,7 @@ fn place_of(places: &[usize], column: usize) -> usize
 
 /// The text of the field at a place, which is empty where there is none.
 fn text_at<'r>(fields: &'r ByteRecord, place: usize) -> &'r [u8]
-    ensures { result.now ≡ unwrap_or (field_at (fields_of fields.now) place) [] }
+    ensures { result.now ≡ text_at (fields_of fields.now) place }
 {
     match fields.get(place) {
         Some(text) => text,

@@ -169,7 +169,7 @@ impl<L: Write + Drop> Ledger<L> {
         match &mut self.places.bad {
             Some(bad) => {
                 let reason = reason_of(self.alloc, source.columns, source.time, rows, None, fault);
-                bad.put(source.file, rows, &reason)
+                bad.put(source.file, rows.line(), rows, &reason)
             }
             None => self.refuse(source, rows, fault),
         }

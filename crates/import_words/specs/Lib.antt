@@ -1,3 +1,4 @@
+pub mod Codes
 pub mod Files
 pub mod Judging
 pub mod Status

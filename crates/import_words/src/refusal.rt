@@ -40,6 +40,11 @@ pub enum ImportCode {
 }
 
 impl fmt::Display for ImportCode {
+    ghost use Rattle.std.specs.Prelude.{Some};
+    ghost use Rattle.import_words.specs.Codes.{code_text};
+
+    ghost output = { λ code. Some (code_text code) };
+
     fn fmt<W: fmt::Write>(&self, f: &mut fmt::Formatter<W>) -> fmt::Result {
         f.write_str(match self {
             ImportCode::Columns => "D1 Columns",

@@ -10,7 +10,7 @@ use Rattle.object_lines.specs.Lines.{AdvancesLine, lines_left, line_in}
 use Rattle.object_lines.specs.declared.fault.LineFault.{LineFault}
 use Rattle.object_lines.specs.declared.fault.LineFault.TheVariants as line
 use Rattle.object_lines.specs.declared.lines.ObjectLines.{ObjectLines}
-use Rattle.imports.specs.Faults.{fault_said, is_final}
+use Rattle.imports.specs.Faults.{fault_said}
 use Rattle.imports.specs.Reading.{Rest, Csv, Lines, Fields, Line, StandsIn, ReadsRow, RowsStandAt, StandsAt, ChecksWidth, Advances, AdvancesRow, width_with, width_left, next_of, taken_in, RecordText, GivesFields, IsBegun}
 use Rattle.imports.specs.Picks.{pick_text, picked}
 use Rattle.imports.specs.declared.picking.Pick.{Pick}

@@ -1,7 +1,8 @@
 //! The records of a file, whatever kind of file it is.
 
-ghost use Rattle.std.specs.Prelude.{◌≡◌, ℕ, List, Some, IfOk, OnOk};
+ghost use Rattle.std.specs.Prelude.{◌≡◌, ℕ, List, Some, IfErr, IfOk, OnOk};
 ghost use Rattle.imports.specs.Separators.{separator_of};
+ghost use Rattle.imports.specs.Placing.{AreFields, IsPlaced};
 ghost use Rattle.imports.specs.Reading.{Rest, RowsStandAt, StandsAt, Advances, IsBegun, beginning, record_in, point_in, is_ndjson};
 
 use crate::fault::{RowFault, line_fault};
@@ -35,10 +36,10 @@ fn is_ndjson(path: &str) -> bool
 }
 
 /// The fields that columns ask for.
-pub fn fields_of<'w>(
-    alloc: Global,
-    columns: &[Column<'w>],
-) -> Result<Vec<AskedField<'w>>, RowFault> {
+pub fn fields_of<'w>(alloc: Global, columns: &[Column<'w>]) -> Result<Vec<AskedField<'w>>, RowFault>
+    ensures fields { IfOk result (λ fields. AreFields columns.now fields.items) }
+    ensures refused { IfErr result (λ fault. fault ≡ RowFault.Memory) }
+{
     let mut fields = Vec::new(alloc);
     for column in columns {
         fields.push(AskedField::new(alloc, column.field, column.joint)?)?;
@@ -54,7 +55,8 @@ fn pass_header<'f, R: Read + Drop>(
     file: &'f str,
     first: &mut Option<FirstHeader<'f>>,
 ) -> Result<Places, RowFault>
-    ensures { (rest : Rest) (more : Rest) → RowsStandAt R.remaining rows.old rest → IsBegun rest more → OnOk result (RowsStandAt R.remaining rows.new more) }
+    ensures stands { (rest : Rest) (more : Rest) → RowsStandAt R.remaining rows.old rest → IsBegun rest more → OnOk result (RowsStandAt R.remaining rows.new more) }
+    ensures places { (rest : Rest) → RowsStandAt R.remaining rows.old rest → IfOk result (λ places. IsPlaced rest fields.now places.places.items places.picks.items) }
 {
     let _is_there = rows.advance()?;
     check_header(first, file, rows.record())?;
@@ -96,7 +98,8 @@ impl<R: Read + Drop> Records<R> {
         file: &'f str,
         first: &mut Option<FirstHeader<'f>>,
     ) -> Result<Places, RowFault>
-        ensures { (rest : Rest) (more : Rest) → StandsAt R.remaining self.old rest → IsBegun rest more → OnOk result (StandsAt R.remaining self.new more) }
+        ensures stands { (rest : Rest) (more : Rest) → StandsAt R.remaining self.old rest → IsBegun rest more → OnOk result (StandsAt R.remaining self.new more) }
+        ensures places { (rest : Rest) → StandsAt R.remaining self.old rest → IfOk result (λ places. IsPlaced rest fields.now places.places.items places.picks.items) }
     {
         match self {
             Records::Rows(rows) => pass_header(rows, alloc, fields, file, first),

@@ -1,7 +1,13 @@
 //! Where the fields of columns stand in a record.
 
+ghost use Rattle.std.specs.Prelude.{◌≡◌, ℕ, List, IfErr, IfOk, IfSome, bytes_eq, map};
+ghost use Rattle.std.specs.List.{range_with_len};
+ghost use Rattle.csv.specs.Records.{fields_of};
+ghost use Rattle.imports.specs.Picks.{text_at};
+ghost use Rattle.imports.specs.Placing.{Alone, Answers, PlacesFields, once_at, parts_at, place_from, place_with, places_of, stand_in, stand_of, stands_of, texts_by, together};
+
 use crate::fault::RowFault;
-use crate::picking::Pick;
+use crate::picking::{Pick, text_at};
 use asked_fields::AskedField;
 use csv::ByteRecord;
 use std::alloc::Global;
@@ -26,18 +32,50 @@ enum FieldPlace {
     Twice,
 }
 
-/// Where a name stands in a header.
-fn place_of(header: &ByteRecord, name: &str) -> FieldPlace {
-    let mut found = FieldPlace::Nowhere;
-    for (place, field) in header.into_iter().enumerate() {
-        if field == name.as_bytes() {
-            found = match found {
-                FieldPlace::Nowhere => FieldPlace::At(place),
-                _ => FieldPlace::Twice,
-            };
+impl FieldPlace {
+    /// The same with one more place, if the name stands there.
+    fn with(self, place: usize, stands: bool) -> FieldPlace
+        ensures { result ≡ place_with self place stands }
+    {
+        match self {
+            _ if !stands => self,
+            FieldPlace::Nowhere => FieldPlace::At(place),
+            _ => FieldPlace::Twice,
         }
     }
+}
+
+/// Whether a name stands at a place of a header.
+fn stands_at(header: &ByteRecord, place: usize, name: &str) -> bool
+    ensures { result ≡ bytes_eq (text_at (fields_of header.now) place) name.now }
+{
+    text_at(header, place) == name.as_bytes()
+}
+
+/// Where a name stands in a header.
+fn place_of(header: &ByteRecord, name: &str) -> FieldPlace
+    ensures { result ≡ place_from (places_of (fields_of header.now) name.now) }
+{
+    let mut found = FieldPlace::Nowhere;
+    for place in 0..header.len() {
+        found = found.with(place, stands_at(header, place, name));
+    }
     found
+}
+
+/// The place at which a name stands once, of the field of a column.
+///
+/// # Errors
+///
+/// `NoField`; `FieldTwice`.
+fn place_once(header: &ByteRecord, name: &str, column: usize) -> Result<usize, RowFault>
+    ensures { result ≡ once_at column (places_of (fields_of header.now) name.now) }
+{
+    match place_of(header, name) {
+        FieldPlace::At(place) => Ok(place),
+        FieldPlace::Nowhere => Err(RowFault::NoField(column)),
+        FieldPlace::Twice => Err(RowFault::FieldTwice(column)),
+    }
 }
 
 /// The places of the fields of a name's parts.
@@ -46,13 +84,15 @@ fn joined_pick(
     header: &ByteRecord,
     field: &AskedField<'_>,
     column: usize,
-) -> Result<Pick, RowFault> {
+) -> Result<Pick, RowFault>
+    ensures { Answers stand_in (together field.now.joint (parts_at (fields_of header.now) column field.now)) result }
+{
     let mut places = Vec::new(alloc);
     for part in &field.parts {
-        match place_of(header, part) {
-            FieldPlace::At(place) => places.push(place)?,
-            FieldPlace::Nowhere => return Err(RowFault::NoField(column)),
-            FieldPlace::Twice => return Err(RowFault::FieldTwice(column)),
+        let name = *part;
+        match place_once(header, name, column) {
+            Ok(place) => places.push(place)?,
+            Err(fault) => return Err(fault),
         }
     }
     Ok(Pick::Joined(field.joint, places))
@@ -64,7 +104,9 @@ fn pick_of(
     header: &ByteRecord,
     field: &AskedField<'_>,
     column: usize,
-) -> Result<Pick, RowFault> {
+) -> Result<Pick, RowFault>
+    ensures { Answers stand_in (stand_of (fields_of header.now) column field.now) result }
+{
     match place_of(header, field.name) {
         FieldPlace::At(place) => Ok(Pick::One(place)),
         FieldPlace::Twice => Err(RowFault::FieldTwice(column)),
@@ -82,16 +124,24 @@ fn picks_of(
     alloc: Global,
     header: &ByteRecord,
     fields: &[AskedField<'_>],
-) -> Result<Vec<Pick>, RowFault> {
+) -> Result<Vec<Pick>, RowFault>
+    ensures { Answers (λ picks. map stand_in picks.items) (stands_of (fields_of header.now) fields.now) result }
+{
     let mut picks = Vec::new(alloc);
     for (i, field) in fields.iter().enumerate() {
-        picks.push(pick_of(alloc, header, field, i)?)?;
+        match pick_of(alloc, header, field, i) {
+            Ok(pick) => picks.push(pick)?,
+            Err(fault) => return Err(fault),
+        }
     }
     Ok(picks)
 }
 
 /// The places of fields of which each is one of the record.
-fn single_places(alloc: Global, picks: &[Pick]) -> Result<Option<Vec<usize>>, RowFault> {
+fn single_places(alloc: Global, picks: &[Pick]) -> Result<Option<Vec<usize>>, RowFault>
+    ensures places { IfOk result (λ single. IfSome single (λ places. map stand_in picks.now ≡ map Alone places.items)) }
+    ensures refused { IfErr result (λ fault. fault ≡ RowFault.Memory) }
+{
     let mut places = Vec::new(alloc);
     for pick in picks {
         match pick {
@@ -103,7 +153,10 @@ fn single_places(alloc: Global, picks: &[Pick]) -> Result<Option<Vec<usize>>, Ro
 }
 
 /// The first places of a record.
-fn first_places(alloc: Global, count: usize) -> Result<Vec<usize>, RowFault> {
+fn first_places(alloc: Global, count: usize) -> Result<Vec<usize>, RowFault>
+    ensures places { IfOk result (λ places. places.items ≡ range_with_len 0 count) }
+    ensures refused { IfErr result (λ fault. fault ≡ RowFault.Memory) }
+{
     let mut places = Vec::new(alloc);
     for place in 0..count {
         places.push(place)?;
@@ -117,7 +170,10 @@ impl Places {
     /// # Errors
     ///
     /// `Memory`.
-    pub(crate) fn in_order(alloc: Global, count: usize) -> Result<Places, RowFault> {
+    pub(crate) fn in_order(alloc: Global, count: usize) -> Result<Places, RowFault>
+        ensures places { IfOk result (λ places. (row : List (List ℕ)) → texts_by places.places.items places.picks.items row count ≡ map (text_at row) (range_with_len 0 count)) }
+        ensures refused { IfErr result (λ fault. fault ≡ RowFault.Memory) }
+    {
         Ok(Places {
             places: first_places(alloc, count)?,
             picks: Vec::new(alloc),
@@ -133,7 +189,9 @@ impl Places {
         alloc: Global,
         header: &ByteRecord,
         fields: &[AskedField<'_>],
-    ) -> Result<Places, RowFault> {
+    ) -> Result<Places, RowFault>
+        ensures { PlacesFields (stands_of (fields_of header.now) fields.now) result }
+    {
         let picks = picks_of(alloc, header, fields)?;
         match single_places(alloc, &picks)? {
             Some(places) => Ok(Places {

@@ -135,8 +135,8 @@ impl<R: Read + Drop> CsvRows<R> {
         }
     }
 
-    /// The row.
-    pub(crate) fn record(&self) -> &ByteRecord
+    /// The row, as it stands in the text.
+    pub fn record(&self) -> &ByteRecord
         ensures { result.now ≡ self.now.«record» }
     {
         &self.record

@@ -1,5 +1,5 @@
 -- The lines of a text, and the records of those that are objects.
-use Rattle.std.specs.Prelude.{◌≡◌, ℕ, nat_le, ◌==◌, ◌||◌, Bool, true, false, List, [], ◌∷◌, Option, Some, None, option_map, Result, Ok, Err, if◌then◌else◌}
+use Rattle.std.specs.Prelude.{◌≡◌, ℕ, ◌-◌, nat_le, ◌==◌, ◌||◌, Bool, true, false, List, [], ◌∷◌, length, take, get_or, Option, Some, None, option_map, Result, Ok, Err, if◌then◌else◌}
 use Rattle.std.specs.List.{list_all}
 use Rattle.std.specs.Io.Buffered.{reader_remaining}
 use Rattle.csv.specs.Reading.{strip_bom}
@@ -16,6 +16,14 @@ is_space b = (b == 32) || ((b == 9) || ((b == 13) || (b == 10)))
 
 abbrev pub is_blank : List ℕ → Bool
 is_blank line = list_all is_space line
+
+-- a text without a byte that it may end with
+abbrev pub without_last : ℕ → List ℕ → List ℕ
+without_last byte text = if get_or text (length text - 1) 0 == byte then take (length text - 1) text else text
+
+-- a line without what ends it: a line feed, and a carriage return before it
+abbrev pub bare_line : List ℕ → List ℕ
+bare_line line = without_last 13 (without_last 10 line)
 
 -- lines with a byte in front of the first
 abbrev pub with_front : ℕ → List (List ℕ) → List (List ℕ)

@@ -1,9 +1,8 @@
 -- A name, from one object into the next.
-use Rattle.std.specs.Prelude.{◌≡◌, ◌<◌, ◌≤◌, List, ℕ, suc, length, Result, Ok, Err}
-use Rattle.json.specs.Json.{Json, Members}
+use Rattle.std.specs.Prelude.{◌≡◌, ◌<◌, ◌≤◌, List, ℕ, suc, length, Ok, Err}
+use Rattle.json.specs.Json.{Members}
 use Rattle.json.specs.Value.{value_view, members_view}
 use Rattle.object_lines.specs.Members.{only, values_of, nested}
-use Rattle.object_lines.specs.declared.fault.MemberFault.{MemberFault}
 use Rattle.object_lines.specs.declared.fault.MemberFault.TheVariants.{Missing}
 use Rattle.object_lines.specs.declared.member.Step.{Step}
 use Rattle.object_lines.specs.declared.member.Step.TheVariants.{Found, Wrong, Into}

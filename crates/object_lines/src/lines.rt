@@ -2,7 +2,7 @@
 
 ghost use Rattle.std.specs.Prelude.{◌≡◌, ℕ, List, Some, IfOk, IfErr};
 ghost use Rattle.csv.specs.Records.{fields_of};
-ghost use Rattle.object_lines.specs.Lines.{is_space, is_blank, line_said, lines_said, line_in, lines_left, StepsLine, FillsLine, IsOfText, AdvancesLine};
+ghost use Rattle.object_lines.specs.Lines.{is_space, is_blank, without_last, bare_line, line_said, lines_said, line_in, lines_left, StepsLine, FillsLine, IsOfText, AdvancesLine};
 
 use crate::fault::LineFault;
 use crate::room::Room;
@@ -60,6 +60,16 @@ fn without_mark(line: &[u8], number: u64) -> &[u8]
     match line.strip_prefix(b"\xef\xbb\xbf") {
         Some(rest) => rest,
         None => line,
+    }
+}
+
+/// A text without a byte that it may end with.
+fn without_last(text: &[u8], byte: u8) -> &[u8]
+    ensures { result.now ≡ without_last byte text.now }
+{
+    match text {
+        [front @ .., last] if *last == byte => front,
+        _ => text,
     }
 }
 
@@ -152,10 +162,11 @@ impl<R: Read + Drop> ObjectLines<R> {
     }
 
     /// The text of the line, without a byte order mark and what ends it.
-    pub fn text(&self) -> &[u8] {
-        let text = without_mark(&self.line, self.number);
-        let text = text.strip_suffix(b"\n").unwrap_or(text);
-        text.strip_suffix(b"\r").unwrap_or(text)
+    pub fn text(&self) -> &[u8]
+        ensures { result.now ≡ bare_line (line_in self.now) }
+    {
+        let line = without_mark(&self.line, self.number);
+        without_last(without_last(line, b'\n'), b'\r')
     }
 
     /// The line of the record, counted from 1.

@@ -1,4 +1,4 @@
-use Rattle.std.proofs.Common.{◌≡◌, Result, sym, subst, arith}
+use Rattle.std.proofs.Common.{Result, sym, subst, arith}
 use Rattle.json.specs.Json.{Json}
 use Rattle.json.specs.Value.{members_view}
 use Rattle.object_lines.specs.Members.{IsValue}

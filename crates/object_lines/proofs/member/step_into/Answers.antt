@@ -1,8 +1,6 @@
-use Rattle.std.proofs.Common.{◌≡◌, ◌<◌, ◌∙◌, ◌∷◌, ◌++◌, ℕ, List, Bool, None, Some, Ok, Err, length, lit<, ap, sym, refl, rules, arith, length-append, subst}
+use Rattle.std.proofs.Common.{◌≡◌, ◌∙◌, ℕ, List, None, Some, Ok, Err, lit<, ap, sym, subst}
 use Rattle.std.proofs.lemmas.Str.Pattern.{split_once_first, split_parts}
-use Rattle.json.specs.Json.{Json, Members}
 use Rattle.json.specs.Value.{value_view, members_view}
-use Rattle.json.specs.declared.value.Value.{Value}
 use Rattle.object_lines.specs.Members.{only, values_of, nested}
 use Rattle.object_lines.proofs.Paths.{nowhere, no_front, no_object, into, shorter}
 use Rattle.object_lines.proofs.member.step_into.Goals as goal

@@ -1,4 +1,3 @@
-use Rattle.std.proofs.Common.{◌≡◌, Err}
 use Rattle.json.specs.Value.{value_view, members_view}
 use Rattle.object_lines.proofs.Paths.{found, twice, no_text}
 use Rattle.object_lines.proofs.member.step_of.Goals as goal

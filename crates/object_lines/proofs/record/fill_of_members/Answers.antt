@@ -1,10 +1,9 @@
-use Rattle.std.proofs.Common.{◌≡◌, ◌<◌, length, None, Some, [], ◌∷◌, ◌++◌, List, ℕ, Option, Ok, Err, arith, rules, ap, sym, ◌∙◌, subst}
+use Rattle.std.proofs.Common.{◌≡◌, Some, Option, Ok, arith, ap, sym, ◌∙◌, subst}
 use Rattle.std.proofs.lemmas.Option.{slice_get-get_or}
 use Rattle.csv.specs.Records.{fields_of}
-use Rattle.asked_fields.specs.declared.asked.AskedField.{AskedField}
 use Rattle.json.specs.Value.{members_view}
 use Rattle.object_lines.specs.Members.{asked_text}
-use Rattle.object_lines.specs.Records.{AreTexts, IsPushed}
+use Rattle.object_lines.specs.Records.{IsPushed}
 use Rattle.object_lines.specs.declared.fault.MemberFault.{MemberFault}
 use Rattle.object_lines.proofs.Texts.{next_text}
 use Rattle.object_lines.proofs.record.fill_of_members.Goals as goal

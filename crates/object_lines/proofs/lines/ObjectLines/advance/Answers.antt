@@ -1,4 +1,4 @@
-use Rattle.std.proofs.Common.{◌≡◌, ◌∙◌, [], map, ap, Ok}
+use Rattle.std.proofs.Common.{◌≡◌, ◌∙◌, [], ap, Ok}
 use Rattle.object_lines.specs.Lines.{next_line, line_in}
 use Rattle.object_lines.proofs.Nexts.{blank, no_line, found, fault_found}
 use Rattle.object_lines.proofs.lines.ObjectLines.advance.Goals as goal
