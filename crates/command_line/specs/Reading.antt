@@ -85,7 +85,8 @@ HasRunWords words said =
 abbrev pub HasLegWords : Found → LegWords → Type 0
 HasLegWords words said =
     (said.plan.now ≡ word words (codes "PLAN")) × (said.input.now ≡ word words (codes "INPUT")) × (said.scale.now ≡ word words (codes "SCALE"))
-    × (option_map (λ w. w.now) said.from ≡ first_value words (codes "from")) × (option_map (λ w. w.now) said.stop ≡ first_value words (codes "stop"))
+    × (option_map (λ w. w.now) said.from ≡ first_value words (codes "from")) × (option_map (λ w. w.now) said.saves ≡ first_value words (codes "saves"))
+    × (option_map (λ w. w.now) said.stop ≡ first_value words (codes "stop"))
     × (option_map (λ w. w.now) said.stop_file ≡ first_value words (codes "stop-file")) × (option_map (λ w. w.now) said.save ≡ first_value words (codes "save"))
     × (option_map (λ w. w.now) said.since ≡ first_value words (codes "since")) × (option_map (λ w. w.now) said.receipt ≡ first_value words (codes "receipt"))
     × (option_map (λ w. w.now) said.names ≡ first_value words (codes "names"))

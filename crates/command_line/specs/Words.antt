@@ -38,7 +38,7 @@ leg_files_shape = command_shape (codes "leg") (codes "PLAN" ∷ codes "INPUT" �
 
 -- a leg's files, and how it begins and stops
 abbrev pub leg_stops_shape : Shape
-leg_stops_shape = record leg_files_shape { rules = leg_files_shape.rules ++ option_rule (codes "from") ∷ option_rule (codes "stop") ∷ option_rule (codes "stop-file") ∷ option_rule (codes "save") ∷ [] }
+leg_stops_shape = record leg_files_shape { rules = leg_files_shape.rules ++ option_rule (codes "from") ∷ option_rule (codes "saves") ∷ option_rule (codes "stop") ∷ option_rule (codes "stop-file") ∷ option_rule (codes "save") ∷ [] }
 
 -- and its receipts
 abbrev pub leg_shape : Shape

@@ -123,6 +123,7 @@ fn leg_words<'m>(words: &'m ArgMatches<'_>) -> LegWords<'m>
         input: named(words, "INPUT"),
         scale: named(words, "SCALE"),
         from: words.get_str("from"),
+        saves: words.get_str("saves"),
         stop: words.get_str("stop"),
         stop_file: words.get_str("stop-file"),
         save: words.get_str("save"),

@@ -167,7 +167,9 @@ A leg is a part of a job: it begins with nothing or with a savepoint, and goes t
 end of the input. It prints the rows, as `run` does, whose windows become due on the way. A leg
 that stops leaves a savepoint, which is written before the rows are printed. CUT has how many
 entries lie before it in each partition, with commas between the partitions of a source and
-slashes between sources. With --stop-file it stops where it has come once that file is there, which
+slashes between sources. With --saves it takes savepoints on its way, at cuts with + between them, and
+goes on; where memory runs out behind one of them, it prints the rows up to the last that is complete,
+and leaves that savepoint. With --stop-file it stops where it has come once that file is there, which
 it looks for ten times a second; one that was at the end by then leaves no savepoint. A receipt has
 digests of the plan, of the entries before the cut, of the rows and of the table of names; with --since
 a leg goes on only where plan, entries and names are those of the receipt.
@@ -205,6 +207,13 @@ fn leg_stops<'a>(alloc: Global) -> Result<Command<'a>, AllocError>
     let command = option(
         alloc,
         command,
+        "saves",
+        "CUTS",
+        "Cuts at which the leg takes savepoints on its way, with + between them, and goes on",
+    )?;
+    let command = option(
+        alloc,
+        command,
         "stop",
         "CUT",
         "Cut to stop at; without it the leg goes to the end of the input",
@@ -214,14 +223,14 @@ fn leg_stops<'a>(alloc: Global) -> Result<Command<'a>, AllocError>
         command,
         "stop-file",
         "FILE",
-        "File that stops the leg where it is, once it is there; with --save, and not with --stop",
+        "File that stops the leg where it is, once it is there; with --save, and without --stop and --saves",
     )?;
     option(
         alloc,
         command,
         "save",
         "FILE",
-        "File to write the savepoint to, if the leg stops",
+        "File to write the savepoint to: that of the stop, or else the last one on the way",
     )
 }
 

@@ -4,7 +4,7 @@ use Rattle.job_texts.specs.declared.fault.JobFault.{JobFault}
 use Rattle.job_texts.specs.declared.fault.JobFault.TheVariants.{Plan, Input, Number}
 use Rattle.job_texts.specs.Fault.{plan_fault, scale_fault}
 use Rattle.job.specs.Ends.{and_then, as_job}
-use Rattle.job.specs.Leg.{LegJob, job_with, leg_on, leg_said}
+use Rattle.job.specs.Leg.{LegJob, job_with, leg_on, leg_said, words as leg_words}
 use Rattle.job.specs.Start.{BeginsLeg}
 use Rattle.plan_model.specs.PlanData.{PlanData}
 use Rattle.stream_model.specs.InputData.{InputData}
@@ -23,8 +23,8 @@ ChecksPart {F} is_memory fault_of said (Some bytes) result = (answer : Result (U
 
 -- the leg that a savepoint and a cut say with a plan and an input that were read, at any scale where none is named
 abbrev pub begins_on : PlanData → InputData → Option (List ℕ) → Option (List ℕ) → Option (List ℕ) → Result LegJob JobFault
-begins_on p i None from stop = job_with p i from stop
-begins_on p i (Some scale) from stop = leg_on p i scale from stop
+begins_on p i None from stop = job_with p i from (leg_words None stop)
+begins_on p i (Some scale) from stop = leg_on p i scale from (leg_words None stop)
 
 -- and with a plan, and with texts
 abbrev pub begins_by : PlanData → List ℕ → Option (List ℕ) → Option (List ℕ) → Option (List ℕ) → Result LegJob JobFault
@@ -35,7 +35,7 @@ begins_said plan input from stop = and_then (λ p. begins_by p input None from s
 
 -- with an input the answer is that of `leg` for the same texts, before its first step; where no scale is named, but for that
 abbrev pub IsAsLeg : List ℕ → List ℕ → Option (List ℕ) → Option (List ℕ) → Option (List ℕ) → Result (Unit {0}) JobFault → Type 0
-IsAsLeg plan input (Some scale) from stop result = BeginsLeg (leg_said plan input scale from stop) result
+IsAsLeg plan input (Some scale) from stop result = BeginsLeg (leg_said plan input scale from (leg_words None stop)) result
 IsAsLeg plan input None from stop result = BeginsLeg (begins_said plan input from stop) result
 
 -- of a plan that was read: its scale alone, or its input, scale and leg

@@ -6,7 +6,7 @@ ghost use Rattle.plan_scale.specs.Answer.{scale_of_bytes};
 ghost use Rattle.plan_scale.specs.Answer.{is_memory as is_scale_memory};
 ghost use Rattle.stream_model.specs.InputData.{BelongsTo};
 ghost use Rattle.job_texts.specs.Fault.{scale_fault};
-ghost use Rattle.job.specs.Leg.{job_with, leg_on};
+ghost use Rattle.job.specs.Leg.{job_with, leg_on, words as leg_words};
 ghost use Rattle.job.specs.Start.{BeginsLeg};
 ghost use Rattle.commands.specs.Checking.{AnswersCheck, ChecksPart, ChecksParts, ChecksTexts, begins_by, begins_on};
 
@@ -169,7 +169,7 @@ fn check_its_start<R: Print + AllocGlobal>(
     restart: Restart<'_>,
 ) -> Result<(), JobFault>
     requires { BelongsTo plan.now input.now }
-    ensures { BeginsLeg (job_with plan.now input.now (option_map (λ bytes. bytes.now) restart.entry.savepoint) (option_map (λ word. word.now) restart.entry.stop)) result }
+    ensures { BeginsLeg (job_with plan.now input.now (option_map (λ bytes. bytes.now) restart.entry.savepoint) (leg_words None (option_map (λ word. word.now) restart.entry.stop))) result }
 {
     let answer = job_start(rt.alloc(), plan, input, restart.savepoint, restart.stop);
     if let Err(fault) = answer {
@@ -187,7 +187,7 @@ fn check_at_scale<R: Print + AllocGlobal>(
     restart: Restart<'_>,
 ) -> Result<(), JobFault>
     requires { BelongsTo plan.now input.now }
-    ensures { BeginsLeg (leg_on plan.now input.now scale.entry.bytes.now (option_map (λ bytes. bytes.now) restart.entry.savepoint) (option_map (λ word. word.now) restart.entry.stop)) result }
+    ensures { BeginsLeg (leg_on plan.now input.now scale.entry.bytes.now (option_map (λ bytes. bytes.now) restart.entry.savepoint) (leg_words None (option_map (λ word. word.now) restart.entry.stop))) result }
 {
     check_scale(rt.alloc(), plan, scale.bytes, scale.name, &mut writer(rt))?;
     check_its_start(rt, plan, input, restart)

@@ -9,9 +9,9 @@ pub const OTHER_PAGES: [FaultPage<'static>; 13] = [
         r#"C1 Cut (status 2)
 
 The word after `--stop` is no cut: counts of 1 to 20 digits, each below 2^64, with commas between the partitions of a
-source, and slashes between sources. A sign, a space, a point or an empty count is none. `leg` also says it of
-`--stop-file` beside `--stop`, as it would have two places to stop at, and without `--save`, as what it has read would
-be lost.
+source, and slashes between sources. A sign, a space, a point or an empty count is none. So it is of the word after
+`--saves`, which has such cuts with a `+` between them. `leg` also says it of `--stop-file` beside `--stop`, as it would
+have two places to stop at, beside `--saves`, and without `--save`, as what it has read would be lost.
 
 ```console
 $ streamjob leg plan.json input.json scale.json --stop 1,x
@@ -172,8 +172,8 @@ The list of legs is no JSON text, as for `P1`.
         "L5",
         r#"L5 Member (status 3)
 
-The list of legs is no list of objects with a `scale` and perhaps a `stop`, a member is unknown, or a `stop` is no list
-of lists of whole numbers from 0 to 2^64 - 1.
+The list of legs is no list of objects with a `scale` and perhaps `saves` and a `stop`, a member is unknown, a `stop` is
+no list of lists of whole numbers from 0 to 2^64 - 1, or `saves` is no list of such lists.
 
 ```json legs.json
 [{"scale": {"ring": 16, "operators": {"calls": {"parallelism": 1}, "usage": {"parallelism": 1}}}, "stop": "2,2"}]
@@ -216,7 +216,16 @@ A leg cannot take a savepoint on its way at each cut where it is to: there are m
 of sources or of partitions than the plan, a count is over the number of entries of its partition, or it is below that
 of the cut before, or below what was read before the leg, or over that of the cut where the leg stops.
 
-No command lets a leg take savepoints on its way yet, so none says this.
+```console
+$ streamjob leg plan.json input.json scale.json --saves 1+0
+L8 SaveRange
+$ streamjob leg plan.json input.json scale.json --saves 2 --stop 1
+L8 SaveRange
+```
+
+Write the cuts in the order in which the leg comes to them; one at the cut of `--stop` may be there, and one that stands
+twice is two savepoints. In a list of legs it is the `saves` of a leg. See
+[savepoints on the way](FORMATS.md#savepoints-on-the-way).
 "#,
     ),
     (
@@ -235,7 +244,9 @@ Raise the limit, or run with fewer subtasks: the rows are the same. `simulate` n
         r#"memory (status 4)
 
 The system gave no memory, because of a limit (`ulimit -v`, a container's) or a full machine. It says nothing of the
-files. Where Linux promises more memory than it has, it may end the program by a signal instead.
+files. Where Linux promises more memory than it has, it may end the program by a signal instead. Where `leg` printed
+rows before it, it was given up behind a savepoint of `--saves`: the rows go up to there, and a leg `--from` the file of
+`--save` has the others.
 
 [PERFORMANCE.md](PERFORMANCE.md) has what a run takes by its number of records. Split the input by keys and run the
 parts one by one: the rows of all parts together, sorted, are those of the whole.

@@ -1,5 +1,5 @@
 -- What a leg answers, from what reading its texts answers.
-use Rattle.std.proofs.Common.{◌≡◌, ◌∙◌, Bool, true, false, Result, Ok, Err, IsErr, IsErrAnd, refl, sym, ap, subst, inl, inr}
+use Rattle.std.proofs.Common.{◌≡◌, ◌∙◌, Bool, true, false, Option, Result, Ok, Err, IsErr, IsErrAnd, refl, sym, ap, subst, inl, inr}
 use Rattle.std.specs.Prelude.{◌⊎◌}
 use Rattle.answers.specs.Answer.{unless, Fails}
 use Rattle.logical_plan.specs.Answer as plans
@@ -11,11 +11,12 @@ use Rattle.input_texts.specs.declared.fault.InputFault.TheVariants as input
 use Rattle.plan_scale.specs.Answer as scales
 use Rattle.layout_rules.specs.declared.fault.ScaleFault.{ScaleFault}
 use Rattle.layout_rules.specs.declared.fault.ScaleFault.TheVariants as scale
+use Rattle.legs.specs.declared.fault.LegFault.{LegFault}
 use Rattle.job_texts.specs.declared.fault.JobFault.{JobFault}
 use Rattle.job_texts.specs.declared.fault.JobFault.TheVariants.{Plan, Input, Scale, Memory}
 use Rattle.job_texts.specs.Fault.{plan_fault, input_fault, scale_fault, is_memory}
 use Rattle.job.specs.declared.leg.LegEnd.{LegEnd}
-use Rattle.job.specs.Ends.{and_then, as_job, Ends}
+use Rattle.job.specs.Ends.{and_then, as_job, Does, Ends, IsHalted, IsLate}
 use Rattle.job.specs.Leg.{LegJob, GivesLeg}
 use Rattle.job.specs.Asked.{EndsLeg, IsEndSo}
 
@@ -79,20 +80,33 @@ pub told_of : {X F : Type 0} (said : Result X F) (fault_of : F → JobFault) (to
 told_of said fault_of told (inl e) = subst (λ z. Fails is_memory z (as_job fault_of said)) (sym e) tt
 told_of said fault_of told (inr (f, s, e)) = given (is_memory told) (ap (as_job fault_of) s ∙ ap Err (sym e))
 
+-- a fault of a part is one of what goes on from it
+pub passed_on : {X Y : Type 0} (next : X → Result Y JobFault) (said : Result X JobFault) (fault : JobFault) → Fails is_memory fault said → Fails is_memory fault (and_then next said)
+passed_on next said fault is = only (is_memory fault) (λ e. ap (and_then next) e) is
+
 pub err_is : {T E : Type 0} (r : Result T E) (e : E) → IsErr r → IsErrAnd r (λ y. y ≡ e) → r ≡ Err e
 err_is (Ok x) e fails is = absurd cc
 err_is (Err y) e fails is = ap Err is
 
 -- ---- the texts of a job
 
-module _ {J T : Type 0} (Other : JobFault → Type 0) (Can : J → Type 0) (Is : J → T → Type 0) where
+module _ {J T : Type 0} (Other : JobFault → Type 0) (Runs : J → Option LegFault → Type 0) (Is : J → T → Type 0) where
   -- a text is refused
-  pub refused : {X : Type 0} (next : X → Result J JobFault) (said : Result X JobFault) (fault : JobFault) (result : Result T JobFault) → IsErr result → IsErrAnd result (λ e. e ≡ fault) → Fails is_memory fault said → Ends Other Can Is (and_then next said) result
-  refused next said fault result fails gives is = subst (Ends Other Can Is (and_then next said)) (sym (err_is result fault fails gives)) (only (is_memory fault) (λ e. inl (ap (and_then next) e)) is)
+  pub refused : {X : Type 0} (next : X → Result J JobFault) (said : Result X JobFault) (fault : JobFault) (result : Result T JobFault) → IsErr result → IsErrAnd result (λ e. e ≡ fault) → Fails is_memory fault said → Ends Other Runs Is (and_then next said) result
+  refused next said fault result fails gives is = subst (Ends Other Runs Is (and_then next said)) (sym (err_is result fault fails gives)) (only (is_memory fault) (λ e. inl (ap (and_then next) e)) is)
 
   -- it is read, and the job ends so
-  pub read : {X : Type 0} (next : X → Result J JobFault) (said : Result X JobFault) (x : X) (result : Result T JobFault) → said ≡ Ok x → Ends Other Can Is (next x) result → Ends Other Can Is (and_then next said) result
-  read next said x result is ends = subst (λ z. Ends Other Can Is (and_then next z) result) (sym is) ends
+  pub read : {X : Type 0} (next : X → Result J JobFault) (said : Result X JobFault) (x : X) (result : Result T JobFault) → said ≡ Ok x → Ends Other Runs Is (next x) result → Ends Other Runs Is (and_then next said) result
+  read next said x result is ends = subst (λ z. Ends Other Runs Is (and_then next z) result) (sym is) ends
+
+-- what is not run is not done
+pub late : {J X Y : Type 0} (Other : JobFault → Type 0) (Runs : J → Option LegFault → Type 0) (Is : J → X → Type 0) (Done : J → Y → Type 0) (said : Result J JobFault) (fault : JobFault) (result : Result Y JobFault) → IsErr result → IsErrAnd result (λ e. e ≡ fault)
+    → Ends {X = X} Other Runs Is said (Err fault) → Does Other Runs Done said result
+late {J} Other Runs Is Done said fault result fails gives ends = subst (Does Other Runs Done said) (sym (err_is result fault fails gives)) (only (is_memory fault) why ends)
+  where
+    why : (said ≡ Err fault) ⊎ ((job : J) × (said ≡ Ok job) × IsHalted Other Runs job fault) → (said ≡ Err fault) ⊎ ((job : J) × (said ≡ Ok job) × IsLate Other Runs job fault)
+    why (inl refused) = inl refused
+    why (inr (job, is, halted)) = inr (job, is, inl halted)
 
 -- all texts of a leg are read
 pub told : (asked : Bool) (job : LegJob) (result : Result LegEnd JobFault) → GivesLeg (IsEndSo asked job) job result → EndsLeg asked (Ok job) result

@@ -22,7 +22,7 @@ use Rattle.job_texts.specs.Fault.{leg_fault, is_memory}
 use Rattle.job_texts.specs.Text.{IsTextOf}
 use Rattle.job_legs.specs.Ending.{IsLegsRefusal, IsThreadsRefusal}
 use Rattle.job.specs.Ends.{as_job, Ends, OnThreads}
-use Rattle.job.specs.Run.{run_job, CanRunSo, IsRunText, IsWholeRefusal}
+use Rattle.job.specs.Run.{run_job, RunRuns, IsRunText, IsWholeRefusal}
 use Rattle.job.proofs.LegAnswers.{given}
 
 -- the fault of a list is told as one of a job
@@ -82,10 +82,10 @@ are_chosen legs bytes choices e = of_data legs (json_of bytes) choices e
 
 -- why legs have no rows
 module _ (Other : JobFault → Type 0) {X : Type 0} (view : X → List ℕ) (p : PlanData) (i : InputData) (legs : List LegSpec) (list : are_legs legs ≡ true) (lists : ℕ) (each : lists ≡ length legs) where
-  pub legs_fail : (fault : LegFault) → IsLegsRefusal i legs lists fault → Ends {X = X} Other CanRunSo (λ job text. IsRunText job (view text)) (Ok (run_job p i (Some legs))) (Err (leg_fault fault))
+  pub legs_fail : (fault : LegFault) → IsLegsRefusal i legs lists fault → Ends {X = X} Other RunRuns (λ job text. IsRunText job (view text)) (Ok (run_job p i (Some legs))) (Err (leg_fault fault))
   legs_fail leg.Memory why = tt
-  legs_fail leg.StopRange why = inr (run_job p i (Some legs), refl, inl (refl, why.2))
-  legs_fail leg.SaveRange why = absurd why
+  legs_fail leg.StopRange why = inr (run_job p i (Some legs), refl, inl (leg.StopRange, refl, why.2))
+  legs_fail leg.SaveRange why = inr (run_job p i (Some legs), refl, inl (leg.SaveRange, refl, why.2))
   legs_fail leg.Legs why = absurd (neither (sym why ∙ list))
   legs_fail leg.Choices why = absurd (why.1 each)
   legs_fail leg.NotJson why = absurd why
@@ -95,10 +95,10 @@ module _ (Other : JobFault → Type 0) {X : Type 0} (view : X → List ℕ) (p :
 
 -- and why legs on threads have none
 module _ {X : Type 0} (view : X → List ℕ) (p : PlanData) (i : InputData) (legs : List LegSpec) (list : are_legs legs ≡ true) where
-  as_without : (fault : LegFault) → IsLegsRefusal i legs (length legs) fault → Ends {X = X} OnThreads CanRunSo (λ job text. IsRunText job (view text)) (Ok (run_job p i (Some legs))) (Err (leg_fault fault))
+  as_without : (fault : LegFault) → IsLegsRefusal i legs (length legs) fault → Ends {X = X} OnThreads RunRuns (λ job text. IsRunText job (view text)) (Ok (run_job p i (Some legs))) (Err (leg_fault fault))
   as_without fault why = legs_fail OnThreads view p i legs list (length legs) refl fault why
 
-  pub threads_fail : (fault : LegFault) → IsThreadsRefusal i legs fault → Ends {X = X} OnThreads CanRunSo (λ job text. IsRunText job (view text)) (Ok (run_job p i (Some legs))) (Err (leg_fault fault))
+  pub threads_fail : (fault : LegFault) → IsThreadsRefusal i legs fault → Ends {X = X} OnThreads RunRuns (λ job text. IsRunText job (view text)) (Ok (run_job p i (Some legs))) (Err (leg_fault fault))
   threads_fail leg.Threads why = inr (run_job p i (Some legs), refl, inr refl)
   threads_fail leg.Memory why = as_without leg.Memory why
   threads_fail leg.StopRange why = as_without leg.StopRange why
@@ -111,7 +111,7 @@ module _ {X : Type 0} (view : X → List ℕ) (p : PlanData) (i : InputData) (le
 
 -- a job that runs as one leg
 pub alone : {X : Type 0} (view : X → List ℕ) (p : PlanData) (i : InputData) (result : Result X JobFault) → MatchResult result (λ text. IsTextOf (plan_rows p i.sources) (view text)) IsWholeRefusal
-    → Ends {X = X} OnThreads CanRunSo (λ job text. IsRunText job (view text)) (Ok (run_job p i None)) result
+    → Ends {X = X} OnThreads RunRuns (λ job text. IsRunText job (view text)) (Ok (run_job p i None)) result
 alone view p i (Ok text) is = (run_job p i None, refl, tt, is)
-alone {X} view p i (Err fault) (inl memory) = subst (λ f. Ends {X = X} OnThreads CanRunSo (λ job text. IsRunText job (view text)) (Ok (run_job p i None)) (Err f)) (sym memory) tt
+alone {X} view p i (Err fault) (inl memory) = subst (λ f. Ends {X = X} OnThreads RunRuns (λ job text. IsRunText job (view text)) (Ok (run_job p i None)) (Err f)) (sym memory) tt
 alone view p i (Err fault) (inr threads) = given (is_memory fault) (inr (run_job p i None, refl, inr threads))

@@ -1,5 +1,5 @@
 -- What running a leg answers that may be asked to stop.
-use Rattle.std.specs.Prelude.{◌⊎◌, ℕ, Bool, true, false, List, Option, None, Result, option_map}
+use Rattle.std.specs.Prelude.{◌≡◌, ◌⊎◌, ℕ, Bool, true, false, List, [], Option, None, Result, option_map}
 use Rattle.legs.specs.declared.cut.Cut.{Cut}
 use Rattle.legs.specs.declared.stop.Stop.{Stop}
 use Rattle.legs.specs.declared.stop.Stop.TheVariants.{Never, At}
@@ -10,15 +10,16 @@ use Rattle.job.specs.declared.leg.LegEnd.{LegEnd}
 use Rattle.job.specs.declared.leg.LegStop.{LegStop}
 use Rattle.job.specs.declared.leg.LegStop.TheVariants.{Spelled, Asked}
 use Rattle.job.specs.Ends.{Ends, Does, OnThreads}
-use Rattle.job.specs.Leg.{LegJob, CanStopSo, IsLegEnd, IsLegDone}
+use Rattle.job.specs.declared.leg.Aims.{Aims as ThreadAims}
+use Rattle.job.specs.Leg.{LegAims, LegJob, LegLeft, LegRuns, LegWords, IsLegEnd, IsLegDone, words}
 
--- the word of a cut, where one says where a leg stops, and whether it may be asked to
-abbrev pub word_of : LegStop → Option (List ℕ)
-word_of (Spelled word) = option_map (λ w. w.now) word
-word_of (Asked word) = None
+-- the words that say where a leg takes savepoints and stops, and whether it may be asked to stop; then it takes none on its way
+abbrev pub words_of : LegStop → LegWords
+words_of (Spelled saves stop) = words (option_map (λ w. w.now) saves) (option_map (λ w. w.now) stop)
+words_of (Asked word) = words None None
 
 abbrev pub is_asked : LegStop → Bool
-is_asked (Spelled word) = false
+is_asked (Spelled saves stop) = false
 is_asked (Asked word) = true
 
 -- where it stops if nobody asks it to, and whether one may
@@ -32,6 +33,14 @@ may_ask on_threads.Never = false
 may_ask (on_threads.At cut) = false
 may_ask (on_threads.Asked word) = true
 
+-- where a leg takes savepoints on its way, and where it stops if nobody asks it to
+abbrev pub aims_in : ThreadAims → LegAims
+aims_in aims = record { saves = aims.saves; stop = stop_in aims.stop }
+
+-- one that may be asked to stop takes none
+abbrev pub AreAims : ThreadAims → Type 0
+AreAims aims = may_ask aims.stop ≡ true → aims.saves ≡ []
+
 -- the leg of the same texts that is to stop at a cut
 abbrev pub stopping_at : Cut → LegJob → LegJob
 stopping_at cut job = record job { stop = At cut }
@@ -39,7 +48,7 @@ stopping_at cut job = record job { stop = At cut }
 -- so ends the leg; where it may be asked to stop, it ends so or as one ends that is to stop at a cut, and can
 abbrev pub EndsSo : Bool → (LegJob → Type 0) → LegJob → Type 0
 EndsSo false Is job = Is job
-EndsSo true Is job = Is job ⊎ ((cut : Cut) × CanStopSo (stopping_at cut job) × Is (stopping_at cut job))
+EndsSo true Is job = Is job ⊎ ((cut : Cut) × LegRuns (stopping_at cut job) None × Is (stopping_at cut job))
 
 -- what it gives then
 abbrev pub IsEndSo : Bool → LegJob → LegEnd → Type 0
@@ -47,8 +56,8 @@ IsEndSo asked job end = EndsSo asked (λ leg. IsLegEnd leg end) job
 
 -- what reading the texts of a leg and running it answers, where it may be asked to stop and where not
 abbrev pub EndsLeg : Bool → Result LegJob JobFault → Result LegEnd JobFault → Type 0
-EndsLeg asked said result = Ends OnThreads CanStopSo (IsEndSo asked) said result
+EndsLeg asked said result = Ends OnThreads LegRuns (IsEndSo asked) said result
 
 -- where the answer is Ok, all is done that a leg does that goes to the end of the input, or all that one does that is to stop at some cut at which it can; else the refusal is the first that the texts give, or one of the job that they say
-abbrev pub TellsAskedLeg : {X : Type 0} → (X → Option (List ℕ)) → Result LegJob JobFault → Result X JobFault → Option (List ℕ) → Option (List ℕ) → Type 0
-TellsAskedLeg view said result old new = Does OnThreads CanStopSo (λ job saved. EndsSo true (λ leg. IsLegDone old new leg (view saved)) job) said result
+abbrev pub TellsAskedLeg : {X : Type 0} → (X → LegLeft) → Result LegJob JobFault → Result X JobFault → Option (List ℕ) → Option (List ℕ) → Type 0
+TellsAskedLeg view said result old new = Does OnThreads LegRuns (λ job left. EndsSo true (λ leg. IsLegDone old new leg (view left)) job) said result

@@ -1,8 +1,9 @@
 -- What a call answers that reads texts and does the job that they say.
-use Rattle.std.specs.Prelude.{◌≡◌, ◌⊎◌, Result, Ok, Err}
+use Rattle.std.specs.Prelude.{◌≡◌, ◌⊎◌, Option, Some, None, Result, Ok, Err}
 use Rattle.std.specs.Result.{result_map_both}
 use Rattle.answers.specs.Answer.{unless}
-use Rattle.legs.specs.declared.fault.LegFault.TheVariants.{StopRange, Threads}
+use Rattle.legs.specs.declared.fault.LegFault.{LegFault}
+use Rattle.legs.specs.declared.fault.LegFault.TheVariants.{Threads}
 use Rattle.job_texts.specs.declared.fault.JobFault.{JobFault}
 use Rattle.job_texts.specs.declared.fault.JobFault.TheVariants.{Leg, Write}
 use Rattle.job_texts.specs.Fault.{is_memory}
@@ -23,20 +24,25 @@ InOneThread fault = ⊥
 abbrev pub OnThreads : JobFault → Type 0
 OnThreads fault = fault ≡ Leg Threads
 
--- why a job that was read does not run: one of its legs cannot stop as it is to, or what its legs may be refused for besides
-abbrev pub IsHalted : {J : Type 0} → (JobFault → Type 0) → (J → Type 0) → J → JobFault → Type 0
-IsHalted Other Can job fault = ((fault ≡ Leg StopRange) × ¬ Can job) ⊎ Other fault
+-- why a job that was read does not run: one of its legs cannot run so, or what its legs may be refused for besides
+abbrev pub IsHalted : {J : Type 0} → (JobFault → Type 0) → (J → Option LegFault → Type 0) → J → JobFault → Type 0
+IsHalted Other Runs job fault = ((why : LegFault) × (fault ≡ Leg why) × Runs job (Some why)) ⊎ Other fault
 
--- where the answer is Ok, it is of the job that texts say, whose legs can stop as they are to; else the refusal is the first that the texts give, or that of a job that does not run
-abbrev pub Ends : {J X : Type 0} → (JobFault → Type 0) → (J → Type 0) → (J → X → Type 0) → Result J JobFault → Result X JobFault → Type 0
-Ends {J} Other Can Is said (Ok x) = (job : J) × (said ≡ Ok job) × Can job × Is job x
-Ends {J} Other Can Is said (Err fault) = unless (is_memory fault) ((said ≡ Err fault) ⊎ ((job : J) × (said ≡ Ok job) × IsHalted Other Can job fault))
+-- where the answer is Ok, it is of the job that texts say, whose legs can run so; else the refusal is the first that the texts give, or that of a job that does not run. Runs says of a job that it can run so, and with a fault that it cannot, and that this is why
+abbrev pub Ends : {J X : Type 0} → (JobFault → Type 0) → (J → Option LegFault → Type 0) → (J → X → Type 0) → Result J JobFault → Result X JobFault → Type 0
+Ends {J} Other Runs Is said (Ok x) = (job : J) × (said ≡ Ok job) × Runs job None × Is job x
+Ends {J} Other Runs Is said (Err fault) = unless (is_memory fault) ((said ≡ Err fault) ⊎ ((job : J) × (said ≡ Ok job) × IsHalted Other Runs job fault))
+
+-- what always can run
+abbrev pub always : {J : Type 0} → J → Option LegFault → Type 0
+always job None = Unit {0}
+always job (Some fault) = ⊥
 
 -- why a job that was read is not done: it does not run, or what it gives cannot be written
-abbrev pub IsLate : {J : Type 0} → (JobFault → Type 0) → (J → Type 0) → J → JobFault → Type 0
-IsLate Other Can job fault = IsHalted Other Can job fault ⊎ ((fault ≡ Write) × Can job)
+abbrev pub IsLate : {J : Type 0} → (JobFault → Type 0) → (J → Option LegFault → Type 0) → J → JobFault → Type 0
+IsLate Other Runs job fault = IsHalted Other Runs job fault ⊎ ((fault ≡ Write) × Runs job None)
 
 -- where the answer is Ok, the job is done; else the refusal is the first that the texts give, or one of the job that they say
-abbrev pub Does : {J X : Type 0} → (JobFault → Type 0) → (J → Type 0) → (J → X → Type 0) → Result J JobFault → Result X JobFault → Type 0
-Does {J} Other Can Done said (Ok x) = (job : J) × (said ≡ Ok job) × Can job × Done job x
-Does {J} Other Can Done said (Err fault) = unless (is_memory fault) ((said ≡ Err fault) ⊎ ((job : J) × (said ≡ Ok job) × IsLate Other Can job fault))
+abbrev pub Does : {J X : Type 0} → (JobFault → Type 0) → (J → Option LegFault → Type 0) → (J → X → Type 0) → Result J JobFault → Result X JobFault → Type 0
+Does {J} Other Runs Done said (Ok x) = (job : J) × (said ≡ Ok job) × Runs job None × Done job x
+Does {J} Other Runs Done said (Err fault) = unless (is_memory fault) ((said ≡ Err fault) ⊎ ((job : J) × (said ≡ Ok job) × IsLate Other Runs job fault))

@@ -11,12 +11,13 @@ use Rattle.stream_model.specs.Watermarks.{empty_cut}
 use Rattle.input_texts.specs.Answer.{input_of_bytes}
 use Rattle.leg_lists.specs.Answer.{legs_of_bytes}
 use Rattle.leg_lists.specs.ChoicesText.{choices_of_bytes}
+use Rattle.legs.specs.declared.fault.LegFault.{LegFault}
 use Rattle.legs.specs.declared.leg.LegSpec.{LegSpec}
 use Rattle.job_texts.specs.declared.fault.JobFault.{JobFault}
 use Rattle.job_texts.specs.declared.fault.JobFault.TheVariants.{Plan, Input, Memory}
 use Rattle.job_texts.specs.Fault.{leg_fault}
 use Rattle.job_texts.specs.Text.{IsTextOf}
-use Rattle.job_legs.specs.Running.{CanRunLegs, last_stop}
+use Rattle.job_legs.specs.Running.{CanRunLegs, ForbidsLegs, last_stop}
 use Rattle.job_legs.specs.Ending.{rows_to}
 use Rattle.job.specs.Ends.{and_then, as_job, Ends, Does, OnThreads}
 
@@ -50,13 +51,15 @@ run_by p input legs choices = and_then (λ i. run_with p i legs choices) (as_job
 unfoldable pub run_said : List ℕ → List ℕ → Option (List ℕ) → Option (List ℕ) → Result RunJob JobFault
 run_said plan input legs choices = and_then (λ p. run_by p input legs choices) (as_job Plan (plan_of_bytes plan))
 
--- its legs, if it runs in legs, can stop as they are to, each from where the one before stopped
-abbrev pub can_run : InputData → Option (List LegSpec) → Type 0
-can_run i None = Unit {0}
-can_run i (Some legs) = CanRunLegs i (empty_cut i.sources) legs
+-- its legs, if it runs in legs, can run so, each from where the one before stopped, or why they cannot
+abbrev pub legs_run : InputData → Option (List LegSpec) → Option LegFault → Type 0
+legs_run i None None = Unit {0}
+legs_run i None (Some fault) = ⊥
+legs_run i (Some legs) None = CanRunLegs i (empty_cut i.sources) legs
+legs_run i (Some legs) (Some fault) = ForbidsLegs i (empty_cut i.sources) legs fault
 
-abbrev pub CanRunSo : RunJob → Type 0
-CanRunSo job = can_run job.input job.legs
+abbrev pub RunRuns : RunJob → Option LegFault → Type 0
+RunRuns job why = legs_run job.input job.legs why
 
 -- the rows of a job: all of the plan's, or those of where its last leg comes to
 abbrev pub job_rows : PlanData → InputData → Option (List LegSpec) → Pane → Option Row
@@ -68,7 +71,7 @@ IsRunText job text = IsTextOf (job_rows job.plan job.input job.legs) text
 
 -- what reading the texts of a job and running it answers
 abbrev pub EndsRun : {X : Type 0} → (JobFault → Type 0) → (X → List ℕ) → Result RunJob JobFault → Result X JobFault → Type 0
-EndsRun Other view said result = Ends Other CanRunSo (λ job text. IsRunText job (view text)) said result
+EndsRun Other view said result = Ends Other RunRuns (λ job text. IsRunText job (view text)) said result
 
 -- why a leg that goes from nothing to the end on threads has no rows: for want of memory, or of a thread
 abbrev pub IsWholeRefusal : JobFault → Type 0
@@ -79,7 +82,7 @@ abbrev pub WritesRows : Option (List ℕ) → Option (List ℕ) → RunJob → T
 WritesRows old new job = (text : List ℕ) × IsRunText job text × Appends old new text
 
 abbrev pub Answers : (JobFault → Type 0) → Result RunJob JobFault → Result (Unit {0}) JobFault → Option (List ℕ) → Option (List ℕ) → Type 0
-Answers Other said result old new = Does Other CanRunSo (λ job _. WritesRows old new job) said result
+Answers Other said result old new = Does Other RunRuns (λ job _. WritesRows old new job) said result
 
 -- bytes are a plan and an input of it, and what a writer held has grown by exactly the lines of the plan's rows on the input, one for each key and nonempty window that its conditions keep, in the order of start and key
 pub record WritesPlanRows (plan input : List ℕ) (old new : Option (List ℕ)) : Type 0 where

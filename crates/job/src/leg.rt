@@ -1,21 +1,24 @@
 //! One leg of a job, from bytes to bytes.
 
-ghost use Rattle.std.specs.Prelude.{◌≡◌, IfOk, None, option_map};
+ghost use Rattle.std.specs.Prelude.{◌≡◌, false, IfOk, IfSome, None, option_map};
 ghost use Rattle.answers.specs.Answer.{Gives};
 ghost use Rattle.layout_rules.specs.Scale.{IsScale};
 ghost use Rattle.redistribute.specs.Begins.{IsStartIn};
+ghost use Rattle.savepoint_codec.specs.Layout.{IsSavepoint};
 ghost use Rattle.stream_model.specs.InputData.{BelongsTo};
 ghost use Rattle.job_texts.specs.Fault.{is_memory};
 ghost use Rattle.job_texts.specs.Tells.{KeepsWriter};
-ghost use Rattle.job.specs.Leg.{AreLegRows, GivesLeg, IsLegSaved, TellsLeg, job_with, leg_by, leg_job, leg_on, leg_said, start_said, stop_said};
-ghost use Rattle.job.specs.Asked.{EndsLeg, EndsSo, IsEndSo, TellsAskedLeg, is_asked, may_ask, stop_in, word_of};
+ghost use Rattle.job.specs.Leg.{AreLegRows, GivesLeg, IsGivenBy, TellsLeg, aims_said, job_with, leg_by, leg_job, leg_on, leg_said, left_in, saves_said, start_said, stop_said, words};
+ghost use Rattle.job.specs.Asked.{AreAims, EndsLeg, EndsSo, IsEndSo, TellsAskedLeg, aims_in, is_asked, may_ask, stop_in, words_of};
 
 use crate::reading::read_input;
 use core_steps::Finish;
 use job_legs::saved_bytes;
-use job_texts::{JobFault, read_cut, sort_rows, text_of_rows, write_text};
+use job_texts::{JobFault, read_cut, read_cuts, sort_rows, text_of_rows, write_text};
 use layout_rules::Scale;
+use legs::Cut;
 use logical_plan::ReadPlan;
+use plain_data::Items;
 use plan_model::{Plan, Row};
 use plan_scale::ReadScale;
 use redistribute::Start;
@@ -54,33 +57,103 @@ pub fn start_of(
     Ok(check(alloc, plan, input, &savepoint)?)
 }
 
-/// Where a leg is to stop.
+/// Where a leg is to take savepoints on its way, and to stop.
 #[derive(Drop)]
 enum LegStop<'a> {
-    /// At the cut that a word spells, or never.
-    Spelled(Option<&'a str>),
-    /// Where it has come once this word is set.
+    /// Savepoints at the cuts that the first word spells, or none, and a stop at the cut that the second spells, or never.
+    Spelled(Option<&'a str>, Option<&'a str>),
+    /// No savepoint on the way, and a stop where it has come once this word is set.
     Asked(Arc<AtomicBool>),
 }
 
-/// Where a leg stops, once it is read.
-#[tactic(auto, unfolding(crate::specs::Leg::stop_said))]
-fn stop_of(alloc: Global, stop: LegStop<'_>) -> Result<Stop, JobFault>
-    ensures reads { Gives is_memory stop_in result (stop_said (word_of stop.entry)) }
-    ensures asks { IfOk result (λ told. may_ask told ≡ is_asked stop.entry) }
+/// Where a leg takes savepoints on its way, and where it stops.
+#[derive(Drop)]
+struct Aims {
+    saves: Items<Cut>,
+    stop: Stop,
+}
+
+/// The cuts at which a leg takes savepoints on its way.
+#[tactic(auto, unfolding(crate::specs::Leg::saves_said))]
+fn saves_of(alloc: Global, word: Option<&str>) -> Result<Items<Cut>, JobFault>
+    ensures { Gives is_memory (λ saves. saves) result (saves_said (option_map (λ word. word.now) word.entry)) }
 {
-    match stop {
-        LegStop::Spelled(None) => Ok(Stop::Never),
-        LegStop::Spelled(Some(word)) => Ok(Stop::At(read_cut(alloc, word)?)),
-        LegStop::Asked(word) => Ok(Stop::Asked(word)),
+    match word {
+        None => Ok(Items::from_vec(Vec::new(alloc))),
+        Some(word) => Ok(read_cuts(alloc, word)?),
     }
 }
 
-/// The rows that a leg delivers, in the order in which they came, and the savepoint that it leaves where it stops.
+/// Where a leg stops that nobody asks to.
+#[tactic(auto, unfolding(crate::specs::Leg::stop_said))]
+fn stop_of(alloc: Global, word: Option<&str>) -> Result<Stop, JobFault>
+    ensures reads { Gives is_memory stop_in result (stop_said (option_map (λ word. word.now) word.entry)) }
+    ensures asks { IfOk result (λ told. may_ask told ≡ false) }
+{
+    match word {
+        None => Ok(Stop::Never),
+        Some(word) => Ok(Stop::At(read_cut(alloc, word)?)),
+    }
+}
+
+/// Where a leg takes savepoints and stops, once it is read.
+#[tactic(auto, unfolding(crate::specs::Leg::aims_said))]
+fn aims_of(alloc: Global, stop: LegStop<'_>) -> Result<Aims, JobFault>
+    ensures reads { Gives is_memory aims_in result (aims_said (words_of stop.entry)) }
+    ensures asks { IfOk result (λ aims. may_ask aims.stop ≡ is_asked stop.entry) }
+    ensures sound { IfOk result AreAims }
+{
+    match stop {
+        LegStop::Spelled(saves, stop) => {
+            let saves = saves_of(alloc, saves)?;
+            let stop = stop_of(alloc, stop)?;
+            Ok(Aims { saves, stop })
+        }
+        LegStop::Asked(word) => Ok(Aims {
+            saves: Items::from_vec(Vec::new(alloc)),
+            stop: Stop::Asked(word),
+        }),
+    }
+}
+
+/// The rows that a leg delivers, in the order in which they came, the savepoint that it leaves, and whether it was given up.
 #[derive(Drop)]
 struct LegRows {
     rows: Vec<Row>,
     savepoint: Option<Savepoint>,
+    abandoned: bool,
+}
+
+/// What a leg gives by how it ended.
+fn rows_of(finish: Finish) -> LegRows
+    ensures { IsGivenBy finish result }
+{
+    match finish {
+        Finish::Ended(rows, sealed) => LegRows {
+            rows: rows.into_vec(),
+            savepoint: sealed.map(|sealed| sealed.savepoint),
+            abandoned: false,
+        },
+        Finish::Stopped(rows, savepoint) => LegRows {
+            rows: rows.into_vec(),
+            savepoint: Some(savepoint),
+            abandoned: false,
+        },
+        Finish::Abandoned(sealed) => LegRows {
+            rows: sealed.rows.into_vec(),
+            savepoint: Some(sealed.savepoint),
+            abandoned: true,
+        },
+    }
+}
+
+/// Looks at a savepoint: it has a spelling.
+fn see(savepoint: &Option<Savepoint>)
+    ensures { IfSome savepoint.now IsSavepoint }
+{
+    if let Some(savepoint) = savepoint {
+        let _contents = savepoint.contents();
+    }
 }
 
 /// Runs a leg.
@@ -92,36 +165,40 @@ fn leg_rows<R: Threads + Wait + Clock + Sync, G: Gate>(
     input: &Input,
     scale: &Scale,
     start: &Start,
-    stop: Stop,
+    aims: Aims,
     gate: &G,
 ) -> Result<LegRows, JobFault>
     requires belongs { BelongsTo plan.now input.now }
     requires scale { IsScale plan.now scale.now }
     requires starts { IsStartIn plan.now input.now start.now }
-    ensures { let job = leg_job plan.now input.now start.now (stop_in stop) in GivesLeg (λ given. EndsSo (may_ask stop) (λ leg. AreLegRows leg given.rows.items × IsLegSaved leg given.savepoint) job) job result }
+    requires aims { AreAims aims }
+    ensures { let job = leg_job plan.now input.now start.now (aims_in aims) in GivesLeg (λ given. EndsSo (may_ask aims.stop) (λ leg. AreLegRows given.abandoned leg given.rows.items given.savepoint) job) job result }
 {
-    let finish = run_leg(rt, alloc, keys, plan, input, start, scale, &[], stop, gate)?;
-    match finish {
-        Finish::Ended(rows, _) => Ok(LegRows {
-            rows: rows.into_vec(),
-            savepoint: None,
-        }),
-        Finish::Stopped(rows, savepoint) => {
-            let _contents = savepoint.contents();
-            Ok(LegRows {
-                rows: rows.into_vec(),
-                savepoint: Some(savepoint),
-            })
-        }
-        Finish::Abandoned(_) => unreachable!(),
-    }
+    let Aims { saves, stop } = aims;
+    let saves = saves.as_slice();
+    let finish = run_leg(
+        rt, alloc, keys, plan, input, start, scale, saves, stop, gate,
+    )?;
+    let given = rows_of(finish);
+    see(&given.savepoint);
+    Ok(given)
 }
 
-/// What a leg writes, and the bytes of the savepoint that it leaves where it stops.
+/// What a leg leaves besides its rows.
+#[derive(Drop)]
+pub struct LegOut {
+    /// The bytes of its savepoint: that of the cut where it stops; where it does not stop or was given up, the last of those on its
+    /// way that it has taken, if it has taken one.
+    pub savepoint: Option<Vec<u8>>,
+    /// Whether it was given up for want of memory. Its rows are then those up to the savepoint's cut, and a leg from there goes on.
+    pub abandoned: bool,
+}
+
+/// What a leg writes, and what it leaves besides.
 #[derive(Drop)]
 struct LegEnd {
     text: String,
-    saved: Option<Vec<u8>>,
+    out: LegOut,
 }
 
 /// Runs a leg, and spells what it gives.
@@ -133,19 +210,24 @@ fn leg_end<R: Threads + Wait + Clock + Sync, G: Gate>(
     input: &Input,
     scale: &Scale,
     start: &Start,
-    stop: Stop,
+    aims: Aims,
     gate: &G,
 ) -> Result<LegEnd, JobFault>
     requires belongs { BelongsTo plan.now input.now }
     requires scale { IsScale plan.now scale.now }
     requires starts { IsStartIn plan.now input.now start.now }
-    ensures { let job = leg_job plan.now input.now start.now (stop_in stop) in GivesLeg (IsEndSo (may_ask stop) job) job result }
+    requires aims { AreAims aims }
+    ensures { let job = leg_job plan.now input.now start.now (aims_in aims) in GivesLeg (IsEndSo (may_ask aims.stop) job) job result }
 {
-    let mut given = leg_rows(rt, alloc, keys, plan, input, scale, start, stop, gate)?;
+    let mut given = leg_rows(rt, alloc, keys, plan, input, scale, start, aims, gate)?;
     sort_rows(&mut given.rows)?;
     let text = text_of_rows(alloc, &given.rows)?;
-    let saved = saved_bytes(alloc, &given.savepoint)?;
-    Ok(LegEnd { text, saved })
+    let savepoint = saved_bytes(alloc, &given.savepoint)?;
+    let out = LegOut {
+        savepoint,
+        abandoned: given.abandoned,
+    };
+    Ok(LegEnd { text, out })
 }
 
 /// The leg of a plan, an input and a scale.
@@ -162,11 +244,11 @@ fn leg_at_scale<R: Threads + Wait + Clock + Sync, G: Gate>(
 ) -> Result<LegEnd, JobFault>
     requires belongs { BelongsTo plan.now input.now }
     requires scale { IsScale plan.now scale.now }
-    ensures { EndsLeg (is_asked stop.entry) (job_with plan.now input.now (option_map (λ bytes. bytes.now) from.entry) (word_of stop.entry)) result }
+    ensures { EndsLeg (is_asked stop.entry) (job_with plan.now input.now (option_map (λ bytes. bytes.now) from.entry) (words_of stop.entry)) result }
 {
     let start = start_of(alloc, plan, input, from)?;
-    let stop = stop_of(alloc, stop)?;
-    leg_end(rt, alloc, keys, plan, input, scale, &start, stop, gate)
+    let aims = aims_of(alloc, stop)?;
+    leg_end(rt, alloc, keys, plan, input, scale, &start, aims, gate)
 }
 
 /// The leg of a plan and an input.
@@ -182,7 +264,7 @@ fn leg_on_input<R: Threads + Wait + Clock + Sync, G: Gate>(
     gate: &G,
 ) -> Result<LegEnd, JobFault>
     requires { BelongsTo plan.now input.now }
-    ensures { EndsLeg (is_asked stop.entry) (leg_on plan.now input.now scale.now (option_map (λ bytes. bytes.now) from.entry) (word_of stop.entry)) result }
+    ensures { EndsLeg (is_asked stop.entry) (leg_on plan.now input.now scale.now (option_map (λ bytes. bytes.now) from.entry) (words_of stop.entry)) result }
 {
     let scale = Scale::read(alloc, plan, scale)?;
     leg_at_scale(rt, alloc, keys, plan, input, &scale, from, stop, gate)
@@ -200,7 +282,7 @@ fn leg_of_plan<R: Threads + Wait + Clock + Sync, G: Gate>(
     stop: LegStop<'_>,
     gate: &G,
 ) -> Result<LegEnd, JobFault>
-    ensures { EndsLeg (is_asked stop.entry) (leg_by plan.now input.items scale.now (option_map (λ bytes. bytes.now) from.entry) (word_of stop.entry)) result }
+    ensures { EndsLeg (is_asked stop.entry) (leg_by plan.now input.items scale.now (option_map (λ bytes. bytes.now) from.entry) (words_of stop.entry)) result }
 {
     let input = read_input(alloc, plan, input)?;
     leg_on_input(rt, alloc, keys, plan, &input, scale, from, stop, gate)
@@ -218,7 +300,7 @@ fn leg_of_texts<R: Threads + Wait + Clock + Sync, G: Gate>(
     stop: LegStop<'_>,
     gate: &G,
 ) -> Result<LegEnd, JobFault>
-    ensures { EndsLeg (is_asked stop.entry) (leg_said plan.now input.items scale.now (option_map (λ bytes. bytes.now) from.entry) (word_of stop.entry)) result }
+    ensures { EndsLeg (is_asked stop.entry) (leg_said plan.now input.items scale.now (option_map (λ bytes. bytes.now) from.entry) (words_of stop.entry)) result }
 {
     let plan = Plan::read(alloc, plan)?;
     leg_of_plan(rt, alloc, keys, &plan, input, scale, from, stop, gate)
@@ -226,14 +308,16 @@ fn leg_of_texts<R: Threads + Wait + Clock + Sync, G: Gate>(
 
 /// Runs one leg of a job at a scale, from nothing or from the savepoint that `from` has the bytes of, to the end of the input
 /// or to the cut that the word `stop` spells, and writes the text of its rows: those that become due on the way, one line
-/// each, in the order of start and key. Where it stops it gives the bytes of the savepoint that it leaves there. Each of its
-/// tasks runs in a thread of its own, and passes the gate before each of its steps.
+/// each, in the order of start and key. On its way it takes savepoints at the cuts that the word `saves` spells, with a `+` between
+/// them, and goes on. Where memory runs out behind one of them that is complete, the leg is given up: it writes the rows up to that
+/// one's cut, and leaves that savepoint. Each of its tasks runs in a thread of its own, and passes the gate before each of its
+/// steps.
 ///
 /// # Errors
 ///
 /// The plan's fault, else the input's, the scale's, the savepoint's, `Restore` where the job cannot go on from it, `Cut`;
-/// then `Leg` with `StopRange` where a leg from there cannot stop so, or with `Threads` where a thread was refused; `Write` where
-/// the writer refuses the text; `Memory`.
+/// then `Leg` with `StopRange` where a leg from there cannot stop so, else with `SaveRange` where it cannot take its savepoints on
+/// the way there, or with `Threads` where a thread was refused; `Write` where the writer refuses the text; `Memory`.
 pub fn job_leg<R: Threads + Wait + Clock + Sync, G: Gate, W: Write>(
     rt: &R,
     alloc: Global,
@@ -242,23 +326,22 @@ pub fn job_leg<R: Threads + Wait + Clock + Sync, G: Gate, W: Write>(
     input: Vec<u8>,
     scale: &[u8],
     from: Option<&[u8]>,
+    saves: Option<&str>,
     stop: Option<&str>,
     gate: &G,
     out: &mut W,
-) -> Result<Option<Vec<u8>>, JobFault>
-    ensures answers { TellsLeg (λ saved. option_map (λ bytes. bytes.items) saved) (leg_said plan.now input.items scale.now (option_map (λ bytes. bytes.now) from.entry) (option_map (λ word. word.now) stop.entry)) result (W.contents out.old) (W.contents out.new) }
+) -> Result<LegOut, JobFault>
+    ensures answers { TellsLeg left_in (leg_said plan.now input.items scale.now (option_map (λ bytes. bytes.now) from.entry) (words (option_map (λ word. word.now) saves.entry) (option_map (λ word. word.now) stop.entry))) result (W.contents out.old) (W.contents out.new) }
     ensures kept { KeepsWriter result (W.contents out.old) (W.contents out.new) }
 {
-    let stop = LegStop::Spelled(stop);
-    let LegEnd { text, saved } = leg_of_texts(
-        rt, alloc, keys, plan, input, scale, from, stop, gate,
-    )?;
-    write_text(out, text.as_str())?;
-    Ok(saved)
+    let stop = LegStop::Spelled(saves, stop);
+    let end = leg_of_texts(rt, alloc, keys, plan, input, scale, from, stop, gate)?;
+    write_text(out, end.text.as_str())?;
+    Ok(end.out)
 }
 
 /// Runs one leg of a job as [`job_leg`] does, but to the end of the input or, once the word `asked` is set, to where it has come then.
-/// Where it stops it gives the bytes of the savepoint that it leaves there: at a cut of the input that no one knows before, and it has
+/// It takes no savepoint on its way. Where it stops it gives the bytes of the savepoint that it leaves there: at a cut of the input that no one knows before, and it has
 /// written the text of just those rows that a leg writes that is to stop at that cut. A word that is set before stops the leg where
 /// it begins.
 ///
@@ -277,14 +360,12 @@ pub fn job_leg_asked<R: Threads + Wait + Clock + Sync, G: Gate, W: Write>(
     asked: Arc<AtomicBool>,
     gate: &G,
     out: &mut W,
-) -> Result<Option<Vec<u8>>, JobFault>
-    ensures answers { TellsAskedLeg (λ saved. option_map (λ bytes. bytes.items) saved) (leg_said plan.now input.items scale.now (option_map (λ bytes. bytes.now) from.entry) None) result (W.contents out.old) (W.contents out.new) }
+) -> Result<LegOut, JobFault>
+    ensures answers { TellsAskedLeg left_in (leg_said plan.now input.items scale.now (option_map (λ bytes. bytes.now) from.entry) (words None None)) result (W.contents out.old) (W.contents out.new) }
     ensures kept { KeepsWriter result (W.contents out.old) (W.contents out.new) }
 {
     let stop = LegStop::Asked(asked);
-    let LegEnd { text, saved } = leg_of_texts(
-        rt, alloc, keys, plan, input, scale, from, stop, gate,
-    )?;
-    write_text(out, text.as_str())?;
-    Ok(saved)
+    let end = leg_of_texts(rt, alloc, keys, plan, input, scale, from, stop, gate)?;
+    write_text(out, end.text.as_str())?;
+    Ok(end.out)
 }

@@ -14,9 +14,9 @@ mod start;
 mod whole;
 
 pub use cuts::{CutQuestion, job_cuts};
-pub use job_texts::{JobFault, fault_line, job_group, read_cut, status_of};
+pub use job_texts::{JobFault, fault_line, job_group, read_cut, read_cuts, status_of};
 pub use layout::job_layout;
-pub use leg::{job_leg, job_leg_asked, start_of};
+pub use leg::{LegOut, job_leg, job_leg_asked, start_of};
 pub use parallel::job_run_parallel;
 pub use readers::{MOST_BYTES, read_all};
 pub use run::job_run;

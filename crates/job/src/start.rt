@@ -1,13 +1,13 @@
 //! Whether a leg of a job can begin, and stop as it is to.
 
-ghost use Rattle.std.specs.Prelude.{◌≡◌, MatchResult, option_map};
+ghost use Rattle.std.specs.Prelude.{◌≡◌, MatchResult, None, option_map};
 ghost use Rattle.answers.specs.Answer.{Gives};
 ghost use Rattle.legs.specs.declared.fault.LegFault.TheVariants.{StopRange};
 ghost use Rattle.stream_model.specs.InputData.{BelongsTo};
 ghost use Rattle.redistribute.specs.StartData.{offsets_of};
 ghost use Rattle.redistribute.specs.Stopping.{CanStop};
 ghost use Rattle.job_texts.specs.Fault.{is_memory};
-ghost use Rattle.job.specs.Leg.{job_with, stop_said};
+ghost use Rattle.job.specs.Leg.{job_with, stop_said, words};
 ghost use Rattle.job.specs.Start.{BeginsLeg};
 
 use crate::leg::start_of;
@@ -51,7 +51,7 @@ pub fn job_start(
     stop: Option<&str>,
 ) -> Result<(), JobFault>
     requires { BelongsTo plan.now input.now }
-    ensures { BeginsLeg (job_with plan.now input.now (option_map (λ bytes. bytes.now) from.entry) (option_map (λ word. word.now) stop.entry)) result }
+    ensures { BeginsLeg (job_with plan.now input.now (option_map (λ bytes. bytes.now) from.entry) (words None (option_map (λ word. word.now) stop.entry))) result }
 {
     let start = start_of(alloc, plan, input, from)?;
     let stop = stop_at(alloc, stop)?;

@@ -1,5 +1,5 @@
 -- The rows of legs add up.
-use Rattle.std.proofs.Common.{◌≡◌, ◌∙◌, Bool, true, false, [], ◌++◌, Option, Some, None, if◌then◌else◌, refl, sym, ap}
+use Rattle.std.proofs.Common.{◌≡◌, ◌∙◌, Bool, true, false, ◌++◌, Option, Some, None, if◌then◌else◌, refl, sym, ap}
 use Rattle.std.specs.Option.{option_and_then, option_to_list}
 use Rattle.std.proofs.lemmas.List.Elements.{filter-append}
 use Rattle.plan_model.specs.Rows.{is_due, kept_row, row_is_at}

@@ -3,5 +3,6 @@ mod Ended
 mod Given
 mod Refusals
 mod Taken
+mod Turns
 mod UnderWay
 pub mod Facts

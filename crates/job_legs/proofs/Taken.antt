@@ -16,7 +16,7 @@ use Rattle.redistribute.specs.Stopping.{CanStop}
 use Rattle.core_steps.specs.declared.finish.Finish.{Finish}
 use Rattle.core_steps.proofs.Ending.{end_is_cut}
 use Rattle.job_legs.specs.Laws.{RowsAddUp}
-use Rattle.job_legs.specs.Reached.{IsAt, IsAfter, IsLegGiven, IsLeftBy, rows_of, saved_of}
+use Rattle.job_legs.specs.Reached.{ComesTo, IsAt, IsAfter, IsLeftBy, rows_of, saved_of, savepoints_to}
 use Rattle.job_legs.specs.declared.running.Reached.{Reached}
 
 -- what holds of pairs of two lists, told of the second and an image of the first
@@ -39,12 +39,12 @@ fails Q P fault (Ok x) failed is h = absurd cc
 fails Q P fault (Err e) failed is h = subst P (sym is) h
 
 module _ (p : PlanData) (i : InputData) (input : IsInput i) (add : RowsAddUp) (cut : List (List ℕ)) (number : ℕ) where
-  pub after : (old new : Reached) (stop : Stop) (finish : Finish) → IsAt p i cut number old → IsLegGiven p i cut number stop finish
-      → new.rows.items ≡ old.rows.items ++ rows_of finish → new.savepoint ≡ saved_of finish → IsAfter p i stop (number + 1) new
-  after old new stop finish at g rows saved =
-      let is = end_is_cut i cut stop g.can in
+  pub after : (old new : Reached) (saves : List (List (List ℕ))) (stop : Stop) (finish : Finish) → IsAt p i cut number old → CanStop i.sources cut stop → ComesTo p i cut number saves stop finish
+      → new.rows.items ≡ old.rows.items ++ rows_of finish → new.savepoint ≡ saved_of finish → IsAfter p i stop (number + savepoints_to saves stop) new
+  after old new saves stop finish at can came rows saved =
+      let is = end_is_cut i cut stop can in
       record {
         is_cut = is;
-        rows = subst (AreRowsOf (due_rows p i.sources (cut_to i (until_of stop)))) (sym rows) (add p i cut (cut_to i (until_of stop)) old.rows.items (rows_of finish) input (before_end i cut stop at.is_cut g.can) is at.rows g.delivered);
-        saved = subst (IsLeftBy p i (number + 1) stop) (sym saved) g.left;
+        rows = subst (AreRowsOf (due_rows p i.sources (cut_to i (until_of stop)))) (sym rows) (add p i cut (cut_to i (until_of stop)) old.rows.items (rows_of finish) input (before_end i cut stop at.is_cut can) is at.rows came.delivered);
+        saved = subst (IsLeftBy p i (number + savepoints_to saves stop) stop) (sym saved) came.left;
       }

@@ -1,19 +1,20 @@
 //! Legs run one after the other.
 
-ghost use Rattle.std.specs.Prelude.{◌≡◌, ◌+◌, ◌++◌, ◌<◌, ◌^◌, ℕ, true, List, length, Option, option_map, IfOk, IfErr, MatchResult, OnOk};
+ghost use Rattle.std.specs.Prelude.{◌≡◌, ◌+◌, ◌++◌, ◌<◌, ◌≤◌, ◌^◌, ℕ, true, List, length, drop, Option, option_map, IfOk, MatchResult, OnOk};
 ghost use Rattle.std.specs.List.{All};
 ghost use Rattle.std.specs.List.Sorted.{IsSortedByKey};
 ghost use Rattle.layout_rules.specs.Scale.{IsScale};
 ghost use Rattle.legs.specs.Requirements.{are_legs};
+ghost use Rattle.legs.specs.Stops.{counts_of};
 ghost use Rattle.plan_model.specs.Rows.{AreRowsOf, pane_cmp, pane_of};
 ghost use Rattle.plan_model.specs.declared.spec.Pane.{Pane as PaneValue};
 ghost use Rattle.plan_model.specs.declared.spec.Row.{Row as RowValue};
 ghost use Rattle.restarts.specs.Laws.{IsStartAt};
 ghost use Rattle.savepoint_codec.specs.Layout.{savepoint_bytes};
 ghost use Rattle.stream_model.specs.InputData.{BelongsTo};
-ghost use Rattle.job_legs.specs.Reached.{HasSaved, rows_of, saved_of};
+ghost use Rattle.job_legs.specs.Reached.{HasSaved, rows_of, saved_of, taken_of};
 ghost use Rattle.job_legs.specs.Ending.{IsJobEnd, IsLegsRefusal, IsThreadsRefusal};
-ghost use Rattle.job_legs.specs.Running.{HaveRun, IsRunRefusal};
+ghost use Rattle.job_legs.specs.Running.{HaveRun, IsRunRefusal, saves_in};
 ghost use Rattle.job_legs.specs.Ways.{AnswersLeg, CanRunLeg, GivesLegs, TakesLegs};
 
 use crate::laws::{nothing_due_at_first, rows_add_up};
@@ -21,14 +22,13 @@ use crate::ways::{ByChoices, InThreads, Way};
 use job_texts::sort_rows;
 use layout_rules::Scale;
 use leg_runs::{Finish, run_leg_by};
-use legs::{Choice, LegFault, LegSpec, Stop, are_choices, are_legs};
+use legs::{Choice, Cut, LegFault, LegSpec, Stop, are_choices, are_legs};
 use plain_data::Items;
 use plan_model::{Plan, Row};
 use redistribute::Start;
 use restarts::restart;
 use savepoint_codec::{Savepoint, encode};
 use std::alloc::{AllocError, Global};
-use std::slice::Iter;
 use std::sync::Wait;
 use std::thread::Threads;
 use std::time::Clock;
@@ -62,35 +62,59 @@ fn next_start(
     }
 }
 
-/// Adds what a leg gave to what the legs before it came to.
-fn take_in(reached: &mut Reached, finish: Finish) -> Result<(), AllocError>
+/// Adds what a leg gave to what the legs before it came to, and tells how many of its savepoints it has taken, if it was given
+/// up.
+fn take_in(reached: &mut Reached, finish: Finish) -> Result<Option<u64>, AllocError>
     ensures rows { OnOk result (reached.new.rows.items ≡ reached.old.rows.items ++ rows_of finish) }
     ensures savepoint { OnOk result (reached.new.savepoint ≡ saved_of finish) }
+    ensures taken { IfOk result (λ taken. taken ≡ taken_of finish) }
 {
-    let (rows, savepoint) = match finish {
-        Finish::Ended(rows, _sealed) => (rows, None),
-        Finish::Stopped(rows, savepoint) => (rows, Some(savepoint)),
-        Finish::Abandoned(sealed) => (sealed.rows, Some(sealed.savepoint)),
+    let (rows, savepoint, taken) = match finish {
+        Finish::Ended(rows, _sealed) => (rows, None, None),
+        Finish::Stopped(rows, savepoint) => (rows, Some(savepoint), None),
+        Finish::Abandoned(sealed) => (sealed.rows, Some(sealed.savepoint), Some(sealed.barrier)),
     };
     reached.rows.append(&mut rows.into_vec())?;
     reached.savepoint = savepoint;
-    Ok(())
+    Ok(taken)
 }
 
-/// Runs legs one after the other, each by a call of `run`.
-fn run_all<W: Way, F: FnMut(&Plan, &Input, &Start, &Scale, Stop) -> Result<Finish, LegFault>>(
+/// The savepoints that a leg still has to take.
+fn rest_of(saves: &[Cut], taken: u64) -> &[Cut]
+    requires { taken ≤ length saves.now }
+    ensures { result.now ≡ drop taken saves.now }
+{
+    &saves[taken as usize..]
+}
+
+/// The cuts at which the first of legs takes savepoints on its way.
+fn saves_of(legs: &[LegSpec]) -> &[Cut]
+    ensures { result.now ≡ saves_in legs.now }
+{
+    match legs {
+        [] => &[],
+        [leg, ..] => leg.saves.as_slice(),
+    }
+}
+
+/// Runs legs one after the other, each by a call of `run`, which is told how many are left. Where a leg is given up, what is left of
+/// it runs next, from the last savepoint that it has sealed.
+fn run_all<
+    W: Way,
+    F: FnMut(usize, &Plan, &Input, &Start, &Scale, &[Cut], Stop) -> Result<Finish, LegFault>,
+>(
     alloc: Global,
     plan: &Plan,
     input: &Input,
-    legs: Vec<LegSpec>,
+    legs: &[LegSpec],
     mut run: F,
 ) -> Result<Reached, LegFault>
     requires belongs { BelongsTo plan.now input.now }
-    requires scales { All (λ leg. IsScale plan.now leg.scale) legs.items }
-    requires list { are_legs legs.items ≡ true }
+    requires scales { All (λ leg. IsScale plan.now leg.scale) legs.now }
+    requires list { are_legs legs.now ≡ true }
     requires takes { TakesLegs F.pre }
     requires gives { GivesLegs W.other_fault F.step }
-    ensures { MatchResult result (HaveRun plan.now input.now legs.items) (IsRunRefusal W.other_fault input.now legs.items) }
+    ensures { MatchResult result (HaveRun plan.now input.now legs.now) (IsRunRefusal W.other_fault input.now legs.now) }
 {
     let _first = nothing_due_at_first();
     let _add = rows_add_up();
@@ -100,11 +124,19 @@ fn run_all<W: Way, F: FnMut(&Plan, &Input, &Start, &Scale, Stop) -> Result<Finis
         rows: Vec::new(alloc),
         savepoint: None,
     };
-    for leg in legs {
-        let LegSpec { scale, stop } = leg;
+    let mut rest = legs;
+    let mut saves = saves_of(legs);
+    'turns: while let Some((leg, more)) = rest.split_first() {
         let start = next_start(alloc, plan, input, &reached.savepoint)?;
-        let finish = run(plan, input, &start, &scale, stop)?;
-        take_in(&mut reached, finish)?;
+        let stop = leg.stop.copy(alloc)?;
+        let finish = run(rest.len(), plan, input, &start, &leg.scale, saves, stop)?;
+        match take_in(&mut reached, finish)? {
+            Some(taken) => saves = rest_of(saves, taken),
+            None => {
+                rest = more;
+                saves = saves_of(more);
+            }
+        }
     }
     Ok(reached)
 }
@@ -149,19 +181,16 @@ fn end_of(alloc: Global, reached: Reached) -> Result<LegsEnd, AllocError>
 }
 
 /// What the legs of a list give that are run in a way.
-fn end_of_legs<W: Way, F: FnMut(&Plan, &Input, &Start, &Scale, Stop) -> Result<Finish, LegFault>>(
-    alloc: Global,
-    plan: &Plan,
-    input: &Input,
-    legs: Vec<LegSpec>,
-    run: F,
-) -> Result<LegsEnd, LegFault>
+fn end_of_legs<
+    W: Way,
+    F: FnMut(usize, &Plan, &Input, &Start, &Scale, &[Cut], Stop) -> Result<Finish, LegFault>,
+>(alloc: Global, plan: &Plan, input: &Input, legs: &[LegSpec], run: F) -> Result<LegsEnd, LegFault>
     requires belongs { BelongsTo plan.now input.now }
-    requires scales { All (λ leg. IsScale plan.now leg.scale) legs.items }
-    requires list { are_legs legs.items ≡ true }
+    requires scales { All (λ leg. IsScale plan.now leg.scale) legs.now }
+    requires list { are_legs legs.now ≡ true }
     requires takes { TakesLegs F.pre }
     requires gives { GivesLegs W.other_fault F.step }
-    ensures { MatchResult result (λ end. IsJobEnd plan.now input.now legs.items end.rows.items (option_map (λ b. b.items) end.savepoint)) (IsRunRefusal W.other_fault input.now legs.items) }
+    ensures { MatchResult result (λ end. IsJobEnd plan.now input.now legs.now end.rows.items (option_map (λ b. b.items) end.savepoint)) (IsRunRefusal W.other_fault input.now legs.now) }
 {
     let _columns = plan.columns();
     let _sources = input.sources();
@@ -170,25 +199,30 @@ fn end_of_legs<W: Way, F: FnMut(&Plan, &Input, &Start, &Scale, Stop) -> Result<F
     Ok(end_of(alloc, reached)?)
 }
 
-/// The choices of the leg that comes next, of the lists that are left.
-fn next_choices<'c>(lists: &mut Iter<'c, Items<Choice>>) -> &'c [Choice] {
-    match lists.next() {
-        Some(list) => list.as_slice(),
+/// The choices of the leg with which so many lists are left.
+fn choices_of(lists: &[Items<Choice>], left: usize) -> &[Choice] {
+    match lists.len().checked_sub(left) {
+        Some(place) => match lists.get(place) {
+            Some(list) => list.as_slice(),
+            None => &[],
+        },
         None => &[],
     }
 }
 
 /// Runs the legs of a job one after the other, each from what the one before left and the first from nothing, and gives their
 /// rows together. The panes of the windows are hashed by the keys. Each leg has a list of choices, which say what steps are made
-/// first; what the legs give does not hang on them.
+/// first; what the legs give does not hang on them. A leg that is given up for want of memory behind a savepoint on its way is
+/// run again from that savepoint, so its rows come once.
 ///
 /// The input and the scales were read by the plan.
 ///
 /// # Errors
 ///
 /// `Legs` where there is no leg, or more than 1,024, or one before the last does not stop; else `Choices` where there are more or
-/// fewer lists of choices than legs; else `StopRange` where a leg cannot stop as it is to, from where the one before stopped;
-/// `Memory` where memory runs out.
+/// fewer lists of choices than legs; else of the first leg that cannot run from where
+/// the one before stopped, `StopRange` where it cannot stop as it is to, and `SaveRange` where it cannot take its savepoints on the
+/// way there; `Memory` where memory runs out.
 pub fn run_legs_by(
     alloc: Global,
     keys: HashKeys,
@@ -208,21 +242,20 @@ pub fn run_legs_by(
     if !are_choices(choices, legs.len()) {
         return Err(LegFault::Choices);
     }
-    let mut lists = choices.iter();
     end_of_legs::<ByChoices, _>(
         alloc,
         plan,
         input,
-        legs,
-        |plan: &Plan, input: &Input, start: &Start, scale: &Scale, stop: Stop| -> Result<
+        &legs,
+        |left: usize, plan: &Plan, input: &Input, start: &Start, scale: &Scale, saves: &[Cut], stop: Stop| -> Result<
             Finish,
             LegFault,
         >
             requires { CanRunLeg plan.now input.now start.now scale.now }
-            ensures { AnswersLeg (λ fault. ⊥) plan.now input.now start.now stop result }
+            ensures { AnswersLeg (λ fault. ⊥) plan.now input.now start.now (counts_of saves.now) stop result }
         {
-            let choices = next_choices(&mut lists);
-            run_leg_by(alloc, keys, plan, input, start, scale, &[], stop, choices)
+            let choices = choices_of(choices, left);
+            run_leg_by(alloc, keys, plan, input, start, scale, saves, stop, choices)
         },
     )
 }
@@ -234,8 +267,9 @@ pub fn run_legs_by(
 ///
 /// # Errors
 ///
-/// `Legs` where there is no leg, or more than 1,024, or one before the last does not stop; else `StopRange` where a leg cannot
-/// stop as it is to, from where the one before stopped; `Threads` where a thread was refused; `Memory` where memory runs out.
+/// `Legs` where there is no leg, or more than 1,024, or one before the last does not stop; else of the first leg that
+/// cannot run from where the one before stopped, `StopRange` where it cannot stop as it is to, and `SaveRange` where it cannot take
+/// its savepoints on the way there; `Threads` where a thread was refused; `Memory` where memory runs out.
 pub fn run_legs<R: Threads + Wait + Clock + Sync, G: Gate>(
     rt: &R,
     alloc: Global,
@@ -256,16 +290,18 @@ pub fn run_legs<R: Threads + Wait + Clock + Sync, G: Gate>(
         alloc,
         plan,
         input,
-        legs,
-        |plan: &Plan, input: &Input, start: &Start, scale: &Scale, stop: Stop| -> Result<
+        &legs,
+        |_left: usize, plan: &Plan, input: &Input, start: &Start, scale: &Scale, saves: &[Cut], stop: Stop| -> Result<
             Finish,
             LegFault,
         >
             requires { CanRunLeg plan.now input.now start.now scale.now }
-            ensures { AnswersLeg (λ fault. fault ≡ LegFault.Threads) plan.now input.now start.now stop result }
+            ensures { AnswersLeg (λ fault. fault ≡ LegFault.Threads) plan.now input.now start.now (counts_of saves.now) stop result }
         {
             let stop = thread_runner::Stop::from(stop);
-            run_leg(rt, alloc, keys, plan, input, start, scale, &[], stop, gate)
+            run_leg(
+                rt, alloc, keys, plan, input, start, scale, saves, stop, gate,
+            )
         },
     )
 }

@@ -63,7 +63,7 @@ pub fn rows_of_leg<G: Gate>(
     let keys = HashKeys::random(rt)?;
     let input = Vec::from_slice(alloc, INPUT.as_bytes())?;
     let mut out = Vec::new(alloc);
-    let saved = job_leg(
+    let left = job_leg(
         rt,
         alloc,
         keys,
@@ -71,9 +71,10 @@ pub fn rows_of_leg<G: Gate>(
         input,
         scale.as_bytes(),
         None,
+        None,
         stop,
         gate,
         &mut out,
     )?;
-    Ok((out, saved))
+    Ok((out, left.savepoint))
 }

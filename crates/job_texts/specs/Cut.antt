@@ -24,6 +24,10 @@ source_said text = each_said word_count (slice_split (λ b. b == 44) text)
 unfoldable pub cut_said : List ℕ → Option Cut
 cut_said word = option_map (λ counts. record { counts = counts }) (each_said source_said (slice_split (λ b. b == 47) word))
 
+-- such cuts with pluses between them
+unfoldable pub cuts_said : List ℕ → Option (List Cut)
+cuts_said word = each_said cut_said (slice_split (λ b. b == 43) word)
+
 -- what was read of a word, seen by view, is what it says, or it says none, or memory ran out
 abbrev pub TellsCut : {X Y : Type 0} → (X → Y) → Result X JobFault → Option Y → Type 0
 TellsCut view (Ok x) said = said ≡ Some (view x)

@@ -2,7 +2,7 @@
 
 ghost use Rattle.std.specs.Prelude.{◌≡◌, ◌==◌, ◌<◌, IfOk, map};
 ghost use Rattle.std.specs.List.{slice_split};
-ghost use Rattle.job_texts.specs.Cut.{word_count, source_said, cut_said, each_said, TellsCut};
+ghost use Rattle.job_texts.specs.Cut.{word_count, source_said, cut_said, cuts_said, each_said, TellsCut};
 
 use crate::fault::JobFault;
 use crate::group::are_digits;
@@ -71,4 +71,28 @@ pub fn read_cut(alloc: Global, word: &str) -> Result<Cut, JobFault>
     let words = parts_of(alloc, word, '/')?;
     let counts = Items::from_vec(sources_in(alloc, words.as_slice())?);
     Ok(Cut { counts })
+}
+
+fn cuts_in(alloc: Global, words: &[&str]) -> Result<Vec<Cut>, JobFault>
+    ensures { TellsCut (λ cuts. cuts.items) result (each_said cut_said (map (λ word. word.now) words.now)) }
+{
+    let mut cuts = Vec::new(alloc);
+    for word in words {
+        cuts.push(read_cut(alloc, word)?)?;
+    }
+    Ok(cuts)
+}
+
+/// The cuts that a word spells, as `2,2/5+3,2/7`: at least one, with a `+` between them, each as [`read_cut`] reads it. Whether a
+/// leg can take its savepoints there is judged where it begins.
+///
+/// # Errors
+///
+/// [`JobFault::Cut`] where the word spells none; `Memory`.
+#[tactic(auto, unfolding(crate::specs::Cut::cuts_said))]
+pub fn read_cuts(alloc: Global, word: &str) -> Result<Items<Cut>, JobFault>
+    ensures { TellsCut (λ cuts. cuts) result (cuts_said word.now) }
+{
+    let words = parts_of(alloc, word, '+')?;
+    Ok(Items::from_vec(cuts_in(alloc, words.as_slice())?))
 }

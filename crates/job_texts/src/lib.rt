@@ -14,7 +14,7 @@ mod sorting;
 mod text;
 mod writing;
 
-pub use cut::read_cut;
+pub use cut::{read_cut, read_cuts};
 pub use fault::JobFault;
 pub use group::{job_group, read_count, read_key};
 pub use layout_text::text_of_layout;

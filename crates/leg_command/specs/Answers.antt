@@ -1,10 +1,10 @@
 -- What the command `leg` answers. Nothing can be said of what files hold and of what standard output takes, and so these
 -- say which answers the texts of files allow, whatever they are.
-use Rattle.std.specs.Prelude.{◌≡◌, ◌⊎◌, ℕ, List, [], Bool, true, false, Option, Some, None, is_some, option_map, Result, Ok, Err, IfErr}
+use Rattle.std.specs.Prelude.{◌≡◌, ◌⊎◌, ℕ, List, [], Bool, true, false, Option, Some, None, is_some, option_map, Result, Ok, Err, IfErr, IsErrAnd}
 use Rattle.job_texts.specs.declared.fault.JobFault.{JobFault}
 use Rattle.job_texts.specs.declared.fault.JobFault.TheVariants.{Cut, Number, Write, Memory}
 use Rattle.job.specs.Asked.{TellsAskedLeg}
-use Rattle.job.specs.Leg.{LegJob, TellsLeg, leg_said}
+use Rattle.job.specs.Leg.{LegJob, LegLeft, TellsLeg, leg_said, words as leg_words}
 use Rattle.command_files.specs.Files.{CannotRead}
 use Rattle.leg_command.specs.Receipts.{IsChecked, are_wrong}
 use Rattle.leg_command.specs.declared.fault.LegRefusal.{LegRefusal}
@@ -27,22 +27,32 @@ abbrev pub after_made : {X : Type 0} → Result X JobFault → Result (Unit {0})
 after_made (Ok made) result = IfErr result CannotWrite
 after_made (Err fault) result = result ≡ Err (buffered fault)
 
--- the bytes of the savepoint that a leg leaves, or why there is no leg, and the bytes of its rows
+-- a leg that was given up is never told to be done: once all that it gives is written, memory ran out
+abbrev pub after_given : Bool → Result (Unit {0}) JobFault → Type 0
+after_given false result = IfErr result CannotWrite
+after_given true result = IsErrAnd result CannotWrite
+
+-- what comes of what a leg gives, of which this tells whether it was given up
+abbrev pub after_leg : {X : Type 0} → (X → Bool) → Result X JobFault → Result (Unit {0}) JobFault → Type 0
+after_leg abandoned (Ok left) result = after_given (abandoned left) result
+after_leg abandoned (Err fault) result = result ≡ Err (buffered fault)
+
+-- what a leg leaves, or why there is no leg, and the bytes of its rows
 abbrev pub LegAnswer : Type 0
-LegAnswer = Result (Option (List ℕ)) JobFault × List ℕ
+LegAnswer = Result LegLeft JobFault × List ℕ
 
 -- what comes of what `job_leg` answers of the leg that texts say
 abbrev pub ComesOfLeg : Result LegJob JobFault → Result (Unit {0}) JobFault → Type 0
-ComesOfLeg said result = (given : LegAnswer) × TellsLeg (λ saved. saved) said given.0 (Some []) (Some given.1) × after_made given.0 result
+ComesOfLeg said result = (given : LegAnswer) × TellsLeg (λ left. left) said given.0 (Some []) (Some given.1) × after_leg (λ left. left.abandoned) given.0 result
 
 -- what comes of what `job_leg_asked` answers of it
 abbrev pub ComesOfAskedLeg : Result LegJob JobFault → Result (Unit {0}) JobFault → Type 0
-ComesOfAskedLeg said result = (given : LegAnswer) × TellsAskedLeg (λ saved. saved) said given.0 (Some []) (Some given.1) × after_made given.0 result
+ComesOfAskedLeg said result = (given : LegAnswer) × TellsAskedLeg (λ left. left) said given.0 (Some []) (Some given.1) × after_leg (λ left. left.abandoned) given.0 result
 
 -- of texts: of a leg to the cut of a word, or to the end, or till a file is there
 abbrev pub ComesOfTexts : LegStop → List ℕ → List ℕ → List ℕ → Option (List ℕ) → Result (Unit {0}) JobFault → Type 0
-ComesOfTexts (At word) plan input scale from result = ComesOfLeg (leg_said plan input scale from (option_map (λ w. w.now) word)) result
-ComesOfTexts (Once file) plan input scale from result = ComesOfAskedLeg (leg_said plan input scale from None) result
+ComesOfTexts (At saves stop) plan input scale from result = ComesOfLeg (leg_said plan input scale from (leg_words (option_map (λ w. w.now) saves) (option_map (λ w. w.now) stop))) result
+ComesOfTexts (Once file) plan input scale from result = ComesOfAskedLeg (leg_said plan input scale from (leg_words None None)) result
 
 -- what comes of a part of the command
 abbrev pub as_refusal : Result (Unit {0}) JobFault → Result (Unit {0}) LegRefusal
@@ -68,11 +78,11 @@ ComesOfFiles words stop result =
 abbrev pub AnswersStop : LegWords → LegStop → Result (Unit {0}) LegRefusal → Type 0
 AnswersStop words stop result = Comes CannotRead result ⊎ ComesOfFiles words stop result
 
--- how a leg is to stop by a word and a file, where its savepoint is kept or not; a file beside a cut says nothing, nor where the savepoint would be lost
+-- how a leg is to stop by words and a file, where its savepoint is kept or not; a file beside a cut says nothing, nor where the savepoint would be lost
 abbrev pub IsStop : LegWords → Result LegStop JobFault → Type 0
-IsStop words (Ok (At word)) = (words.stop_file ≡ None) × (word ≡ words.stop)
-IsStop words (Ok (Once file)) = (words.stop_file ≡ Some file) × (words.stop ≡ None) × (is_some words.save ≡ true)
-IsStop words (Err fault) = (fault ≡ Cut) × (is_some words.stop_file ≡ true) × ((is_some words.stop ≡ true) ⊎ (is_some words.save ≡ false))
+IsStop words (Ok (At saves stop)) = (words.stop_file ≡ None) × (saves ≡ words.saves) × (stop ≡ words.stop)
+IsStop words (Ok (Once file)) = (words.stop_file ≡ Some file) × (words.saves ≡ None) × (words.stop ≡ None) × (is_some words.save ≡ true)
+IsStop words (Err fault) = (fault ≡ Cut) × (is_some words.stop_file ≡ true) × ((is_some words.saves ≡ true) ⊎ (is_some words.stop ≡ true) ⊎ (is_some words.save ≡ false))
 
 -- of words that go together: how the leg is to stop, or that there is no such cut
 abbrev pub AnswersWords : LegWords → Result (Unit {0}) LegRefusal → Type 0

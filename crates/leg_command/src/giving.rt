@@ -2,9 +2,10 @@
 
 ghost use Rattle.std.specs.Prelude.{◌≡◌, IfErr};
 ghost use Rattle.leg_command.specs.Answers as answers;
-ghost use Rattle.leg_command.specs.Answers.{CannotWrite, after_made};
+ghost use Rattle.leg_command.specs.Answers.{CannotWrite, after_leg, after_made};
 
 use command_files::{check_apart, print, save};
+use job::LegOut;
 use job_texts::JobFault;
 use leg_receipts::{Told, leg_receipt};
 use std::random::RandomSource;
@@ -97,21 +98,6 @@ fn keep_receipt<'a, R: Files + Print + RandomSource + AllocGlobal>(
     }
 }
 
-/// Keeps what a leg left, and then prints its rows: rows whose savepoint or receipt is lost would come again.
-fn give<'a, R: Files + Print + RandomSource + AllocGlobal>(
-    rt: &R,
-    path: Option<&str>,
-    receipt: Option<NewReceipt<'a>>,
-    saved: Option<&[u8]>,
-    rows: &'a [u8],
-) -> Result<(), JobFault>
-    ensures { IfErr result CannotWrite }
-{
-    keep_savepoint(rt, path, saved)?;
-    keep_receipt(rt, receipt, saved, rows)?;
-    print(rt, rows)
-}
-
 /// The fault of a call that writes into memory: it takes no more only where there is none left.
 fn buffered(fault: JobFault) -> JobFault
     ensures { result ≡ answers.buffered fault }
@@ -122,20 +108,68 @@ fn buffered(fault: JobFault) -> JobFault
     }
 }
 
-/// Gives what a leg gives whose rows are in memory, or tells why there is no such leg.
-pub(crate) fn given<'a, R: Files + Print + RandomSource + AllocGlobal>(
+/// Where what a leg leaves goes.
+#[derive(Clone, Copy)]
+pub(crate) struct Place<'a> {
+    /// Where its savepoint goes.
+    pub(crate) save: Option<&'a str>,
+    pub(crate) receipt: Option<NewReceipt<'a>>,
+    /// Whether it was to go to the end of its input. A savepoint that it then leaves is one on its way, and no place of its receipt.
+    pub(crate) goes_on: bool,
+}
+
+/// Keeps what a leg leaves, and then prints its rows: rows whose savepoint or receipt is lost would come again.
+fn give_leg<'a, R: Files + Print + RandomSource + AllocGlobal>(
     rt: &R,
-    path: Option<&str>,
-    receipt: Option<NewReceipt<'a>>,
-    answer: Result<Option<Vec<u8>>, JobFault>,
+    place: Place<'a>,
+    out: &LegOut,
     rows: &'a [u8],
 ) -> Result<(), JobFault>
-    ensures { after_made answer result }
+    ensures { IfErr result CannotWrite }
+{
+    let saved = out.savepoint.as_deref();
+    let stopped = if place.goes_on && !out.abandoned {
+        None
+    } else {
+        saved
+    };
+    keep_savepoint(rt, place.save, saved)?;
+    keep_receipt(rt, place.receipt, stopped, rows)?;
+    print(rt, rows)
+}
+
+/// Gives what a leg gives whose rows are in memory, or tells why there is no such leg. One that was given up is told as such, once
+/// all that it gives is given.
+pub(crate) fn given<'a, R: Files + Print + RandomSource + AllocGlobal>(
+    rt: &R,
+    place: Place<'a>,
+    answer: Result<LegOut, JobFault>,
+    rows: &'a [u8],
+) -> Result<(), JobFault>
+    ensures { after_leg (λ out. out.abandoned) answer result }
 {
     match answer {
-        Ok(saved) => give(rt, path, receipt, saved.as_deref(), rows),
+        Ok(out) => {
+            give_leg(rt, place, &out, rows)?;
+            if out.abandoned {
+                return Err(JobFault::Memory);
+            }
+            Ok(())
+        }
         Err(fault) => Err(buffered(fault)),
     }
+}
+
+/// Keeps the receipt of rows, and then prints them.
+fn give_rows<'a, R: Files + Print + RandomSource + AllocGlobal>(
+    rt: &R,
+    receipt: NewReceipt<'a>,
+    rows: &'a [u8],
+) -> Result<(), JobFault>
+    ensures { IfErr result CannotWrite }
+{
+    write_receipt(rt, receipt, None, rows)?;
+    print(rt, rows)
 }
 
 /// The same of rows of which no savepoint is left.
@@ -148,7 +182,7 @@ pub(crate) fn given_rows<'a, R: Files + Print + RandomSource + AllocGlobal>(
     ensures { after_made answer result }
 {
     match answer {
-        Ok(()) => give(rt, None, Some(receipt), None, rows),
+        Ok(()) => give_rows(rt, receipt, rows),
         Err(fault) => Err(buffered(fault)),
     }
 }

@@ -1,12 +1,12 @@
 //! From the words of `leg` to what comes of it.
 
 ghost use Rattle.std.specs.Prelude.{◌≡◌, ◌⊎◌, None, option_map};
-ghost use Rattle.job.specs.Leg.{leg_said};
+ghost use Rattle.job.specs.Leg.{leg_said, words};
 ghost use Rattle.command_files.specs.Files.{CannotRead};
 ghost use Rattle.leg_command.specs.Answers.{AnswersLeg, AnswersStop, ComesOfAskedLeg, ComesOfLeg, ComesOfTexts};
 
 use crate::fault::{LegRefusal, after_job};
-use crate::giving::{NewReceipt, given};
+use crate::giving::{NewReceipt, Place, given};
 use crate::since::check_before;
 use crate::stop_file::StopFile;
 use crate::stops::{LegStop, stop_of};
@@ -32,15 +32,27 @@ struct LegJob<'a> {
     receipt: Option<NewReceipt<'a>>,
 }
 
-/// Runs the leg that texts tell to the cut of a word, or to the end, and gives what it gives.
+impl<'a> LegJob<'a> {
+    /// Where what it leaves goes.
+    fn place(self, goes_on: bool) -> Place<'a> {
+        Place {
+            save: self.save,
+            receipt: self.receipt,
+            goes_on,
+        }
+    }
+}
+
+/// Runs the leg that texts tell to the cut of a word, or to the end, with savepoints on its way, and gives what it gives.
 fn done_leg<R: Files + Print + RandomSource + Threads + Wait + Clock + Sync + AllocGlobal>(
     rt: &R,
     keys: HashKeys,
     job: LegJob<'_>,
     input: Vec<u8>,
+    saves: Option<&str>,
     stop: Option<&str>,
 ) -> Result<(), JobFault>
-    ensures { ComesOfLeg (leg_said job.entry.plan.now input.items job.entry.scale.now (option_map (λ bytes. bytes.now) job.entry.from) (option_map (λ word. word.now) stop.entry)) result }
+    ensures { ComesOfLeg (leg_said job.entry.plan.now input.items job.entry.scale.now (option_map (λ bytes. bytes.now) job.entry.from) (words (option_map (λ word. word.now) saves.entry) (option_map (λ word. word.now) stop.entry))) result }
 {
     let mut rows = Vec::new(rt.alloc());
     let answer = job_leg(
@@ -51,11 +63,13 @@ fn done_leg<R: Files + Print + RandomSource + Threads + Wait + Clock + Sync + Al
         input,
         job.scale,
         job.from,
+        saves,
         stop,
         &OpenGate,
         &mut rows,
     );
-    given(rt, job.save, job.receipt, answer, &rows)
+    let place = job.place(stop.is_none());
+    given(rt, place, answer, &rows)
 }
 
 /// Runs the leg that texts tell till a file is there, or to the end, and gives what it gives.
@@ -75,7 +89,7 @@ fn asked_leg<
     input: Vec<u8>,
     file: &StopFile<'_, '_, R>,
 ) -> Result<(), JobFault>
-    ensures { ComesOfAskedLeg (leg_said job.entry.plan.now input.items job.entry.scale.now (option_map (λ bytes. bytes.now) job.entry.from) None) result }
+    ensures { ComesOfAskedLeg (leg_said job.entry.plan.now input.items job.entry.scale.now (option_map (λ bytes. bytes.now) job.entry.from) (words None None)) result }
 {
     let asked = file.word()?;
     let mut rows = Vec::new(rt.alloc());
@@ -91,7 +105,7 @@ fn asked_leg<
         file,
         &mut rows,
     );
-    given(rt, job.save, job.receipt, answer, &rows)
+    given(rt, job.place(false), answer, &rows)
 }
 
 /// Runs the leg that texts tell, and gives what it gives.
@@ -111,7 +125,7 @@ fn stopped_leg<
         return Err(JobFault::Read);
     };
     match stop {
-        LegStop::At(word) => done_leg(rt, keys, job, input, word),
+        LegStop::At(saves, stop) => done_leg(rt, keys, job, input, saves, stop),
         LegStop::Once(path) => {
             let file = StopFile::new(rt, path)?;
             asked_leg(rt, keys, job, input, &file)
@@ -208,15 +222,17 @@ fn leg_of_files<
     after_job(leg_of_texts(rt, words, &texts, input, stop))
 }
 
-/// Prints the rows of one leg of a job, once the savepoint that it leaves where it stops is written, and its receipt, if files are
-/// named for them. With `since` it goes on only where the plan, the entries before the savepoint's cut and the table of names are
+/// Prints the rows of one leg of a job, once the savepoint that it leaves is written, and its receipt, if files are named for them.
+/// Where it was given up for want of memory, these are the savepoint that it had sealed on its way, and the rows up to there, and
+/// then it is told that memory ran out. With `since` it goes on only where the plan, the entries before the savepoint's cut and the table of names are
 /// those that the receipt tells of.
 ///
 /// # Errors
 ///
-/// `Number` where words of receipts do not go with the others; `Cut` where a file is to stop the leg, and so is a cut, or its savepoint
-/// would be lost; `Read` where a file cannot be read; what is not as the receipt tells; else the fault of `job_leg`, or of
-/// `job_leg_asked`; `Write` where the savepoint, the receipt or the rows cannot be written.
+/// `Number` where words of receipts do not go with the others; `Cut` where a file is to stop the leg, and a cut is named besides, or its
+/// savepoint would be lost; `Read` where a file cannot be read; what is not as the receipt tells; else the fault of `job_leg`, or of
+/// `job_leg_asked`, or `Memory` once all is given of a leg that was given up; `Write` where the savepoint, the receipt or the rows
+/// cannot be written.
 pub fn leg<
     R: Files<File: Send, Dir: Send>
         + Print

@@ -8,8 +8,8 @@ use job_texts::JobFault;
 /// How a leg is to stop.
 #[derive(Clone, Copy)]
 pub(crate) enum LegStop<'a> {
-    /// At the cut of a word, or never.
-    At(Option<&'a str>),
+    /// At the cut of the second word, or never, with savepoints on its way at the cuts of the first, if there are any.
+    At(Option<&'a str>, Option<&'a str>),
     /// Where it is once a file is there.
     Once(&'a str),
 }
@@ -18,13 +18,13 @@ pub(crate) enum LegStop<'a> {
 ///
 /// # Errors
 ///
-/// `Cut` where a file is to stop the leg, and so is a cut, or its savepoint would be lost.
+/// `Cut` where a file is to stop the leg, and a cut is named besides, or its savepoint would be lost.
 pub(crate) fn stop_of<'a>(words: &LegWords<'a>) -> Result<LegStop<'a>, JobFault>
     ensures { IsStop words.now result }
 {
-    match (words.stop, words.stop_file, words.save) {
-        (stop, None, _) => Ok(LegStop::At(stop)),
-        (None, Some(file), Some(_)) => Ok(LegStop::Once(file)),
-        (_, Some(_), _) => Err(JobFault::Cut),
+    match (words.saves, words.stop, words.stop_file, words.save) {
+        (saves, stop, None, _) => Ok(LegStop::At(saves, stop)),
+        (None, None, Some(file), Some(_)) => Ok(LegStop::Once(file)),
+        (_, _, Some(_), _) => Err(JobFault::Cut),
     }
 }

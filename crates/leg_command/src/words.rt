@@ -3,7 +3,7 @@
 ghost use Rattle.std.specs.Prelude.{◌≡◌};
 ghost use Rattle.leg_command.specs.Receipts as said;
 
-/// The words of `leg`: its files, by their names, and where it is to stop.
+/// The words of `leg`: its files, by their names, where it takes savepoints on its way, and where it is to stop.
 #[derive(Clone, Copy)]
 pub struct LegWords<'a> {
     pub plan: &'a str,
@@ -11,11 +11,13 @@ pub struct LegWords<'a> {
     pub scale: &'a str,
     /// The savepoint to go on from.
     pub from: Option<&'a str>,
+    /// The cuts at which it takes savepoints on its way, with a `+` between them.
+    pub saves: Option<&'a str>,
     /// The cut to stop at.
     pub stop: Option<&'a str>,
     /// The file that stops the leg where it is, once it is there.
     pub stop_file: Option<&'a str>,
-    /// Where the savepoint goes that the leg leaves where it stops.
+    /// Where the savepoint goes that the leg leaves: that of its stop, or else the last on its way.
     pub save: Option<&'a str>,
     /// The receipt of the leg that left the savepoint.
     pub since: Option<&'a str>,

@@ -25,4 +25,4 @@ legs_from plan place [] = Ok []
 legs_from plan place (leg ∷ legs) = do
   scale ← scale_at plan place leg.scale
   rest ← legs_from plan (place + 1) legs
-  Ok (record { scale = scale; stop = leg.stop } ∷ rest)
+  Ok (record { scale = scale; saves = leg.saves; stop = leg.stop } ∷ rest)

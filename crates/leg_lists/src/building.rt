@@ -39,9 +39,9 @@ pub fn legs_of(
 {
     let mut legs = Vec::new(alloc);
     for text in texts {
-        let scale = scale_at(alloc, plan, legs.len(), text.scale)?;
-        let stop = text.stop;
-        legs.push(LegSpec { scale, stop })?;
+        let LegText { scale, saves, stop } = text;
+        let scale = scale_at(alloc, plan, legs.len(), scale)?;
+        legs.push(LegSpec { scale, saves, stop })?;
     }
     Ok(legs)
 }

@@ -3,7 +3,7 @@
 ghost use Rattle.std.specs.Prelude.{◌≡◌, map};
 ghost use Rattle.serde_json.specs.View.{view};
 ghost use Rattle.json_parts.specs.Parts.{Gives, each};
-ghost use Rattle.leg_lists.specs.LegsText.{stop_text, stop_or_end, leg_text, legs_text, leg_said};
+ghost use Rattle.leg_lists.specs.LegsText.{cut_text, saves_text, saves_or_none, stop_or_end, leg_text, legs_text, leg_said};
 
 use json_parts::{FromValue, PartError, elements_of, has_only};
 use legs::{Cut, Stop};
@@ -15,15 +15,43 @@ use std::alloc::Global;
 #[derive(Debug, Drop)]
 pub struct LegText<'v> {
     pub scale: &'v Value,
+    pub saves: Items<Cut>,
     pub stop: Stop,
 }
 
-#[tactic(auto, unfolding(crate::specs::LegsText::stop_text))]
-fn stop_at(alloc: Global, value: &Value) -> Result<Stop, PartError>
-    ensures { Gives (λ stop. stop) result (stop_text (view value.now)) }
+#[tactic(auto, unfolding(crate::specs::LegsText::cut_text))]
+fn cut_of(alloc: Global, value: &Value) -> Result<Cut, PartError>
+    ensures { Gives (λ cut. cut) result (cut_text (view value.now)) }
 {
     let counts = Items::<Items<u64>>::from_value(alloc, value)?;
-    Ok(Stop::At(Cut { counts }))
+    Ok(Cut { counts })
+}
+
+fn cuts_of(alloc: Global, values: &[Value]) -> Result<Vec<Cut>, PartError>
+    ensures { Gives (λ cuts. cuts.items) result (each cut_text (map view values.now)) }
+{
+    let mut cuts = Vec::new(alloc);
+    for value in values {
+        cuts.push(cut_of(alloc, value)?)?;
+    }
+    Ok(cuts)
+}
+
+#[tactic(auto, unfolding(crate::specs::LegsText::saves_text))]
+fn saves_at(alloc: Global, value: &Value) -> Result<Items<Cut>, PartError>
+    ensures { Gives (λ saves. saves) result (saves_text (view value.now)) }
+{
+    Ok(Items::from_vec(cuts_of(alloc, elements_of(value)?)?))
+}
+
+#[tactic(auto, unfolding(crate::specs::LegsText::saves_or_none))]
+fn saves_of(alloc: Global, value: &Value) -> Result<Items<Cut>, PartError>
+    ensures { Gives (λ saves. saves) result (saves_or_none (view value.now)) }
+{
+    match value.get("saves") {
+        None => Ok(Items::from_vec(Vec::new(alloc))),
+        Some(cuts) => saves_at(alloc, cuts),
+    }
 }
 
 #[tactic(auto, unfolding(crate::specs::LegsText::stop_or_end))]
@@ -32,7 +60,7 @@ fn stop_of(alloc: Global, value: &Value) -> Result<Stop, PartError>
 {
     match value.get("stop") {
         None => Ok(Stop::Never),
-        Some(counts) => stop_at(alloc, counts),
+        Some(cut) => Ok(Stop::At(cut_of(alloc, cut)?)),
     }
 }
 
@@ -40,13 +68,14 @@ fn stop_of(alloc: Global, value: &Value) -> Result<Stop, PartError>
 fn text_of_leg<'v>(alloc: Global, value: &'v Value) -> Result<LegText<'v>, PartError>
     ensures { Gives leg_said result (leg_text (view value.now)) }
 {
-    if !has_only(value, &["scale", "stop"]) {
+    if !has_only(value, &["scale", "saves", "stop"]) {
         return Err(PartError::Form);
     }
     match value.get("scale") {
         None => Err(PartError::Form),
         Some(scale) => Ok(LegText {
             scale,
+            saves: saves_of(alloc, value)?,
             stop: stop_of(alloc, value)?,
         }),
     }

@@ -10,17 +10,17 @@ use Rattle.input_texts.specs.declared.fault.InputFault.{InputFault}
 use Rattle.job_texts.specs.declared.fault.JobFault.{JobFault}
 use Rattle.job_texts.specs.declared.fault.JobFault.TheVariants.{Plan, Input}
 use Rattle.job_texts.specs.Fault.{is_memory, plan_fault, input_fault}
-use Rattle.job.specs.Ends.{and_then, as_job, InOneThread}
+use Rattle.job.specs.Ends.{always, and_then, as_job, InOneThread}
 use Rattle.job.proofs.LegAnswers as leg
 use Rattle.job.proofs.LegAnswers.{input_told, plan_told, told_of}
 use Rattle.leg_receipts.specs.Places.{Finds, Place}
 
 module _ {X : Type 0} (Is : Place → X → Type 0) where
   pub refused : {A : Type 0} (next : A → Result Place JobFault) (said : Result A JobFault) (fault : JobFault) (result : Result X JobFault) → IsErr result → IsErrAnd result (λ e. e ≡ fault) → Fails is_memory fault said → Finds Is (and_then next said) result
-  refused next said fault result fails gives is = leg.refused InOneThread (λ place. Unit {0}) Is next said fault result fails gives is
+  refused next said fault result fails gives is = leg.refused InOneThread always Is next said fault result fails gives is
 
   pub read : {A : Type 0} (next : A → Result Place JobFault) (said : Result A JobFault) (x : A) (result : Result X JobFault) → said ≡ Ok x → Finds Is (next x) result → Finds Is (and_then next said) result
-  read next said x result is finds = leg.read InOneThread (λ place. Unit {0}) Is next said x result is finds
+  read next said x result is finds = leg.read InOneThread always Is next said x result is finds
 
   -- a plan
   pub plan_refused : (next : PlanData → Result Place JobFault) (bytes : List ℕ) (fault : PlanFault) (result : Result X JobFault) → IsErr result → IsErrAnd result (λ e. e ≡ plan_fault fault) → plans.Fails plans.is_memory fault (plans.plan_of_bytes bytes)

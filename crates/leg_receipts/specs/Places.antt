@@ -7,7 +7,7 @@ use Rattle.input_texts.specs.Answer.{input_of_bytes}
 use Rattle.redistribute.specs.StartData.{StartData}
 use Rattle.job_texts.specs.declared.fault.JobFault.{JobFault}
 use Rattle.job_texts.specs.declared.fault.JobFault.TheVariants.{Plan, Input}
-use Rattle.job.specs.Ends.{and_then, as_job, Ends, InOneThread}
+use Rattle.job.specs.Ends.{always, and_then, as_job, Ends, InOneThread}
 use Rattle.job.specs.Leg.{start_said}
 
 -- a start in an input of a plan
@@ -32,4 +32,4 @@ place_said plan input from = and_then (λ p. place_by p input from) (as_job Plan
 
 -- where there is an answer, it is of the place that the texts say; else the refusal is the first that they give
 abbrev pub Finds : {X : Type 0} → (Place → X → Type 0) → Result Place JobFault → Result X JobFault → Type 0
-Finds Is said result = Ends InOneThread (λ place. Unit {0}) Is said result
+Finds Is said result = Ends InOneThread always Is said result

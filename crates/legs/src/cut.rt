@@ -1,9 +1,10 @@
 //! A cut of an input.
 
-ghost use Rattle.std.specs.Prelude.{◌≡◌, ◌≤◌, ◌↔◌, IsTrue, length};
+ghost use Rattle.std.specs.Prelude.{◌≡◌, ◌≤◌, ◌↔◌, IfOk, IsTrue, length};
 ghost use Rattle.std.specs.List.{AllZip};
 
 use plain_data::Items;
+use std::alloc::{AllocError, Global};
 use stream_model::{Partition, Source};
 
 /// A cut of an input: how many entries lie before it, for each source in plan order and each of its partitions.
@@ -15,6 +16,23 @@ pub struct Cut {
 impl Cut {
     ghost use Rattle.dataflow_model.specs.Leg as model;
     ghost use Rattle.stream_model.specs.Watermarks.{IsBefore, IsCut};
+
+    /// The same cut again.
+    ///
+    /// # Errors
+    ///
+    /// Only where memory runs out.
+    pub fn copy(&self, alloc: Global) -> Result<Cut, AllocError>
+        ensures { IfOk result (λ cut. cut ≡ self.now) }
+    {
+        let sources = self.counts.as_slice();
+        let mut counts = Vec::with_capacity(alloc, sources.len())?;
+        for source in sources {
+            counts.push(source.copy(alloc)?)?;
+        }
+        let counts = Items::from_vec(counts);
+        Ok(Cut { counts })
+    }
 
     /// How many entries of a partition lie before it; none, where it has no such partition.
     pub fn count(&self, source: u32, partition: u32) -> u64

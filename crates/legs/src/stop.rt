@@ -1,6 +1,9 @@
 //! Where a leg stops.
 
+ghost use Rattle.std.specs.Prelude.{◌≡◌, IfOk};
+
 use crate::cut::Cut;
+use std::alloc::{AllocError, Global};
 
 /// Where a leg stops.
 #[derive(Debug, Drop)]
@@ -9,4 +12,20 @@ pub enum Stop {
     Never,
     /// At a cut, with a savepoint.
     At(Cut),
+}
+
+impl Stop {
+    /// The same again.
+    ///
+    /// # Errors
+    ///
+    /// Only where memory runs out.
+    pub fn copy(&self, alloc: Global) -> Result<Stop, AllocError>
+        ensures { IfOk result (λ stop. stop ≡ self.now) }
+    {
+        match self {
+            Stop::Never => Ok(Stop::Never),
+            Stop::At(cut) => Ok(Stop::At(cut.copy(alloc)?)),
+        }
+    }
 }

@@ -1,10 +1,10 @@
 -- Calls of `job_leg`, each from the bytes that the one before gave, have written what is due.
-use Rattle.std.proofs.Common.{◌≡◌, ◌∙◌, ℕ, ◌+◌, ◌<◌, List, [], ◌∷◌, ◌++◌, length, map, Option, Some, None, Result, Ok, Err, refl, sym, ap, subst, arith, inl, inr}
+use Rattle.std.proofs.Common.{◌≡◌, ◌∙◌, ℕ, ◌+◌, ◌<◌, List, [], ◌∷◌, ◌++◌, length, map, Some, None, Result, Ok, Err, refl, sym, ap, subst, arith, inl, inr}
 use Rattle.std.proofs.lemmas.Bool.{cases_lt}
 use Rattle.std.proofs.lemmas.List.{get_or_past}
 use Rattle.std.proofs.lemmas.List.Concat.{flat_map-append}
 use Rattle.std.specs.List.{All}
-use Rattle.std.specs.Option.{option_map, option_to_list}
+use Rattle.std.specs.Option.{option_to_list}
 use Rattle.byte_fields.specs.declared.fault.FieldFault.{FieldFault}
 use Rattle.byte_fields.specs.Format.{whole}
 use Rattle.byte_fields.proofs.Exact.{IsBytes, whole_again, whole_takes}
@@ -14,7 +14,7 @@ use Rattle.plan_model.specs.declared.spec.Row.{Row}
 use Rattle.stream_model.specs.declared.entry.Entry.{Entry}
 use Rattle.stream_model.specs.InputData.{InputData}
 use Rattle.stream_model.specs.PlanRows.{due_rows}
-use Rattle.stream_model.specs.Watermarks.{IsCut, IsOrderly, empty_cut}
+use Rattle.stream_model.specs.Watermarks.{IsBefore, IsCut, IsOrderly, empty_cut}
 use Rattle.input_flow.proofs.Facts.{empty_is_cut}
 use Rattle.dataflow_laws.specs.Compiled.{cut_to}
 use Rattle.dataflow_laws.specs.Inputs.{due_between}
@@ -26,7 +26,6 @@ use Rattle.stream_input.specs.Laws.{SaidIsInput}
 use Rattle.plan_scale.specs.Answer.{scale_of_bytes}
 use Rattle.legs.specs.declared.cut.Cut.{Cut}
 use Rattle.legs.specs.declared.stop.Stop.{Stop}
-use Rattle.legs.specs.declared.stop.Stop.TheVariants.{Never, At}
 use Rattle.legs.specs.Stops.{until_of}
 use Rattle.savepoint_codec.specs.Answer.{fault_said, savepoint_of_bytes}
 use Rattle.savepoint_codec.specs.Layout.{IsSavepoint, savepoint_bytes, savepoint_format}
@@ -34,25 +33,23 @@ use Rattle.savepoint_codec.specs.declared.savepoint.Contents.{Contents}
 use Rattle.redistribute.specs.Begins.{HasSnapshot, IsFromNothing}
 use Rattle.redistribute.specs.Snapshots.{saved_source, start_at}
 use Rattle.redistribute.specs.StartData.{StartData, offsets_of}
-use Rattle.redistribute.specs.Stopping.{CanStop}
 use Rattle.restore.specs.Answer.{start_or_fault}
-use Rattle.leg_tasks.specs.Saved.{IsSavedAt}
 use Rattle.core_steps.proofs.Delivered.{none_at_first}
-use Rattle.core_steps.proofs.Ending.{end_is_cut}
 use Rattle.savepoint_codec.proofs.Facts.{savepoint_exact}
-use Rattle.job_texts.specs.Text.{IsTextOf, line_of, text_of_rows}
+use Rattle.job_texts.specs.Text.{line_of, text_of_rows}
 use Rattle.job_texts.specs.declared.fault.JobFault.TheVariants.{Plan, Input, Scale, Save, Restore}
-use Rattle.job_legs.proofs.Facts.{before_end, come_to}
+use Rattle.job_legs.proofs.Facts.{come_to}
 use Rattle.job.specs.Ends.{and_then, as_job}
-use Rattle.job.specs.Leg.{CanStopSo, IsLegText, IsSavedBy, LegJob, job_with, leg_by, leg_job, leg_on, leg_said, start_said, stop_said}
+use Rattle.job.specs.Leg.{IsLegTold, LegJob, LegRuns, aims_said, job_with, leg_by, leg_job, leg_on, leg_said, saves_said, start_said, stop_said, words}
 use Rattle.job.proofs.Facts.{job_ok, ok_is, then_ok}
 use Rattle.lineages.specs.Lineage.{ComesFrom}
-use Rattle.lineages.specs.Calls.{AreExactCalls, AreGivenAt, AreRead, Calls, CallsAreAnswered, CallsAreExact, IsAnswered, LegCall, SaidComesFrom, written}
+use Rattle.lineages.specs.Calls.{AreGivenAt, AreRead, Calls, CallsAreAnswered, CallsAreExact, HaveTaken, IsAnswered, IsReach, LegCall, Reach, SaidComesFrom, written}
 use Rattle.lineages.specs.Calls.Calls.{first, next}
 use Rattle.lineages.specs.Changes.{CallsOverInputs, CallsOverInputsAreExact, SaySameEntries}
 use Rattle.lineages.specs.Changes.CallsOverInputs.{first_on, next_on}
 use Rattle.lineages.proofs.Changes.{AreFit, is_carried}
-use Rattle.lineages.proofs.Exact.{Carry, bytes_restart, due_too, one_more}
+use Rattle.lineages.proofs.Exact.{Carry, bytes_restart, due_too}
+use Rattle.lineages.proofs.Outcomes.{outcome, reached_cut}
 
 -- ---- what was said
 
@@ -81,7 +78,7 @@ from_spelling p i old s sound e =
     record { savepoint = old; is_savepoint = sound; spelled = refl; checked = job_ok Restore (start_or_fault p i old) s again }
 
 pub calls_are_answered : CallsAreAnswered
-calls_are_answered plan input scale from stop saved old new (job, said, can, (bytes, (text, is, appends))) = (text, appends, record { job = job; said = said; can = can; bytes = bytes; written = is })
+calls_are_answered plan input scale from saves stop old new left (job, said, runs, (text, told, appends)) = (text, appends, record { job = job; said = said; runs = runs; told = told })
 
 -- ---- a start from nothing
 
@@ -108,77 +105,81 @@ are_fit of_plan of_input plan input p i read =
 said_input : (plan input : List ℕ) (p : PlanData) (c : LegCall) → plan_of_bytes plan ≡ Ok p → IsAnswered plan input c → (i : InputData) × AreRead plan input p i
 unfolding leg_said leg_by
 said_input plan input p c plan_said a =
-    let of_plan : leg_by p input c.scale c.from c.stop ≡ Ok a.job = subst (λ r. and_then (λ x. leg_by x input c.scale c.from c.stop) (as_job Plan r) ≡ Ok a.job) plan_said a.said in
-    let b = then_ok (λ x. leg_on p x c.scale c.from c.stop) (as_job Input (input_of_bytes p input)) a.job of_plan in
+    let of_plan : leg_by p input c.scale c.from (words c.saves c.stop) ≡ Ok a.job = subst (λ r. and_then (λ x. leg_by x input c.scale c.from (words c.saves c.stop)) (as_job Plan r) ≡ Ok a.job) plan_said a.said in
+    let b = then_ok (λ x. leg_on p x c.scale c.from (words c.saves c.stop)) (as_job Input (input_of_bytes p input)) a.job of_plan in
     (b.0, record { plan_said = plan_said; input_said = job_ok Input (input_of_bytes p input) b.0 b.1 })
 
 -- ---- one call
 
--- where its leg starts and stops
+-- where its leg starts, takes savepoints on its way and stops
 record Says (p : PlanData) (i : InputData) (c : LegCall) (job : LegJob) : Type 0 where
   start : StartData
+  saves : List Cut
   stop : Stop
-  is : leg_job p i start stop ≡ job
+  is : leg_job p i start (record { saves = saves; stop = stop }) ≡ job
   started : start_said p i c.from ≡ Ok start
+  spelled : saves_said c.saves ≡ Ok saves
   stopped : stop_said c.stop ≡ Ok stop
 
-says : (plan input : List ℕ) (p : PlanData) (i : InputData) (c : LegCall) (job : LegJob) → AreRead plan input p i → leg_said plan input c.scale c.from c.stop ≡ Ok job → Says p i c job
-unfolding leg_said leg_by leg_on job_with
+says : (plan input : List ℕ) (p : PlanData) (i : InputData) (c : LegCall) (job : LegJob) → AreRead plan input p i → leg_said plan input c.scale c.from (words c.saves c.stop) ≡ Ok job → Says p i c job
+unfolding leg_said leg_by leg_on job_with aims_said
 says plan input p i c job read e =
-    let of_plan : leg_by p input c.scale c.from c.stop ≡ Ok job = subst (λ r. and_then (λ x. leg_by x input c.scale c.from c.stop) (as_job Plan r) ≡ Ok job) read.plan_said e in
-    let of_input : leg_on p i c.scale c.from c.stop ≡ Ok job = subst (λ r. and_then (λ x. leg_on p x c.scale c.from c.stop) (as_job Input r) ≡ Ok job) read.input_said of_plan in
-    let a = then_ok (λ x. job_with p i c.from c.stop) (as_job Scale (scale_of_bytes p c.scale)) job of_input in
-    let b = then_ok (λ s. and_then (λ t. Ok (leg_job p i s t)) (stop_said c.stop)) (start_said p i c.from) job a.2 in
-    let d = then_ok (λ t. Ok (leg_job p i b.0 t)) (stop_said c.stop) job b.2 in
-    record { start = b.0; stop = d.0; is = ok_is (leg_job p i b.0 d.0) job d.2; started = b.1; stopped = d.1 }
-
-left_by : (p : PlanData) (i : InputData) (s : StartData) (stop at : Stop) (number : ℕ) (bytes : Option (List ℕ)) (saved : Option Contents) → HasSnapshot p i s → s.number + 1 ≡ number → bytes ≡ option_map savepoint_bytes saved
-    → IsSavedBy (leg_job p i s stop) at saved → AreGivenAt p i number at bytes
-left_by p i s stop Never number bytes saved has follows e none = e ∙ ap (option_map savepoint_bytes) none
-left_by p i s stop (At cut) number bytes None has follows e impossible = absurd impossible
-left_by p i s stop (At cut) number bytes (Some old) has follows e is = (old, e, is.sound, subst (λ n. IsSavedAt p i cut.counts n old) follows (is.saved has))
-
--- bytes that were given are those of a savepoint at a cut
-gave : (p : PlanData) (i : InputData) (number : ℕ) (stop : Stop) (saved : Option (List ℕ)) (bytes : List ℕ) → saved ≡ Some bytes → AreGivenAt p i number stop saved
-    → (cut : Cut) × (old : Contents) × (stop ≡ At cut) × (bytes ≡ savepoint_bytes old) × IsSavepoint old × IsSavedAt p i cut.counts number old
-gave p i number Never saved bytes e none = absurd (let z : None ≡ Some bytes = sym none ∙ e in cc)
-gave p i number (At cut) saved bytes e (old, is, sound, at) = (cut, old, refl, (let z : Some bytes ≡ Some (savepoint_bytes old) = sym e ∙ is in cc), sound, at)
+    let w = words c.saves c.stop in
+    let of_plan : leg_by p input c.scale c.from w ≡ Ok job = subst (λ r. and_then (λ x. leg_by x input c.scale c.from w) (as_job Plan r) ≡ Ok job) read.plan_said e in
+    let of_input : leg_on p i c.scale c.from w ≡ Ok job = subst (λ r. and_then (λ x. leg_on p x c.scale c.from w) (as_job Input r) ≡ Ok job) read.input_said of_plan in
+    let a = then_ok (λ x. job_with p i c.from w) (as_job Scale (scale_of_bytes p c.scale)) job of_input in
+    let b = then_ok (λ s. and_then (λ aims. Ok (leg_job p i s aims)) (aims_said w)) (start_said p i c.from) job a.2 in
+    let d = then_ok (λ aims. Ok (leg_job p i b.0 aims)) (aims_said w) job b.2 in
+    let f = then_ok (λ saves. and_then (λ stop. Ok (record { saves = saves; stop = stop })) (stop_said c.stop)) (saves_said c.saves) d.0 d.1 in
+    let g = then_ok (λ stop. Ok (record { saves = f.0; stop = stop })) (stop_said c.stop) d.0 f.2 in
+    record {
+      start = b.0;
+      saves = f.0;
+      stop = g.0;
+      is = ◌∙◌ {a = leg_job p i b.0 (record { saves = f.0; stop = g.0 })} (ap (leg_job p i b.0) (ok_is (record { saves = f.0; stop = g.0 }) d.0 g.2)) (ok_is (leg_job p i b.0 d.0) job d.2);
+      started = b.1;
+      spelled = f.1;
+      stopped = g.1;
+    }
 
 -- ---- all of them
 
 -- the last of calls has answered
 answered : (plan input : List ℕ) (last : LegCall) (earlier : List LegCall) → CallsOverInputs plan input (last ∷ earlier) → IsAnswered plan input last
 answered plan input last [] (first_on nothing a) = a
-answered plan input last (before ∷ earlier) (next_on calls same saved from a) = a
+answered plan input last (before ∷ earlier) (next_on calls to_come same saved from a) = a
 
 record Comes (p : PlanData) (i : InputData) (last : LegCall) (earlier : List LegCall) : Type 0 where
-  stop : Stop
-  stopped : stop_said last.stop ≡ Ok stop
-  is_cut : IsCut i.sources (cut_to i (until_of stop))
+  reach : Reach
+  reached : IsReach last reach
+  is_cut : IsCut i.sources (cut_to i (until_of reach.stop))
   rows : List Row
-  due : AreRowsOf (due_rows p i.sources (cut_to i (until_of stop))) rows
+  due : AreRowsOf (due_rows p i.sources (cut_to i (until_of reach.stop))) rows
   lines : written (last ∷ earlier) ≡ text_of_rows rows
-  given : AreGivenAt p i (length (last ∷ earlier)) stop last.saved
+  before : ℕ
+  taken : HaveTaken earlier before
+  given : AreGivenAt p i (before + reach.taken) reach.last last.saved
 
 module _ (carry : Carry) (of_plan : SaidIsPlan) (of_input : SaidIsInput) (plan : List ℕ) (p : PlanData) where
   -- a call from a cut, with its snapshot, adds the lines of what becomes due
   after : (input : List ℕ) (i : InputData) (fit : AreFit p i) (c : LegCall) (earlier : List LegCall) (a : IsAnswered plan input c) (says : Says p i c a.job) (b : List (List ℕ)) → HasSnapshot p i says.start → offsets_of says.start ≡ b
-      → says.start.number ≡ length earlier → IsCut i.sources b → (before : List Row) → AreRowsOf (due_rows p i.sources b) before → written earlier ≡ text_of_rows before → Comes p i c earlier
-  after input i fit c earlier a says b has offsets number is before due lines =
-      let stop = says.stop in
-      let end = cut_to i (until_of stop) in
-      let can : CanStop i.sources b stop = subst (λ o. CanStop i.sources o stop) offsets (subst CanStopSo (sym says.is) a.can) in
-      let text : IsTextOf (due_between p i.sources (offsets_of says.start) end) c.text = (subst (λ job. IsLegText job c.text) (sym says.is) a.written) has in
+      → HaveTaken earlier says.start.number → IsCut i.sources b → (before : List Row) → AreRowsOf (due_rows p i.sources b) before → written earlier ≡ text_of_rows before → Comes p i c earlier
+  after input i fit c earlier a says b has offsets taken is before due lines =
+      let told = subst (λ (job : LegJob). LegRuns job None × IsLegTold c.abandoned job c.text c.saved) (sym says.is) (a.runs, a.told) in
+      let out = outcome p i says.start says.saves says.stop c says.spelled says.stopped (subst (IsCut i.sources) (sym offsets) is) told.0 told.1 in
+      let end = cut_to i (until_of out.reach.stop) in
+      let text = out.text has in
       let rows : AreRowsOf (due_between p i.sources b end) text.rows = subst (λ o. AreRowsOf (due_between p i.sources o end) text.rows) offsets text.are in
       record {
-        stop = stop;
-        stopped = says.stopped;
-        is_cut = end_is_cut i b stop can;
+        reach = out.reach;
+        reached = out.reached;
+        is_cut = out.is_cut;
         rows = before ++ text.rows;
-        due = carry.add p i b end before text.rows fit.input (before_end i b stop is can) (end_is_cut i b stop can) due rows;
+        due = carry.add p i b end before text.rows fit.input (subst (λ o. IsBefore o end) offsets out.no_earlier) out.is_cut due rows;
         lines = (λ k. lines k ++ text.lines k) ∙ sym (flat_map-append line_of before text.rows);
-        given = left_by p i says.start stop stop (length (c ∷ earlier)) c.saved a.bytes.0 has (ap (λ n. n + 1) number ∙ one_more c earlier) a.bytes.1
-            (subst (λ (job : LegJob). IsSavedBy job job.stop a.bytes.0) (sym says.is) a.bytes.2);
+        before = says.start.number;
+        taken = taken;
+        given = out.given has;
       }
 
   comes : (input : List ℕ) (i : InputData) → AreRead plan input p i → (last : LegCall) (earlier : List LegCall) → CallsOverInputs plan input (last ∷ earlier) → Comes p i last earlier
@@ -188,38 +189,43 @@ module _ (carry : Carry) (of_plan : SaidIsPlan) (of_input : SaidIsInput) (plan :
       let from = said_nothing p i said.start (subst (λ o. start_said p i o ≡ Ok said.start) nothing said.started) in
       let none_due : AreRowsOf (due_rows p i.sources (empty_cut i.sources)) [] = λ q. sym (ap option_to_list (carry.none p i q fit.orderly)) in
       after input i fit last [] a said (empty_cut i.sources) (none_at_first p i said.start from) from.offsets from.number (empty_is_cut i.sources) [] none_due refl
-  comes input i read last (before ∷ earlier) (next_on {old = text} {bytes = bytes} calls same saved from a) =
+  comes input i read last (before ∷ earlier) (next_on {old = text} {bytes = bytes} calls to_come same saved from a) =
       let (old, old_read) = said_input plan text p before read.plan_said (answered plan text before earlier calls) in
       let c = comes text old old_read before earlier calls in
-      let (cut, held, stops, spelled, is_savepoint, at) = gave p old (length (before ∷ earlier)) c.stop before.saved bytes saved c.given in
+      let (cut, stops, last_is) = reached_cut before c.reach c.reached to_come in
+      let number = c.before + c.reach.taken in
+      let given = subst (λ x. AreGivenAt p old number x before.saved) last_is c.given in
+      let held = given.0 in
+      let is_savepoint = given.2 in
+      let at = given.3 in
+      let spelled : bytes ≡ savepoint_bytes held = (let z : Some bytes ≡ Some (savepoint_bytes held) = sym saved ∙ given.1 in cc) in
       let said = says plan input p i last a.job read a.said in
       let started = subst (λ o. start_said p i o ≡ Ok said.start) (from ∙ ap Some spelled) said.started in
       let origin = from_spelling p i held said.start is_savepoint started in
       let is_cut : IsCut old.sources cut.counts = subst (λ x. IsCut old.sources (cut_to old (until_of x))) stops c.is_cut in
       let due : AreRowsOf (due_rows p old.sources cut.counts) c.rows = subst (λ x. AreRowsOf (due_rows p old.sources (cut_to old (until_of x))) c.rows) stops c.due in
-      let number = length (before ∷ earlier) in
       let old_fit = are_fit of_plan of_input plan text p old old_read in
       let fit = are_fit of_plan of_input plan input p i read in
-      let there = is_carried carry.agreeing carry.keep carry.restart carry.one p old i cut.counts number held said.start old_fit fit is_cut at is_savepoint (same p old i cut old_read read (c.stopped ∙ ap Ok stops)) origin in
+      let there = is_carried carry.agreeing carry.keep carry.restart carry.one p old i cut.counts number held said.start old_fit fit is_cut at is_savepoint (same p old i c.reach cut number old_read read c.reached stops given) origin in
       let start = bytes_restart carry.restart carry.one p i cut.counts number held said.start fit.plan fit.input fit.belongs there.is_cut there.saved_at is_savepoint origin in
-      after input i fit last (before ∷ earlier) a said cut.counts start.snapshot start.offsets start.number there.is_cut c.rows (due_too p old i cut.counts number held c.rows there due) c.lines
+      let taken : HaveTaken (before ∷ earlier) said.start.number = (c.before, c.reach, c.taken, c.reached, start.number) in
+      after input i fit last (before ∷ earlier) a said cut.counts start.snapshot start.offsets taken there.is_cut c.rows (due_too p old i cut.counts number held c.rows there due) c.lines
 
 pub over_inputs_exact : Carry → SaidIsPlan → SaidIsInput → CallsOverInputsAreExact
-over_inputs_exact carry of_plan of_input plan input p i stop last earlier read stopped calls =
+over_inputs_exact carry of_plan of_input plan input p i last earlier read calls =
     let fit = are_fit of_plan of_input plan input p i read in
     let c = comes carry of_plan of_input plan p input i read last earlier calls in
-    let same : c.stop ≡ stop = ok_is c.stop stop (sym c.stopped ∙ stopped) in
-    subst (λ x. AreExactCalls p i x last (last ∷ earlier)) same (record { rows = c.rows; are = come_to carry.end p i c.stop c.rows fit.plan fit.input fit.belongs c.due; lines = c.lines; given = c.given })
+    (c.reach, c.reached, record { rows = c.rows; are = come_to carry.end p i c.reach.stop c.rows fit.plan fit.input fit.belongs c.due; lines = c.lines; before = c.before; taken = c.taken; given = c.given })
 
 -- ---- one text of an input for all of them
 
-one_text : (plan input : List ℕ) (word : Option (List ℕ)) → SaySameEntries plan input input word
-one_text plan input word p i j cut here there stopped = let same : i ≡ j = ok_is i j (sym here.input_said ∙ there.input_said) in ap (λ (x : InputData). entries_before x.sources cut.counts) same
+one_text : (plan input : List ℕ) (c : LegCall) → SaySameEntries plan input input c
+one_text plan input c p i j reach cut number here there reached stopped given = let same : i ≡ j = ok_is i j (sym here.input_said ∙ there.input_said) in ap (λ (x : InputData). entries_before x.sources cut.counts) same
 
 same_text : (plan input : List ℕ) (calls : List LegCall) → Calls plan input calls → CallsOverInputs plan input calls
 same_text plan input [] l = elim l [ ]
 same_text plan input (c ∷ []) (first nothing a) = first_on nothing a
-same_text plan input (c ∷ before ∷ earlier) (next calls saved from a) = next_on (same_text plan input (before ∷ earlier) calls) (one_text plan input before.stop) saved from a
+same_text plan input (c ∷ before ∷ earlier) (next calls to_come saved from a) = next_on (same_text plan input (before ∷ earlier) calls) to_come (one_text plan input before) saved from a
 
 pub calls_are_exact : CallsOverInputsAreExact → CallsAreExact
-calls_are_exact made plan input p i stop last earlier read stopped calls = made plan input p i stop last earlier read stopped (same_text plan input (last ∷ earlier) calls)
+calls_are_exact made plan input p i last earlier read calls = made plan input p i last earlier read (same_text plan input (last ∷ earlier) calls)

@@ -1,6 +1,8 @@
 mod Changes
+mod Gives
 mod Exact
 mod Moments
+mod Outcomes
 mod Calls
 mod Accepted
 mod Dealing

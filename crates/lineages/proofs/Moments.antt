@@ -1,5 +1,5 @@
 -- At every moment legs have delivered nothing that is not due.
-use Rattle.std.proofs.Common.{◌≡◌, ◌∙◌, ◌⊎◌, inl, inr, ℕ, Bool, true, false, List, [], ◌∷◌, ◌++◌, append-nil, length, Option, None, refl, sym, ap, subst, if◌then◌else◌}
+use Rattle.std.proofs.Common.{◌≡◌, ◌∙◌, ◌⊎◌, inl, inr, ℕ, Bool, true, false, List, [], ◌∷◌, ◌++◌, append-nil, Option, None, refl, sym, ap, subst, if◌then◌else◌}
 use Rattle.std.proofs.lemmas.List.Elements.{filter-append}
 use Rattle.std.specs.List.{filter}
 use Rattle.std.specs.Option.{option_to_list}
@@ -19,6 +19,7 @@ use Rattle.legs.specs.declared.stop.Stop.TheVariants.{At}
 use Rattle.legs.specs.Stops.{until_of}
 use Rattle.redistribute.specs.StartData.{StartData, offsets_of}
 use Rattle.redistribute.specs.Begins.{HasSnapshot}
+use Rattle.redistribute.specs.Stopping.{CanStop}
 use Rattle.restarts.specs.Laws.{IsStartAt}
 use Rattle.core_steps.specs.Given.{GivenData}
 use Rattle.core_steps.specs.World.{WorldData, IsGiven}
@@ -28,11 +29,13 @@ use Rattle.core_steps.proofs.Ending.{end_is_cut}
 use Rattle.job_legs.specs.Laws.{EachRowAddsUp}
 use Rattle.job_legs.specs.Ending.{rows_to}
 use Rattle.job_legs.proofs.Facts.{before_end, row_to}
-use Rattle.lineages.specs.Lineage.{EachMomentIsPart, IsUnderWay, delivered, given_of, leg_savepoint}
+use Rattle.lineages.specs.Lineage.{EachMomentIsPart, IsUnderWay, delivered, given_of, leg_savepoint, savepoints_in}
 use Rattle.lineages.specs.Lineage.UnderWay.{sets_out, goes_further}
 use Rattle.lineages.specs.Changes.{EachMomentOverInputs}
 use Rattle.lineages.specs.Changes.UnderWayOverInputs.{sets_out_on, goes_further_with}
-use Rattle.lineages.proofs.Exact.{Carry, at_first, can_stop, comes, due_too, from_bytes, is_fit, left_to, one_input}
+use Rattle.lineages.proofs.Changes.{AreFit}
+use Rattle.lineages.proofs.Gives.{fit_of}
+use Rattle.lineages.proofs.Exact.{Carry, at_first, comes, due_too, from_bytes, left_to, one_input}
 
 -- nothing of a list, or all of it
 abbrev IsPart : List Row → List Row → Type 0
@@ -55,6 +58,9 @@ module _ (p : PlanData) (i : InputData) (s : StartData) (saves : List (List (Lis
   on_way : IsGiven (given_of p i s way.layout saves stop)
   on_way = subst IsGiven way.given way.world.sound.given
 
+  fit : AreFit p i
+  fit = fit_of p i s way.layout saves stop on_way
+
   pub so_far : HasSnapshot p i s → (q : Pane) → IsPart (filter (row_is_at q) (rows_in w)) (option_to_list (due_between p i.sources (offsets_of s) end q))
   so_far = subst (λ (g : GivenData). HasSnapshot g.plan g.input g.start → (q : Pane) → IsPart (filter (row_is_at q) (rows_in w)) (option_to_list (due_between g.plan g.input.sources (offsets_of g.start) (cut_to g.input g.until) q))) way.given (world_so_far w way.world)
 
@@ -62,7 +68,7 @@ module _ (p : PlanData) (i : InputData) (s : StartData) (saves : List (List (Lis
   with_earlier : EachRowAddsUp → (b : List (List ℕ)) (number : ℕ) → IsStartAt p i b number s → IsCut i.sources b → (before : List Row) → AreRowsOf (due_rows p i.sources b) before → (q : Pane)
       → IsPart (filter (row_is_at q) (before ++ rows_in w)) (option_to_list (due_rows p i.sources end q))
   with_earlier add b number at is before due q =
-      let can = can_stop p i s way.layout saves stop on_way b number at in
+      let can : CanStop i.sources b stop = subst (λ c. CanStop i.sources c stop) at.offsets on_way.stops in
       let sum = add p i b end q on_way.input (before_end i b stop is can) (end_is_cut i b stop can) in
       let more = subst (λ c. IsPart (filter (row_is_at q) (rows_in w)) (option_to_list (due_between p i.sources c end q))) at.offsets (so_far at.snapshot q) in
       together q before (rows_in w) _ _ _ (due q) more sum (earlier_part (is_due p.window (merged_watermark i.sources b) q.start) (plan_rows p i.sources q) (due_rows p i.sources end q) (due_rows p i.sources end q) sum)
@@ -71,19 +77,19 @@ module _ (p : PlanData) (i : InputData) (s : StartData) (saves : List (List (Lis
   due_there at_end xs q = subst (λ o. IsPart xs (option_to_list o)) (row_to at_end p i stop q on_way.plan on_way.input on_way.belongs)
 
 pub each_moment : EachRowAddsUp → Carry → EachMomentOverInputs
-each_moment each carry p i stop w [] (sets_out_on {s = s} nothing way) q =
-    let g = on_way p i s [] stop w way in
-    let at = at_first p i s way.layout [] stop g nothing in
-    let none_due : AreRowsOf (due_rows p i.sources (empty_cut i.sources)) [] = λ x. sym (ap option_to_list (carry.none p i x (is_fit p i s way.layout [] stop g).orderly)) in
-    due_there p i s [] stop w way carry.end (filter (row_is_at q) (rows_in w)) q (with_earlier p i s [] stop w way each (empty_cut i.sources) 0 at (empty_is_cut i.sources) [] none_due q)
-each_moment each carry p i stop w (before ∷ earlier) (goes_further_with {old = old} {cut = cut} {s = s} legs same savepoint from way) q =
+each_moment each carry p i stop w [] (sets_out_on {s = s} {saves = saves} nothing way) q =
+    let f = fit p i s saves stop w way in
+    let at = at_first p i s (on_way p i s saves stop w way).starts nothing in
+    let none_due : AreRowsOf (due_rows p i.sources (empty_cut i.sources)) [] = λ x. sym (ap option_to_list (carry.none p i x f.orderly)) in
+    due_there p i s saves stop w way carry.end (filter (row_is_at q) (rows_in w)) q (with_earlier p i s saves stop w way each (empty_cut i.sources) 0 at (empty_is_cut i.sources) [] none_due q)
+each_moment each carry p i stop w (before ∷ earlier) (goes_further_with {old = old} {cut = cut} {s = s} {saves = saves} legs same savepoint from way) q =
     let c = comes carry p old (At cut) (before ∷ earlier) legs in
-    let g = on_way p i s [] stop w way in
-    let there = left_to carry p old i cut before earlier s c (is_fit p i s way.layout [] stop g) same savepoint from in
-    let number = length (before ∷ earlier) in
-    let at = from_bytes p i s way.layout [] stop g carry.restart carry.one cut.counts number (leg_savepoint before) there.is_cut there.saved_at savepoint from in
-    due_there p i s [] stop w way carry.end _ q
-    (with_earlier p i s [] stop w way each cut.counts number at there.is_cut (delivered (before ∷ earlier)) (due_too p old i cut.counts number (leg_savepoint before) (delivered (before ∷ earlier)) there c.due) q)
+    let f = fit p i s saves stop w way in
+    let there = left_to carry p old i cut before earlier s c f same savepoint from in
+    let number = savepoints_in (before ∷ earlier) in
+    let at = from_bytes p i s f carry.restart carry.one cut.counts number (leg_savepoint before) there.is_cut there.saved_at savepoint from in
+    due_there p i s saves stop w way carry.end _ q
+    (with_earlier p i s saves stop w way each cut.counts number at there.is_cut (delivered (before ∷ earlier)) (due_too p old i cut.counts number (leg_savepoint before) (delivered (before ∷ earlier)) there c.due) q)
 
 -- with one input for all of them
 pub one_input_is_part : EachMomentOverInputs → EachMomentIsPart

@@ -3,7 +3,7 @@
 ghost use Rattle.lineages.specs.Calls.{CallsAreAnswered, CallsAreExact, SaidComesFrom};
 ghost use Rattle.lineages.specs.Changes.{AcceptedAgree, BetweenIsSame, CallsOverInputsAreExact, EachMomentOverInputs, HeadlineOverInputs, LineagesOverInputsAreExact};
 ghost use Rattle.lineages.specs.Dealing.{DealtAreGathered, SavepointsAreGatheredAgain};
-ghost use Rattle.lineages.specs.Lineage.{BytesRestart, EachMomentIsPart, EachMomentOfALeg, FinishedIsLeg, Headline, LineagesAreExact, OneSavepoint, TasksAreLeg};
+ghost use Rattle.lineages.specs.Lineage.{BytesRestart, EachMomentIsPart, EachMomentOfALeg, FinishedIsLeg, Headline, LegsTakeTheirSavepoints, LineagesAreExact, OneSavepoint, TasksAreLeg, TasksGiveUp, WorldsGiveUp};
 ghost use Rattle.lineages.specs.Steps.{EachStepFalls};
 
 use gather::laws::same_panes_same_savepoint;
@@ -19,8 +19,9 @@ use stream_input::laws::said_is_input;
 use stream_model::laws::end_is_due;
 
 /// The headline theorem: once one leg of a job runs to the end of its input, the rows that all its legs have delivered together
-/// are just the plan's rows on the whole input, each once, whatever the order of steps, in one thread or many, and at whatever
-/// cuts, parallelisms and chainings the job was stopped with a savepoint and started again.
+/// are just the plan's rows on the whole input, each once, whatever the order of steps, in one thread or many, at whatever
+/// cuts, parallelisms and chainings the job was stopped with a savepoint and started again, and at whatever moments legs were
+/// given up with what they had sealed at a savepoint on their way.
 pub fn headline()
     ensures { Headline }
 {
@@ -47,16 +48,33 @@ pub fn tasks_are_leg()
     ensures { TasksAreLeg }
 {}
 
-/// Legs of which the last stopped at a cut have delivered just the rows that are due there, each once, and leave the savepoint
-/// of the cut, numbered by the legs.
+/// A leg that has ended has taken the savepoints on its way, and that of its stop.
+pub fn legs_take_their_savepoints()
+    ensures { LegsTakeTheirSavepoints }
+{}
+
+/// A world that is given up at any moment, also where a step found no memory, gives what it had sealed (`World::sealed`), and has
+/// come to the cut of that barrier.
+pub fn worlds_give_up()
+    ensures { WorldsGiveUp }
+{}
+
+/// So do tasks that stand on the way of a leg, as those do that workers on threads hand back also where one had a fault
+/// (`thread_runner::laws::workers_are_on_the_way`), with what `sealed_of` says of them.
+pub fn tasks_give_up()
+    ensures { TasksGiveUp }
+{}
+
+/// Legs of which the last has come to a cut, where it stopped or was given up, have delivered just the rows that are due there,
+/// each once, and leave the savepoint of the cut, numbered by all savepoints that they have taken.
 pub fn lineages_are_exact()
     ensures { LineagesAreExact }
 {
     let _over = lineages_over_inputs_are_exact();
 }
 
-/// Legs of which each has an input of its own, and the last stopped at a cut, have delivered just the rows that are due there by
-/// the last input, each once, and leave the savepoint of that input's cut, numbered by the legs.
+/// Legs of which each has an input of its own, and the last has come to a cut, have delivered just the rows that are due there by
+/// the last input, each once, and leave the savepoint of that input's cut, numbered by all savepoints that they have taken.
 pub fn lineages_over_inputs_are_exact()
     ensures { LineagesOverInputsAreExact }
 {
@@ -164,7 +182,7 @@ pub fn calls_over_inputs_are_exact()
 }
 
 /// Legs from one snapshot to one cut, after as many savepoints, leave the same bytes at every scale and in every order of steps,
-/// in one thread and on many.
+/// in one thread and on many, whether they stopped there or were given up with what they had sealed there.
 pub fn one_savepoint()
     ensures { OneSavepoint }
 {

@@ -14,9 +14,11 @@ pub(crate) enum Call {
     RunLegBy,
     RunLegSaving,
     RunLeg,
+    RunLegSealing,
     RunLegsBy,
     RunLegs,
     JobLeg,
+    JobLegSealing,
     JobRun,
 }
 
@@ -35,9 +37,11 @@ impl Call {
             "run_leg_by" => Some(Call::RunLegBy),
             "run_leg_saving" => Some(Call::RunLegSaving),
             "run_leg" => Some(Call::RunLeg),
+            "run_leg_sealing" => Some(Call::RunLegSealing),
             "run_legs_by" => Some(Call::RunLegsBy),
             "run_legs" => Some(Call::RunLegs),
             "job_leg" => Some(Call::JobLeg),
+            "job_leg_sealing" => Some(Call::JobLegSealing),
             "job_run" => Some(Call::JobRun),
             _ => None,
         }

@@ -1,9 +1,10 @@
 //! Jobs from bytes to bytes.
 
 use crate::files::{file, word};
+use crate::gates::SlowWindow;
 use crate::telling::{answered, begins, left, refused};
-use crate::texts::text_of_saved;
-use job::{OpenGate, job_leg, job_run};
+use crate::texts::text_of_leg;
+use job::{Gate, OpenGate, job_leg, job_run};
 use job_texts::JobFault;
 use std::alloc::{AllocError, Global};
 use std::random::RandomSource;
@@ -32,20 +33,27 @@ fn hash_keys(rt: &impl RandomSource) -> Result<HashKeys, JobFault> {
     }
 }
 
-/// Runs a leg of the job from the savepoint to the cut.
-pub(crate) fn job_leg_calls<
+/// Where a leg takes savepoints, and where it stops.
+#[derive(Drop)]
+struct Aims<'a> {
+    saves: Option<&'a str>,
+    stop: Option<&'a str>,
+}
+
+/// Runs a leg of the job from the savepoint.
+fn job_leg_to<
     R: Files + Print + RandomSource + Threads + Wait + Clock + Sync + AllocGlobal,
->(rt: &R) -> Result<(), JobFault> {
+    G: Gate,
+>(rt: &R, name: &str, aims: &Aims<'_>, gate: &G) -> Result<(), JobFault> {
     let alloc = rt.alloc();
     let keys = hash_keys(rt)?;
     let plan = file(rt, "plan")?;
     let scale = file(rt, "scale")?;
     let savepoint = file(rt, "savepoint")?;
-    let stop = word(rt, "stop")?;
     for _ in 0..2 {
         let input = file(rt, "input")?;
         let mut out = writer(alloc)?;
-        begins(rt, "job_leg")?;
+        begins(rt, name)?;
         match job_leg(
             rt,
             alloc,
@@ -54,13 +62,14 @@ pub(crate) fn job_leg_calls<
             input,
             &scale,
             Some(&savepoint),
-            Some(stop.as_str()),
-            &OpenGate,
+            aims.saves,
+            aims.stop,
+            gate,
             &mut out,
         ) {
-            Ok(saved) => {
+            Ok(end) => {
                 let rows = String::from_utf8_lossy(alloc, &out)?;
-                return answered(rt, text_of_saved(alloc, rows.as_str(), &saved)?.as_str());
+                return answered(rt, text_of_leg(alloc, rows.as_str(), &end)?.as_str());
             }
             Err(fault) => {
                 refused(rt, &fault)?;
@@ -70,6 +79,30 @@ pub(crate) fn job_leg_calls<
         }
     }
     Ok(())
+}
+
+/// Runs a leg of the job from the savepoint to the cut.
+pub(crate) fn job_leg_calls<
+    R: Files + Print + RandomSource + Threads + Wait + Clock + Sync + AllocGlobal,
+>(rt: &R) -> Result<(), JobFault> {
+    let stop = word(rt, "stop")?;
+    let aims = Aims {
+        saves: None,
+        stop: Some(stop.as_str()),
+    };
+    job_leg_to(rt, "job_leg", &aims, &OpenGate)
+}
+
+/// Runs a leg of the job from the savepoint to the end, with a savepoint on its way where the other stops.
+pub(crate) fn job_leg_sealing_calls<
+    R: Files + Print + RandomSource + Threads + Wait + Clock + Sync + AllocGlobal,
+>(rt: &R) -> Result<(), JobFault> {
+    let saves = word(rt, "stop")?;
+    let aims = Aims {
+        saves: Some(saves.as_str()),
+        stop: None,
+    };
+    job_leg_to(rt, "job_leg_sealing", &aims, &SlowWindow { rt })
 }
 
 /// Runs the job in the legs of the list.

@@ -7,6 +7,7 @@
 
 mod calls;
 mod files;
+mod gates;
 mod jobs;
 mod planned;
 mod runs;
@@ -17,7 +18,7 @@ mod texts;
 mod worlds;
 
 use crate::calls::Call;
-use crate::jobs::{job_leg_calls, job_run_calls};
+use crate::jobs::{job_leg_calls, job_leg_sealing_calls, job_run_calls};
 use crate::planned::planned_calls;
 use crate::saved::decode_calls;
 use job_texts::{JobFault, status_of};
@@ -63,6 +64,7 @@ fn make<R: Files + Print + RandomSource + Threads + Wait + Clock + Sync + AllocG
     match call {
         Call::Decode => decode_calls(rt),
         Call::JobLeg => job_leg_calls(rt),
+        Call::JobLegSealing => job_leg_sealing_calls(rt),
         Call::JobRun => job_run_calls(rt),
         _ => planned_calls(rt, call),
     }

@@ -5,6 +5,7 @@ ghost use Rattle.redistribute.specs.Begins.{IsStartIn};
 ghost use Rattle.stream_model.specs.InputData.{BelongsTo};
 
 use crate::files::{file, word};
+use crate::gates::SlowWindow;
 use crate::telling::{answered, begins, refused};
 use crate::texts::Told;
 use job_legs::{run_legs, run_legs_by};
@@ -186,6 +187,58 @@ pub(crate) fn run_leg_calls<R: Files + Print + Threads + Wait + Clock + Sync + A
     let stop = word(rt, "stop")?;
     if !run_leg_once(rt, keys, plan, input, start, scale, stop.as_str())? {
         run_leg_once(rt, keys, plan, input, start, scale, stop.as_str())?;
+    }
+    Ok(())
+}
+
+fn run_leg_sealing_once<R: Print + Threads + Wait + Clock + Sync + AllocGlobal>(
+    rt: &R,
+    keys: HashKeys,
+    plan: &Plan,
+    input: &Input,
+    start: &Start,
+    scale: &Scale,
+    word: &str,
+) -> Result<bool, JobFault>
+    requires belongs { BelongsTo plan.now input.now }
+    requires scale { IsScale plan.now scale.now }
+    requires starts { IsStartIn plan.now input.now start.now }
+{
+    let alloc = rt.alloc();
+    let saves = [read_cut(alloc, word)?];
+    let gate = SlowWindow { rt };
+    begins(rt, "run_leg_sealing")?;
+    let finish = run_leg(
+        rt,
+        alloc,
+        keys,
+        plan,
+        input,
+        start,
+        scale,
+        &saves,
+        thread_runner::Stop::Never,
+        &gate,
+    );
+    told(rt, finish)
+}
+
+/// Runs a leg with a thread for each of its tasks to its end, with a savepoint on its way where the others stop.
+pub(crate) fn run_leg_sealing_calls<R: Files + Print + Threads + Wait + Clock + Sync + AllocGlobal>(
+    rt: &R,
+    keys: HashKeys,
+    plan: &Plan,
+    input: &Input,
+    start: &Start,
+    scale: &Scale,
+) -> Result<(), JobFault>
+    requires belongs { BelongsTo plan.now input.now }
+    requires scale { IsScale plan.now scale.now }
+    requires starts { IsStartIn plan.now input.now start.now }
+{
+    let stop = word(rt, "stop")?;
+    if !run_leg_sealing_once(rt, keys, plan, input, start, scale, stop.as_str())? {
+        run_leg_sealing_once(rt, keys, plan, input, start, scale, stop.as_str())?;
     }
     Ok(())
 }

@@ -1,6 +1,7 @@
 //! The texts of answers.
 
 use core_steps::{Finish, Sealed};
+use job::LegOut;
 use job_legs::LegsEnd;
 use job_texts::{sort_rows, text_of_rows, text_of_savepoint};
 use plan_model::Row;
@@ -12,6 +13,9 @@ fn text_of_sorted(alloc: Global, rows: Vec<Row>) -> Result<String, AllocError> {
     sort_rows(&mut rows)?;
     text_of_rows(alloc, rows.as_slice())
 }
+
+/// What stands before the text of a leg that was given up.
+const GIVEN_UP: &str = "given up\n";
 
 /// What legs come to, as a text.
 pub(crate) trait Told {
@@ -25,6 +29,13 @@ fn text_of_stop(
 ) -> Result<String, AllocError> {
     let mut text = text_of_sorted(alloc, rows)?;
     text.push_str(text_of_savepoint(alloc, savepoint.contents())?.as_str())?;
+    Ok(text)
+}
+
+fn text_of_seal(alloc: Global, sealed: Sealed) -> Result<String, AllocError> {
+    let mut text = String::from_str(alloc, GIVEN_UP)?;
+    let part = text_of_stop(alloc, sealed.rows.into_vec(), &sealed.savepoint)?;
+    text.push_str(part.as_str())?;
     Ok(text)
 }
 
@@ -48,9 +59,7 @@ impl Told for Finish {
         match self {
             Finish::Ended(rows, sealed) => text_of_end(alloc, rows.into_vec(), sealed),
             Finish::Stopped(rows, savepoint) => text_of_stop(alloc, rows.into_vec(), &savepoint),
-            Finish::Abandoned(sealed) => {
-                text_of_stop(alloc, sealed.rows.into_vec(), &sealed.savepoint)
-            }
+            Finish::Abandoned(sealed) => text_of_seal(alloc, sealed),
         }
     }
 }
@@ -61,6 +70,16 @@ impl Told for LegsEnd {
         let rows = text_of_rows(alloc, self.rows.as_slice())?;
         text_of_saved(alloc, rows.as_str(), &self.savepoint)
     }
+}
+
+/// Rows that a leg has written, and the bytes of the savepoint that it leaves.
+pub(crate) fn text_of_leg(alloc: Global, rows: &str, out: &LegOut) -> Result<String, AllocError> {
+    let mut text = String::new(alloc);
+    if out.abandoned {
+        text.push_str(GIVEN_UP)?;
+    }
+    text.push_str(text_of_saved(alloc, rows, &out.savepoint)?.as_str())?;
+    Ok(text)
 }
 
 /// Rows that were written, and the bytes of a savepoint.

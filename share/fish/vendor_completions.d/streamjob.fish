@@ -25,9 +25,10 @@ complete -c streamjob -n '__fish_seen_subcommand_from run' -l names -r -d 'File 
 complete -c streamjob -n '__fish_seen_subcommand_from simulate' -F
 complete -c streamjob -n '__fish_seen_subcommand_from leg' -F
 complete -c streamjob -n '__fish_seen_subcommand_from leg' -l from -r -d 'File of the savepoint to go on from' -F
+complete -c streamjob -n '__fish_seen_subcommand_from leg' -l saves -r -d 'Cuts at which the leg takes savepoints on its way, with + between them, and goes on' -f
 complete -c streamjob -n '__fish_seen_subcommand_from leg' -l stop -r -d 'Cut to stop at; without it the leg goes to the end of the input' -f
-complete -c streamjob -n '__fish_seen_subcommand_from leg' -l stop-file -r -d 'File that stops the leg where it is, once it is there; with --save, and not with --stop' -F
-complete -c streamjob -n '__fish_seen_subcommand_from leg' -l save -r -d 'File to write the savepoint to, if the leg stops' -F
+complete -c streamjob -n '__fish_seen_subcommand_from leg' -l stop-file -r -d 'File that stops the leg where it is, once it is there; with --save, and without --stop and --saves' -F
+complete -c streamjob -n '__fish_seen_subcommand_from leg' -l save -r -d 'File to write the savepoint to: that of the stop, or else the last one on the way' -F
 complete -c streamjob -n '__fish_seen_subcommand_from leg' -l since -r -d 'Receipt of the leg that left the savepoint: what it tells of has to be as it was; with --from' -f
 complete -c streamjob -n '__fish_seen_subcommand_from leg' -l receipt -r -d 'File to write the receipt to, which tells of what was read before the cut, and printed' -F
 complete -c streamjob -n '__fish_seen_subcommand_from leg' -l names -r -d 'File of the table of names, of which receipts tell too' -F

@@ -1,11 +1,17 @@
-use Rattle.std.proofs.Common.{List, None, Some, sym, subst}
-use Rattle.plan_model.specs.declared.spec.Row.{Row}
+use Rattle.std.proofs.Common.{List, sym, subst}
+use Rattle.legs.specs.declared.cut.Cut.{Cut}
+use Rattle.legs.specs.Stops.{counts_of}
+use Rattle.redistribute.specs.StartData.{offsets_of}
+use Rattle.redistribute.specs.Stopping.{CanSaveAt}
+use Rattle.core_steps.specs.Ending.{IsEndOf}
+use Rattle.thread_runner.specs.Refusal.{IsThreadRefusal}
+use Rattle.thread_runner.specs.Stops.{until_of}
 use Rattle.job_texts.specs.Fault.{leg_fault}
 use Rattle.job.specs.declared.leg.LegRows.{LegRows}
-use Rattle.job.specs.Asked.{EndsSo, may_ask, stop_in}
-use Rattle.job.specs.Leg.{AreLegRows, GivesLeg, IsLegSaved, leg_job}
+use Rattle.job.specs.Asked.{EndsSo, aims_in, may_ask}
+use Rattle.job.specs.Leg.{AreLegRows, GivesLeg, leg_job}
 use Rattle.job.proofs.LegAnswers.{err_is}
-use Rattle.job.proofs.LegEnds.{can_stop, gives_ended, gives_stopped, halts}
+use Rattle.job.proofs.LegEnds.{can_run, gives, halts}
 use Rattle.job.proofs.leg.leg_rows.Goals as goal
 
 pub returns-in_err-finish : goal.returns-in_err-finish
@@ -13,28 +19,21 @@ returns-in_err-finish g c =
     let p = c.args.plan.now in
     let i = c.args.input.now in
     let s = c.args.start.now in
-    let t = c.args.stop in
+    let aims = c.args.aims in
     let r = c.from_residual in
     let f = c.in_err-finish.field-0.0 in
-    let is = λ (given : LegRows). EndsSo (may_ask t) (λ leg. AreLegRows leg given.rows.items × IsLegSaved leg given.savepoint) (leg_job p i s (stop_in t)) in
-    subst (GivesLeg is (leg_job p i s (stop_in t))) (sym (err_is r.result (leg_fault f) r.ensures.0 r.ensures.1)) (halts p i s is t f c.in_err-finish.ensures.refused)
+    let is = λ (given : LegRows). EndsSo (may_ask aims.stop) (λ leg. AreLegRows given.abandoned leg given.rows.items given.savepoint) (leg_job p i s (aims_in aims)) in
+    let refused = subst (λ (cuts : List Cut). IsThreadRefusal i.sources (offsets_of s) (counts_of cuts) (until_of aims.stop) f) c.as_slice-saves.ensures c.in_err-finish.ensures.refused in
+    subst (GivesLeg is (leg_job p i s (aims_in aims))) (sym (err_is r.result (leg_fault f) r.ensures.0 r.ensures.1)) (halts p i s is aims.saves aims.stop f c.requires.aims refused)
 
-pub returns-in-Ended : goal.returns-in-Ended
-returns-in-Ended g c =
+pub returns : goal.returns
+returns g c =
     let e = c.in_ok-finish.ensures in
     let p = c.args.plan.now in
     let i = c.args.input.now in
     let s = c.args.start.now in
-    let t = c.args.stop in
-    let gives = gives_ended p i s t c.in_ok-finish.finish e.ends c.in-Ended.rows c.in-Ended.field-1 c.in-Ended.is in
-    (can_stop p i s t e.stops, subst (λ (rows : List Row). EndsSo (may_ask t) (λ leg. AreLegRows leg rows × IsLegSaved leg None) (leg_job p i s (stop_in t))) (sym c.into_vec.ensures) gives)
-
-pub returns-in-Stopped : goal.returns-in-Stopped
-returns-in-Stopped g c =
-    let e = c.in_ok-finish.ensures in
-    let p = c.args.plan.now in
-    let i = c.args.input.now in
-    let s = c.args.start.now in
-    let t = c.args.stop in
-    let gives = gives_stopped p i s t c.in_ok-finish.finish e.ends c.in-Stopped.rows c.in-Stopped.savepoint c.contents-contents.ensures.sound c.in-Stopped.is in
-    (can_stop p i s t e.stops, subst (λ (rows : List Row). EndsSo (may_ask t) (λ leg. AreLegRows leg rows × IsLegSaved leg (Some c.in-Stopped.savepoint)) (leg_job p i s (stop_in t))) (sym c.into_vec-in-Stopped.ensures) gives)
+    let aims = c.args.aims in
+    let same = c.as_slice-saves.ensures in
+    let save = subst (λ (cuts : List Cut). CanSaveAt i.sources (offsets_of s) (counts_of cuts) (until_of aims.stop)) same e.saves in
+    let ends = subst (λ (cuts : List Cut). IsEndOf p i s (counts_of cuts) (until_of aims.stop) c.in_ok-finish.finish) same e.ends in
+    (can_run p i s aims.saves aims.stop e.stops save c.requires.aims, gives p i s aims c.in_ok-finish.finish c.rows_of-given.result c.requires.aims ends c.rows_of-given.ensures c.see.ensures)

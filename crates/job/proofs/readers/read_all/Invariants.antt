@@ -1,4 +1,4 @@
-use Rattle.std.proofs.Common.{◌≡◌, ◌≤◌, vec_len}
+use Rattle.std.proofs.Common.{◌≤◌, vec_len}
 use Rattle.std.specs.Io.KnownBytes.{Consumes}
 use Rattle.job.specs.declared.readers.TheConstants.{MOST_BYTES}
 use Rattle.job.proofs.readers.read_all.Given as goal

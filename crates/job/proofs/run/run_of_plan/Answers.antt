@@ -3,7 +3,7 @@ use Rattle.input_texts.specs.Answer.{input_of_bytes}
 use Rattle.job_texts.specs.declared.fault.JobFault.TheVariants.{Input}
 use Rattle.job_texts.specs.Fault.{input_fault}
 use Rattle.job.specs.Ends.{as_job, OnThreads}
-use Rattle.job.specs.Run.{CanRunSo, IsRunText, run_by, run_with}
+use Rattle.job.specs.Run.{RunRuns, IsRunText, run_by, run_with}
 use Rattle.job.proofs.LegAnswers.{refused, read, told_of, input_told}
 use Rattle.job.proofs.run.run_of_plan.Goals as goal
 
@@ -12,12 +12,12 @@ unfolding run_by
 returns-in_err-input g c =
     let said = input_of_bytes c.args.plan.now c.args.input.items in
     let f = c.in_err-input.field-0.0 in
-    refused OnThreads CanRunSo (λ job text. IsRunText job (string_bytes text)) (λ i. run_with c.args.plan.now i (option_map (λ bytes. bytes.now) c.args.legs) None) (as_job Input said) (input_fault f)
+    refused OnThreads RunRuns (λ job text. IsRunText job (string_bytes text)) (λ i. run_with c.args.plan.now i (option_map (λ bytes. bytes.now) c.args.legs) None) (as_job Input said) (input_fault f)
     c.from_residual.result c.from_residual.ensures.0 c.from_residual.ensures.1 (told_of said Input (input_fault f) (input_told said f c.in_err-input.ensures.reads))
 
 pub returns : goal.returns
 unfolding run_by
 returns g c =
     let said = input_of_bytes c.args.plan.now c.args.input.items in
-    read OnThreads CanRunSo (λ job text. IsRunText job (string_bytes text)) (λ i. run_with c.args.plan.now i (option_map (λ bytes. bytes.now) c.args.legs) None) (as_job Input said) c.in_ok-input.input
+    read OnThreads RunRuns (λ job text. IsRunText job (string_bytes text)) (λ i. run_with c.args.plan.now i (option_map (λ bytes. bytes.now) c.args.legs) None) (as_job Input said) c.in_ok-input.input
     c.run_on_input.result (ap (as_job Input) c.in_ok-input.ensures.reads) c.run_on_input.ensures

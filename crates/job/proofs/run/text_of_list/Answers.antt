@@ -2,7 +2,7 @@ use Rattle.std.proofs.Common.{◌∙◌, ap, refl, sym, subst, string_bytes, Glo
 use Rattle.job_texts.specs.Fault.{leg_fault}
 use Rattle.job_texts.specs.Text as texts
 use Rattle.job.specs.Ends.{Ends, OnThreads}
-use Rattle.job.specs.Run.{CanRunSo, IsRunText, run_job}
+use Rattle.job.specs.Run.{RunRuns, IsRunText, run_job}
 use Rattle.job.proofs.LegAnswers.{err_is}
 use Rattle.job.proofs.RunAnswers.{threads_fail}
 use Rattle.job.proofs.run.text_of_list.Goals as goal
@@ -14,7 +14,7 @@ returns-in_err-end g c =
     let legs = c.args.legs.items in
     let f = c.in_err-end.field-0.0 in
     let r = c.from_residual in
-    subst (Ends OnThreads CanRunSo (λ job text. IsRunText job (string_bytes {Z = Global} text)) (Ok (run_job p i (Some legs)))) (sym (err_is r.result (leg_fault f) r.ensures.0 r.ensures.1))
+    subst (Ends OnThreads RunRuns (λ job text. IsRunText job (string_bytes {Z = Global} text)) (Ok (run_job p i (Some legs)))) (sym (err_is r.result (leg_fault f) r.ensures.0 r.ensures.1))
     (threads_fail (string_bytes {Z = Global}) p i legs c.requires.list f c.in_err-end.ensures)
 
 pub returns : goal.returns

@@ -2,7 +2,7 @@ use Rattle.std.proofs.Common.{◌∙◌, ap, refl, sym, subst, string_bytes, len
 use Rattle.job_texts.specs.Fault.{leg_fault}
 use Rattle.job_texts.specs.Text as texts
 use Rattle.job.specs.Ends.{Ends, InOneThread}
-use Rattle.job.specs.Run.{CanRunSo, IsRunText, run_job}
+use Rattle.job.specs.Run.{RunRuns, IsRunText, run_job}
 use Rattle.job.proofs.LegAnswers.{err_is}
 use Rattle.job.proofs.RunAnswers.{legs_fail}
 use Rattle.job.proofs.simulate.text_by.Goals as goal
@@ -14,7 +14,7 @@ returns-in_err-end c =
     let legs = c.args.legs.items in
     let f = c.in_err-end.field-0.0 in
     let r = c.from_residual in
-    subst (Ends InOneThread CanRunSo (λ job text. IsRunText job (string_bytes {Z = Global} text)) (Ok (run_job p i (Some legs)))) (sym (err_is r.result (leg_fault f) r.ensures.0 r.ensures.1))
+    subst (Ends InOneThread RunRuns (λ job text. IsRunText job (string_bytes {Z = Global} text)) (Ok (run_job p i (Some legs)))) (sym (err_is r.result (leg_fault f) r.ensures.0 r.ensures.1))
     (legs_fail InOneThread (string_bytes {Z = Global}) p i legs c.requires.list (length c.args.choices.now) c.requires.choices f c.in_err-end.ensures.ends)
 
 pub returns : goal.returns

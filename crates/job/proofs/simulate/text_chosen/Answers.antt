@@ -3,7 +3,7 @@ use Rattle.leg_lists.specs.Answer as lists
 use Rattle.leg_lists.specs.ChoicesText.{choices_of_bytes}
 use Rattle.job_texts.specs.Fault.{leg_fault}
 use Rattle.job.specs.Ends.{as_job, InOneThread}
-use Rattle.job.specs.Run.{CanRunSo, IsRunText, choices_in, run_job}
+use Rattle.job.specs.Run.{RunRuns, IsRunText, choices_in, run_job}
 use Rattle.job.proofs.LegAnswers.{read, refused}
 use Rattle.job.proofs.RunAnswers.{are_chosen, legs_told}
 use Rattle.job.proofs.simulate.text_chosen.Goals as goal
@@ -14,7 +14,7 @@ returns-in_err-choices c =
     let bytes = c.args.choices.now in
     let said = choices_of_bytes (length c.args.legs.items) bytes in
     let f = c.in_err-choices.field-0.0 in
-    refused InOneThread CanRunSo (λ job text. IsRunText job (string_bytes text)) (λ choices. Ok (run_job c.args.plan.now c.args.input.now (Some c.args.legs.items))) (as_job leg_fault said) (leg_fault f) c.from_residual.result c.from_residual.ensures.0 c.from_residual.ensures.1
+    refused InOneThread RunRuns (λ job text. IsRunText job (string_bytes text)) (λ choices. Ok (run_job c.args.plan.now c.args.input.now (Some c.args.legs.items))) (as_job leg_fault said) (leg_fault f) c.from_residual.result c.from_residual.ensures.0 c.from_residual.ensures.1
     (legs_told said f (subst (λ n. lists.Fails lists.is_memory f (choices_of_bytes n bytes)) (c.len.ensures ∙ c.args.legs.ok.0) c.in_err-choices.ensures))
 
 pub text_by-requires-clause-choices : goal.text_by-requires-clause-choices
@@ -24,5 +24,5 @@ pub returns : goal.returns
 unfolding choices_in
 returns c =
     let bytes = c.args.choices.now in
-    read InOneThread CanRunSo (λ job text. IsRunText job (string_bytes text)) (λ choices. Ok (run_job c.args.plan.now c.args.input.now (Some c.args.legs.items))) (as_job leg_fault (choices_of_bytes (length c.args.legs.items) bytes)) c.in_ok-choices.choices
+    read InOneThread RunRuns (λ job text. IsRunText job (string_bytes text)) (λ choices. Ok (run_job c.args.plan.now c.args.input.now (Some c.args.legs.items))) (as_job leg_fault (choices_of_bytes (length c.args.legs.items) bytes)) c.in_ok-choices.choices
     c.text_by.result (ap (as_job leg_fault) (subst (λ n. choices_of_bytes n bytes ≡ Ok c.in_ok-choices.choices) (c.len.ensures ∙ c.args.legs.ok.0) c.in_ok-choices.ensures)) c.text_by.ensures

@@ -9,7 +9,7 @@ pub returns : goal.returns
 returns g c =
     let p = c.args.plan.now in
     let i = c.args.input.now in
-    let legs = c.args.legs.items in
+    let legs = c.args.legs.now in
     let run = c.in_ok-reached.ensures in
     let given = c.in_ok-end_of.ensures in
     let rows = given.rows (due_rows p i.sources (cut_to i (until_of (last_stop legs)))) run.after.rows in

@@ -1,80 +1,151 @@
-use Rattle.std.proofs.Common.{None, Ok, Err, refl, rules, sym, subst}
+use Rattle.std.proofs.Common.{◌≡◌, ◌∙◌, ◌+◌, List, ◌∷◌, Bor, drop, length, Ok, Err, None, ap, refl, rules, sym, subst, arith}
 use Rattle.std.specs.List.{All}
 use Rattle.std.proofs.lemmas.List.Elements.{All-tail}
-use Rattle.std.specs.Vec.Iter.{into_iter_items}
 use Rattle.layout_rules.specs.Scale.{IsScale}
+use Rattle.legs.specs.declared.cut.Cut.{Cut}
 use Rattle.legs.specs.declared.leg.LegSpec.{LegSpec}
+use Rattle.legs.specs.declared.stop.Stop.{Stop}
+use Rattle.legs.specs.Stops.{counts_of}
 use Rattle.stream_model.specs.Watermarks.{IsOrderly}
 use Rattle.job_legs.specs.declared.running.Reached.{Reached}
-use Rattle.job_legs.specs.Running.{HaveRun, IsRunRefusal}
+use Rattle.job_legs.specs.Running.{HaveRun, IsRunRefusal, saves_in}
 use Rattle.job_legs.specs.Ways.{AnswersLeg, CanRunLeg}
-use Rattle.job_legs.proofs.Given.{given}
-use Rattle.job_legs.proofs.Taken.{after, fails}
-use Rattle.job_legs.proofs.UnderWay.{IsOnWay, refused, scale_of, start, step}
+use Rattle.job_legs.proofs.Taken.{fails}
+use Rattle.job_legs.proofs.UnderWay.{IsOnWay, scale_of, start, turn_ended, turn_given_up, turn_refused, turn_takes, turned, turns_behind}
+use Rattle.job_legs.proofs.Turns.{dropped_length}
 use Rattle.job_legs.proofs.running.run_all.Goals as goal
+use Rattle.job_legs.proofs.running.run_all.Goals.{in-Some-2, in-None}
 
-pub loop-leg-init : goal.loop-leg-init
-loop-leg-init g c =
-    let e = sym c.into_iter-leg-iterator.ensures.into_iter_gives.0 in
+pub turns-init : goal.turns-init
+turns-init g c =
     let p = c.args.plan.now in
     let i = c.args.input.now in
+    let legs = c.args.legs.now in
     let r : Reached = record { rows = c.new.result; savepoint = None } in
     let orderly = subst (λ t. IsOrderly t i.sources) c.requires.belongs.time c.sources-sources.ensures.orderly in
     record {
-      way = subst (λ legs. IsOnWay p i c.args.legs.items legs r) e (start p i c.args.legs.items r c.requires.list (λ q. c.nothing_due_at_first-first.ensures p i q orderly) c.new.ensures.items refl);
-      scales = subst (All (λ (leg : LegSpec). IsScale p leg.scale)) e c.requires.scales;
+      way = subst (λ saves. IsOnWay p i legs legs saves r) (sym c.saves_of-saves.ensures) (start p i legs r c.requires.list (λ q. c.nothing_due_at_first-first.ensures p i q orderly) c.new.ensures.items refl);
+      scales = c.requires.scales;
     }
-
--- the job has come to where the leg begins
-pub next_start-requires-clause-saved : goal.next_start-requires-clause-saved
-next_start-requires-clause-saved g c =
-    let before = subst (λ legs. IsOnWay c.args.plan.now c.args.input.now c.args.legs.items legs c.loop-leg.reached) c.in-Some.ensures.steps.0 c.loop-leg.invariant.way in
-    (before.cut, before.number, before.at.saved)
 
 pub run-requires : goal.run-requires
 run-requires g c =
     let p = c.args.plan.now in
-    let e = c.in-Some.ensures.steps.0 in
-    let before = subst (λ legs. IsOnWay p c.args.input.now c.args.legs.items legs c.loop-leg.reached) e c.loop-leg.invariant.way in
-    let scale = scale_of p c.in-Some.leg (into_iter_items c.next.new.self) (subst (All (λ (leg : LegSpec). IsScale p leg.scale)) e c.loop-leg.invariant.scales) in
-    let can : CanRunLeg p c.args.input.now c.in_ok-start.start c.in-Some.leg.scale = (c.requires.belongs, scale, (c.in_ok-start.ensures before.cut before.number before.at.saved).in_input) in
+    let e = c.in-Some.ensures.cases.0 in
+    let t = subst (λ legs. IsOnWay p c.args.input.now c.args.legs.now legs c.turns.saves.now c.turns.reached) e c.turns.invariant.way in
+    let scale = scale_of p c.in-Some.leg.now c.in-Some.more.now (subst (All (λ (leg : LegSpec). IsScale p leg.scale)) e c.turns.invariant.scales) in
+    let can : CanRunLeg p c.args.input.now c.in_ok-start.start c.in-Some.leg.now.scale = (c.requires.belongs, scale, (c.in_ok-start.ensures t.between.here t.between.count t.between.at.saved).in_input) in
     search rules
 
 pub returns-in_err-finish : goal.returns-in_err-finish
 returns-in_err-finish g c =
     let p = c.args.plan.now in
     let i = c.args.input.now in
-    let all = c.args.legs.items in
-    let leg = c.in-Some.leg in
+    let all = c.args.legs.now in
+    let leg = c.in-Some.leg.now in
+    let more = c.in-Some.more.now in
+    let saves = c.turns.saves.now in
     let other = g.W.Way.other_fault in
-    let e = c.in-Some.ensures.steps.0 in
-    let before = subst (λ legs. IsOnWay p i all legs c.loop-leg.reached) e c.loop-leg.invariant.way in
-    let scale = scale_of p leg (into_iter_items c.next.new.self) (subst (All (λ (leg : LegSpec). IsScale p leg.scale)) e c.loop-leg.invariant.scales) in
-    let can : CanRunLeg p i c.in_ok-start.start leg.scale = (c.requires.belongs, scale, (c.in_ok-start.ensures before.cut before.number before.at.saved).in_input) in
-    let answered = subst (AnswersLeg other p i c.in_ok-start.start leg.stop) c.in_err-finish.was (c.requires.gives _ _ _ _ _ _ _ _ can c.run.ensures) in
+    let s = c.in_ok-start.start in
+    let e = c.in-Some.ensures.cases.0 in
+    let t = subst (λ legs. IsOnWay p i all legs saves c.turns.reached) e c.turns.invariant.way in
+    let scale = scale_of p leg more (subst (All (λ (leg : LegSpec). IsScale p leg.scale)) e c.turns.invariant.scales) in
+    let can : CanRunLeg p i s leg.scale = (c.requires.belongs, scale, (c.in_ok-start.ensures t.between.here t.between.count t.between.at.saved).in_input) in
+    let answered = subst (AnswersLeg other p i s (counts_of saves) c.in_ok-stop.stop) c.in_err-finish.was (c.requires.gives _ _ _ _ _ _ _ _ _ _ can c.run.ensures) in
+    let f = c.in_err-finish.field-0.0 in
     let r = c.from_residual-in_err-finish in
-    fails (HaveRun p i all) (IsRunRefusal other i all) c.in_err-finish.field-0.0 r.result r.ensures.0 r.ensures.1
-    (refused p i all leg other (into_iter_items c.next.new.self) c.loop-leg.reached c.in_err-finish.field-0.0 before
-    (λ cut number at few. given p i c.columns-columns.ensures.sound c.sources-sources.ensures.sound c.requires.belongs cut number c.in_ok-start.start (c.in_ok-start.ensures cut number at.saved) few leg.stop other (Err c.in_err-finish.field-0.0) answered))
+    let gives = turned p i all leg more saves c.turns.reached t c.columns-columns.ensures.sound c.sources-sources.ensures.sound c.requires.belongs s c.in_ok-start.ensures other (Err f) (subst (λ (stop : Stop). AnswersLeg other p i s (counts_of saves) stop (Err f)) c.in_ok-stop.ensures answered) in
+    fails (HaveRun p i all) (IsRunRefusal other i all) f r.result r.ensures.0 r.ensures.1 (turn_refused p i all leg more saves c.turns.reached t other f gives)
 
-pub loop-leg-preserved : goal.loop-leg-preserved
-loop-leg-preserved g c =
+pub rest_of-saves-requires : goal.rest_of-saves-requires
+rest_of-saves-requires g c =
     let p = c.args.plan.now in
     let i = c.args.input.now in
-    let all = c.args.legs.items in
-    let leg = c.in-Some.leg in
-    let more = into_iter_items c.next.new.self in
+    let all = c.args.legs.now in
+    let leg = c.in-Some.leg.now in
+    let more = c.in-Some.more.now in
+    let saves = c.turns.saves.now in
     let other = g.W.Way.other_fault in
-    let e = c.in-Some.ensures.steps.0 in
-    let before = subst (λ legs. IsOnWay p i all legs c.loop-leg.reached) e c.loop-leg.invariant.way in
-    let scales = subst (All (λ (leg : LegSpec). IsScale p leg.scale)) e c.loop-leg.invariant.scales in
-    let can : CanRunLeg p i c.in_ok-start.start leg.scale = (c.requires.belongs, scale_of p leg more scales, (c.in_ok-start.ensures before.cut before.number before.at.saved).in_input) in
-    let answered = subst (AnswersLeg other p i c.in_ok-start.start leg.stop) c.in_ok-finish.was (c.requires.gives _ _ _ _ _ _ _ _ can c.run.ensures) in
-    record {
-      way = step p i all leg more c.loop-leg.reached c.take_in.new.reached before (λ cut number at few.
-          let gives = given p i c.columns-columns.ensures.sound c.sources-sources.ensures.sound c.requires.belongs cut number c.in_ok-start.start (c.in_ok-start.ensures cut number at.saved) few leg.stop other (Ok c.in_ok-finish.finish) answered in (
-            gives.can,
-            after p i c.sources-sources.ensures.sound c.rows_add_up-add.ensures cut number c.loop-leg.reached c.take_in.new.reached leg.stop c.in_ok-finish.finish at gives c.in_ok-take_in.ensures.rows c.in_ok-take_in.ensures.savepoint,
-          ));
-      scales = All-tail (λ (leg : LegSpec). IsScale p leg.scale) leg more scales;
-    }
+    let s = c.in_ok-start.start in
+    let e = c.in-Some.ensures.cases.0 in
+    let t = subst (λ legs. IsOnWay p i all legs saves c.turns.reached) e c.turns.invariant.way in
+    let scale = scale_of p leg more (subst (All (λ (leg : LegSpec). IsScale p leg.scale)) e c.turns.invariant.scales) in
+    let can : CanRunLeg p i s leg.scale = (c.requires.belongs, scale, (c.in_ok-start.ensures t.between.here t.between.count t.between.at.saved).in_input) in
+    let finish = c.in_ok-finish.finish in
+    let answered = subst (AnswersLeg other p i s (counts_of saves) c.in_ok-stop.stop) c.in_ok-finish.was (c.requires.gives _ _ _ _ _ _ _ _ _ _ can c.run.ensures) in
+    let gives = turned p i all leg more saves c.turns.reached t c.columns-columns.ensures.sound c.sources-sources.ensures.sound c.requires.belongs s c.in_ok-start.ensures other (Ok finish) (subst (λ (stop : Stop). AnswersLeg other p i s (counts_of saves) stop (Ok finish)) c.in_ok-stop.ensures answered) in
+    (turn_takes p i all leg more saves c.turns.reached t finish c.in-Some-2.taken gives (sym c.in_ok-taken.ensures.taken ∙ c.in-Some-2.is)).1
+
+pub turns-smaller : goal.turns-smaller
+turns-smaller g c =
+    let p = c.args.plan.now in
+    let i = c.args.input.now in
+    let all = c.args.legs.now in
+    let leg = c.in-Some.leg.now in
+    let more = c.in-Some.more.now in
+    let saves = c.turns.saves.now in
+    let other = g.W.Way.other_fault in
+    let s = c.in_ok-start.start in
+    let e = c.in-Some.ensures.cases.0 in
+    let t = subst (λ legs. IsOnWay p i all legs saves c.turns.reached) e c.turns.invariant.way in
+    let scale = scale_of p leg more (subst (All (λ (leg : LegSpec). IsScale p leg.scale)) e c.turns.invariant.scales) in
+    let can : CanRunLeg p i s leg.scale = (c.requires.belongs, scale, (c.in_ok-start.ensures t.between.here t.between.count t.between.at.saved).in_input) in
+    let finish = c.in_ok-finish.finish in
+    let answered = subst (AnswersLeg other p i s (counts_of saves) c.in_ok-stop.stop) c.in_ok-finish.was (c.requires.gives _ _ _ _ _ _ _ _ _ _ can c.run.ensures) in
+    let gives = turned p i all leg more saves c.turns.reached t c.columns-columns.ensures.sound c.sources-sources.ensures.sound c.requires.belongs s c.in_ok-start.ensures other (Ok finish) (subst (λ (stop : Stop). AnswersLeg other p i s (counts_of saves) stop (Ok finish)) c.in_ok-stop.ensures answered) in
+    let now = λ (legs : Bor (List LegSpec)). legs.now in
+    let cuts = λ (taken : Bor (List Cut)). taken.now in
+    let before : turns_behind c.turns.rest.now ≡ 1 + length (saves_in more) + turns_behind more = ap turns_behind e in
+    elim c.match-branch-5.branch [
+      | in-Some-2 w ↦ (
+          let taken = w.in-Some-2.taken in
+          let most = turn_takes p i all leg more saves c.turns.reached t finish taken gives (sym c.in_ok-taken.ensures.taken ∙ w.in-Some-2.is) in
+          let left = dropped_length taken saves most.1 in
+          let some = most.0 in
+          let fewer : length c.match-branch-5.saves.now ≡ length (drop taken saves) = ap (λ (xs : List Cut). length xs) (ap cuts w.saves-is ∙ w.rest_of-saves.ensures) in
+          let same : turns_behind c.match-branch-5.rest.now ≡ turns_behind c.turns.rest.now = ap turns_behind (ap now w.rest-is) in
+          omega (arith, fewer, same, left, some))
+      | in-None w ↦ (
+          let next : length c.match-branch-5.saves.now ≡ length (saves_in more) = ap (λ (xs : List Cut). length xs) (ap cuts w.saves-is ∙ w.saves_of-saves-in-None.ensures) in
+          let behind : turns_behind c.match-branch-5.rest.now ≡ turns_behind more = ap turns_behind (ap now w.rest-is) in
+          omega (arith, next, behind, before))
+    ]
+
+pub turns-preserved : goal.turns-preserved
+turns-preserved g c =
+    let p = c.args.plan.now in
+    let i = c.args.input.now in
+    let all = c.args.legs.now in
+    let leg = c.in-Some.leg.now in
+    let more = c.in-Some.more.now in
+    let saves = c.turns.saves.now in
+    let other = g.W.Way.other_fault in
+    let s = c.in_ok-start.start in
+    let e = c.in-Some.ensures.cases.0 in
+    let t = subst (λ legs. IsOnWay p i all legs saves c.turns.reached) e c.turns.invariant.way in
+    let scale = scale_of p leg more (subst (All (λ (leg : LegSpec). IsScale p leg.scale)) e c.turns.invariant.scales) in
+    let can : CanRunLeg p i s leg.scale = (c.requires.belongs, scale, (c.in_ok-start.ensures t.between.here t.between.count t.between.at.saved).in_input) in
+    let finish = c.in_ok-finish.finish in
+    let answered = subst (AnswersLeg other p i s (counts_of saves) c.in_ok-stop.stop) c.in_ok-finish.was (c.requires.gives _ _ _ _ _ _ _ _ _ _ can c.run.ensures) in
+    let gives = turned p i all leg more saves c.turns.reached t c.columns-columns.ensures.sound c.sources-sources.ensures.sound c.requires.belongs s c.in_ok-start.ensures other (Ok finish) (subst (λ (stop : Stop). AnswersLeg other p i s (counts_of saves) stop (Ok finish)) c.in_ok-stop.ensures answered) in
+    let now = λ (legs : Bor (List LegSpec)). legs.now in
+    let cuts = λ (taken : Bor (List Cut)). taken.now in
+    let new = c.take_in.new.reached in
+    let input = c.sources-sources.ensures.sound in
+    let add = c.rows_add_up-add.ensures in
+    let fit = All (λ (leg : LegSpec). IsScale p leg.scale) in
+    elim c.match-branch-5.branch [
+      | in-Some-2 w ↦ (
+          let taken = w.in-Some-2.taken in
+          let again = turn_given_up p i all leg more saves c.turns.reached t input add new finish taken gives (sym c.in_ok-taken.ensures.taken ∙ w.in-Some-2.is) c.in_ok-taken.ensures.rows c.in_ok-taken.ensures.savepoint in
+          record {
+            way = subst (λ legs. IsOnWay p i all legs c.match-branch-5.saves.now new) (sym (ap now w.rest-is ∙ e)) (subst (λ (rest : List Cut). IsOnWay p i all (leg ∷ more) rest new) (sym (ap cuts w.saves-is ∙ w.rest_of-saves.ensures)) again);
+            scales = subst fit (sym (ap now w.rest-is)) c.turns.invariant.scales;
+          })
+      | in-None w ↦ (
+          let over = turn_ended p i all leg more saves c.turns.reached t input add new finish gives (sym c.in_ok-taken.ensures.taken ∙ w.in-None.is) c.in_ok-taken.ensures.rows c.in_ok-taken.ensures.savepoint in
+          record {
+            way = subst (λ legs. IsOnWay p i all legs c.match-branch-5.saves.now new) (sym (ap now w.rest-is)) (subst (λ (rest : List Cut). IsOnWay p i all more rest new) (sym (ap cuts w.saves-is ∙ w.saves_of-saves-in-None.ensures)) over);
+            scales = subst fit (sym (ap now w.rest-is)) (All-tail (λ (leg : LegSpec). IsScale p leg.scale) leg more (subst fit e c.turns.invariant.scales));
+          })
+    ]

@@ -1,11 +1,17 @@
-use Rattle.std.proofs.Common.{◌∙◌, ap, sym, option_map}
+use Rattle.std.proofs.Common.{◌≡◌, ◌∙◌, List, MatchResult, ap, sym, subst, option_map}
+use Rattle.legs.specs.declared.fault.LegFault.TheVariants.{Threads}
+use Rattle.legs.specs.declared.leg.LegSpec.{LegSpec}
 use Rattle.legs.specs.Requirements.{are_legs}
 use Rattle.job_legs.specs.Ending.{IsJobEnd}
+use Rattle.job_legs.specs.Running.{IsRunRefusal}
+use Rattle.job_legs.specs.declared.running.LegsEnd.{LegsEnd}
 use Rattle.job_legs.proofs.Refusals.{in_threads}
 use Rattle.job_legs.proofs.running.run_legs.Goals as goal
 
 pub returns : goal.returns
 returns g c =
-    let legs = c.args.legs.items in
-    in_threads (λ end. IsJobEnd c.args.plan.now c.args.input.now legs end.rows.items (option_map (λ b. b.items) end.savepoint)) c.args.input.now legs
-    (ap are_legs (sym c.deref.ensures.value) ∙ sym c.are_legs.ensures ∙ c.if-not-are_legs.false) c.end_of_legs.result c.end_of_legs.ensures
+    let p = c.args.plan.now in
+    let i = c.args.input.now in
+    let ends = subst (λ (legs : List LegSpec). MatchResult c.end_of_legs.result (λ (end : LegsEnd). IsJobEnd p i legs end.rows.items (option_map (λ b. b.items) end.savepoint)) (IsRunRefusal (λ fault. fault ≡ Threads) i legs)) c.deref-2.ensures.value c.end_of_legs.ensures in
+    in_threads (λ (end : LegsEnd). IsJobEnd p i c.args.legs.items end.rows.items (option_map (λ b. b.items) end.savepoint)) i c.args.legs.items
+    (ap are_legs (sym c.deref.ensures.value) ∙ sym c.are_legs.ensures ∙ c.if-not-are_legs.false) c.end_of_legs.result ends

@@ -1,13 +1,18 @@
-use Rattle.std.proofs.Common.{◌∙◌, ap, sym, length, option_map}
+use Rattle.std.proofs.Common.{◌∙◌, List, MatchResult, ap, sym, subst, length, option_map}
 use Rattle.std.proofs.lemmas.Bool.{eqb-true}
+use Rattle.legs.specs.declared.leg.LegSpec.{LegSpec}
 use Rattle.legs.specs.Requirements.{are_legs}
 use Rattle.job_legs.specs.Ending.{IsJobEnd}
+use Rattle.job_legs.specs.Running.{IsRunRefusal}
+use Rattle.job_legs.specs.declared.running.LegsEnd.{LegsEnd}
 use Rattle.job_legs.proofs.Refusals.{by_choices}
 use Rattle.job_legs.proofs.running.run_legs_by.Goals as goal
 
 pub returns-clause-ends : goal.returns-clause-ends
 returns-clause-ends c =
-    let legs = c.args.legs.items in
-    by_choices (λ end. IsJobEnd c.args.plan.now c.args.input.now legs end.rows.items (option_map (λ b. b.items) end.savepoint)) c.args.input.now legs
+    let p = c.args.plan.now in
+    let i = c.args.input.now in
+    let ends = subst (λ (legs : List LegSpec). MatchResult c.end_of_legs.result (λ (end : LegsEnd). IsJobEnd p i legs end.rows.items (option_map (λ b. b.items) end.savepoint)) (IsRunRefusal (λ fault. ⊥) i legs)) c.deref-2.ensures.value c.end_of_legs.ensures in
+    by_choices (λ (end : LegsEnd). IsJobEnd p i c.args.legs.items end.rows.items (option_map (λ b. b.items) end.savepoint)) i c.args.legs.items
     (ap are_legs (sym c.deref.ensures.value) ∙ sym c.are_legs.ensures ∙ c.if-not-are_legs.false) (length c.args.choices.now)
-    (eqb-true (length c.args.choices.now) c.len.result (sym c.are_choices.ensures ∙ c.if-not-are_choices.false) ∙ (c.len.ensures ∙ c.args.legs.ok.0)) c.end_of_legs.result c.end_of_legs.ensures
+    (eqb-true (length c.args.choices.now) c.len.result (sym c.are_choices.ensures ∙ c.if-not-are_choices.false) ∙ (c.len.ensures ∙ c.args.legs.ok.0)) c.end_of_legs.result ends

@@ -1,4 +1,4 @@
-use Rattle.lineages.proofs.Exact.{finished_is_leg}
+use Rattle.lineages.proofs.Gives.{finished_is_leg}
 use Rattle.lineages.proofs.laws.finished_is_leg.Goals as goal
 
 pub returns : goal.returns

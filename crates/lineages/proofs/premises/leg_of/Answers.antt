@@ -8,7 +8,7 @@ use Rattle.core_steps.specs.declared.finish.Finish.{Finish}
 use Rattle.core_steps.specs.Finishing.{HasFinished, IsFinishIn}
 use Rattle.core_steps.specs.World.{WorldData, IsWorld}
 use Rattle.lineages.specs.Lineage.{IsLeg, end_in}
-use Rattle.lineages.proofs.Exact.{finished_is_leg}
+use Rattle.lineages.proofs.Gives.{finished_is_leg}
 use Rattle.lineages.proofs.premises.leg_of.Goals as goal
 
 finished : (w : WorldData) → IsWorld w → (answer : Option Finish) → MatchOption answer (HasFinished w → ⊥) (λ finish. HasFinished w × IsFinishIn w finish) → IfSome answer (λ _. (stop : Stop) → w.given.until ≡ until_of stop → IsLeg w.given.plan w.given.input w.given.start w.given.saves stop (end_in w))
