@@ -1,7 +1,8 @@
 """A library that stands before the C library and refuses a program's allocations.
 
 It refuses the allocation number REFUSE_AT, counted from 1, and each of REFUSE_FROM bytes or more. What it refused is told by a byte
-written to the file REFUSE_TOLD, so that a run in which nothing was refused is known.
+written to the file REFUSE_TOLD, so that a run in which nothing was refused is known. How many bytes the program has asked for, and by how
+many allocations, stand in the files ASKED_TOLD and MADE_TOLD.
 """
 import os
 import subprocess
@@ -15,22 +16,28 @@ SOURCE = r"""
 #include <sys/mman.h>
 #include <unistd.h>
 
-static long counted, *asked;
+static long counted, *asked, *made;
 
-/* Where how much memory the program has asked for, all in all, is to stand, in a file of one number. */
-__attribute__((constructor)) static void open_asked(void)
+/* The number of a file that a variable of the environment names, or none. */
+static long *number_of(const char *name)
 {
-    const char *told = getenv("ASKED_TOLD");
+    const char *told = getenv(name);
     int file = told ? open(told, O_RDWR | O_CREAT | O_TRUNC, 0600) : -1;
     if (file < 0)
-        return;
-    if (ftruncate(file, sizeof *asked) != 0)
+        return 0;
+    if (ftruncate(file, sizeof(long)) != 0)
         abort();
-    long *place = mmap(0, sizeof *asked, PROT_READ | PROT_WRITE, MAP_SHARED, file, 0);
+    long *place = mmap(0, sizeof(long), PROT_READ | PROT_WRITE, MAP_SHARED, file, 0);
     close(file);
     if (place == MAP_FAILED)
         abort();
-    asked = place;
+    return place;
+}
+
+__attribute__((constructor)) static void open_numbers(void)
+{
+    asked = number_of("ASKED_TOLD");
+    made = number_of("MADE_TOLD");
 }
 
 static int is_refused(size_t size)
@@ -39,6 +46,8 @@ static int is_refused(size_t size)
     long count = __atomic_add_fetch(&counted, 1, __ATOMIC_SEQ_CST);
     if (asked)
         __atomic_add_fetch(asked, size, __ATOMIC_SEQ_CST);
+    if (made)
+        __atomic_add_fetch(made, 1, __ATOMIC_SEQ_CST);
     if (!(at && count == atol(at)) && !(from && size >= (size_t)atol(from)))
         return 0;
     int file = told ? open(told, O_WRONLY | O_CREAT | O_APPEND, 0600) : -1;
@@ -95,6 +104,6 @@ def make(folder):
 
 
 def environment(library, told, **refused):
-    """The environment in which what is named by REFUSE_AT, REFUSE_FROM or ASKED_TOLD is done, and a refusal is told in a file."""
+    """The environment in which what is named by REFUSE_AT, REFUSE_FROM, ASKED_TOLD or MADE_TOLD is done, and a refusal is told in a file."""
     named = {name: str(value) for name, value in refused.items()}
     return dict(os.environ) | {"LD_PRELOAD": str(library), "REFUSE_TOLD": str(told)} | named

@@ -4,8 +4,8 @@ import itertools
 
 from . import receipts
 from .jobs import (
-    LEAST, Refusal, SINK, ends_of, leg, level_stages, nothing_of, read_cut, read_input, read_legs, read_plan, read_scale, read_time, require, require_choices, require_stop,
-    text_of, watermark_at,
+    LEAST, Refusal, SINK, ends_of, leg_with_saves, level_stages, nothing_of, read_cut, read_cuts, read_input, read_legs, read_plan, read_scale, read_time, require,
+    require_choices, require_saves, require_stop, text_of, watermark_at,
 )
 from .savepoints import check, decode, encode, savepoint_of
 
@@ -24,14 +24,16 @@ def run(files, plan, input_, legs=None, choices=None):
         return run_parallel(files, plan, input_, choices)
     plan = read_plan(files[plan])
     sources = read_input(plan, files[input_])
-    cuts = [None] if legs is None else read_legs(plan, files[legs])
+    legs = [([], None)] if legs is None else read_legs(plan, files[legs])
     if choices is not None:
-        require_choices(files[choices], len(cuts))
+        require_choices(files[choices], len(legs))
     start, rows = nothing_of(sources), []
-    for cut in cuts:
-        if cut is not None:
-            require_stop(sources, start, cut)
-        more, start = leg(plan, sources, start, cut or ends_of(sources))
+    for saves, stop in legs:
+        if stop is not None:
+            require_stop(sources, start, stop)
+        cut = stop or ends_of(sources)
+        require_saves(sources, start, saves, cut)
+        more, start, _ = leg_with_saves(plan, sources, start, saves, cut)
         rows += more
     return text_of(plan, sorted(rows))
 
@@ -45,13 +47,13 @@ def run_parallel(files, plan, input_, parallelism):
 
 
 def run_leg(files, plan, input_, scale, *options):
-    """The answer of `leg`, whose options are `--from FILE`, `--stop CUT`, `--save FILE`, `--stop-file FILE`, which is there from the first or never, and those of receipts,
-    `--since FILE`, `--receipt FILE` and `--names FILE`."""
+    """The answer of `leg`, whose options are `--from FILE`, `--saves CUTS`, `--stop CUT`, `--save FILE`, `--stop-file FILE`, which is there from the first or never, and those
+    of receipts, `--since FILE`, `--receipt FILE` and `--names FILE`."""
     options = dict(zip(options[::2], options[1::2]))
     require("--since" not in options or "--from" in options, "C2 Number")
     require("--names" not in options or "--since" in options or "--receipt" in options, "C2 Number")
     require("--receipt" not in options or options["--receipt"] != options.get("--save"), "C2 Number")
-    require("--stop-file" not in options or ("--stop" not in options and "--save" in options), "C1 Cut")
+    require("--stop-file" not in options or ("--stop" not in options and "--saves" not in options and "--save" in options), "C1 Cut")
     if "--since" in options:
         require_receipt(files, plan, input_, options)
     plan = read_plan(files[plan])
@@ -60,16 +62,22 @@ def run_leg(files, plan, input_, scale, *options):
     start, cut = nothing_of(sources), ends_of(sources)
     if "--from" in options:
         start = check(plan, sources, decode(files[options["--from"]]))
+    saves = read_cuts(options["--saves"]) if "--saves" in options else []
     if "--stop" in options:
         cut = read_cut(options["--stop"])
         require_stop(sources, start, cut)
+    require_saves(sources, start, saves, cut)
     is_asked = options.get("--stop-file") in files
-    rows, left = leg(plan, sources, start, start.cut if is_asked else cut)
-    if "--save" in options and ("--stop" in options or is_asked):
-        files[options["--save"]] = encode(savepoint_of(plan, sources, left))
+    rows, left, saved = leg_with_saves(plan, sources, start, saves, start.cut if is_asked else cut)
+    has_stopped = "--stop" in options or is_asked
+    if has_stopped:
+        saved = left
+    if "--save" in options and saved is not None:
+        files[options["--save"]] = encode(savepoint_of(plan, sources, saved))
     text = text_of(plan, rows)
     if "--receipt" in options:
-        files[options["--receipt"]] = receipts.text_of(plan, sources, left.cut, left.number, text, files.get(options.get("--names")))
+        legs = left.number if has_stopped else start.number + 1
+        files[options["--receipt"]] = receipts.text_of(plan, sources, left.cut, legs, text, files.get(options.get("--names")))
     return text
 
 

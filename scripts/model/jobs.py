@@ -114,7 +114,8 @@ IS_PLAN = members(
 # Elements of records and watermarks that are no numbers have a fault of their own.
 IS_ENTRY = either(members({"rows": list_of(is_list)}), members({"watermark": lambda value: True}))
 IS_INPUT = members_alike(list_of(list_of(IS_ENTRY)))
-IS_LEGS = list_of(members({"scale": lambda value: True}, {"stop": list_of(list_of(lambda value: type(value) is int and 0 <= value < 2**64))}))
+IS_CUT = list_of(list_of(lambda value: type(value) is int and 0 <= value < 2**64))
+IS_LEGS = list_of(members({"scale": lambda value: True}, {"saves": list_of(IS_CUT), "stop": IS_CUT}))
 IS_CHOICES = list_of(list_of(lambda value: type(value) is int and 0 <= value < 2**32))
 IS_SCALE = members({"ring": is_number, "operators": members_alike(members({"parallelism": is_number}, {"chain": is_flag}))})
 
@@ -330,6 +331,16 @@ def leg(plan, sources, start, cut):
     return [row for row in rows if plan.keeps(row[1])], Start(start.number + 1, cut, windows)
 
 
+def leg_with_saves(plan, sources, start, saves, cut):
+    """The rows of a leg that takes savepoints at some cuts on its way, in order, what it leaves, and what the last of these savepoints holds, if there is one."""
+    rows, saved = [], None
+    for save in saves:
+        more, start = leg(plan, sources, start, save)
+        rows, saved = rows + more, start
+    more, left = leg(plan, sources, start, cut)
+    return sorted(rows + more), left, saved
+
+
 def text_of(plan, rows):
     words = ([start, start + plan.size, key, *numbers] for (start, key), numbers in rows)
     return "".join(" ".join(map(str, row)) + "\n" for row in words)
@@ -347,6 +358,10 @@ def read_cut(word):
     return cut
 
 
+def read_cuts(word):
+    return [read_cut(part) for part in word.split("+")]
+
+
 def read_time(word):
     """A number of 64 bits, with a hyphen or none and 1 to 19 digits, or a time of UTC in whole seconds, in milliseconds since 1970."""
     if re.fullmatch(r"-?[0-9]{1,19}", word, re.ASCII):
@@ -357,19 +372,27 @@ def read_time(word):
 
 
 def read_legs(plan, data):
-    """The cut of each leg of a list, of which the last may have none."""
+    """The cuts of the savepoints on the way of each leg of a list, and the cut where it stops, of which the last may have none."""
     legs = json_of(data, "L4 NotJson")
     require(IS_LEGS(legs), "L5 Member")
     for leg_of_list in legs:
         stages_at(plan, leg_of_list["scale"])
     require(1 <= len(legs) <= 1024 and all("stop" in leg_of_list for leg_of_list in legs[:-1]), "L3 Legs")
-    return [leg_of_list.get("stop") for leg_of_list in legs]
+    return [(leg_of_list.get("saves", []), leg_of_list.get("stop")) for leg_of_list in legs]
 
 
 def require_choices(data, legs):
     """Refuses what is no list of choices for each of so many legs; what they are changes no answer."""
     choices = json_of(data, "L6 Choices")
     require(IS_CHOICES(choices) and len(choices) == legs, "L6 Choices")
+
+
+def require_saves(sources, start, saves, cut):
+    """Refuses cuts at which a leg to a cut cannot take savepoints on its way."""
+    ends, cuts = ends_of(sources), [start.cut, *saves, cut]
+    require(len(saves) <= 1024, "L8 SaveRange")
+    require(all(list(map(len, save)) == list(map(len, ends)) for save in saves), "L8 SaveRange")
+    require(all(low <= high for pair in zip(cuts, cuts[1:]) for low, high in zip(*(sum(it, []) for it in pair))), "L8 SaveRange")
 
 
 def require_stop(sources, start, cut):
