@@ -3,66 +3,28 @@
 
     bench/parts/run.py [--program PROGRAM] [--parts N] [--runs N] [name=number ..]
 
-The input is that of `bench/job/generate.rs`, with its names and defaults (`records=1000000 keys=100000`, say), in a folder of its own
-that is removed. Measured are `cuts`, which reads it and does nothing else, `check`, `run`, `split` into N parts (4), `run` of each
-part, and `rows` over what they print, of which the text has to be that of the one `run`.
+The input is that of `bench/job/generate.rs`, with its names and defaults (`records=1000000 keys=100000`, say), in a
+folder of its own that is removed. Measured are `cuts`, which reads it and does nothing else, `check`, `run`, `split`
+into N parts (4), `run` of each part, and `rows` over what they print, of which the text has to be that of the one
+`run`.
 
-For each, the least CPU time of user and system, the least wall time and the greatest peak of memory, of 3 runs or as --runs says, and
-the CPU time over that of reading. The last line has the longest way of a job whose parts run side by side, over the one `run`: that of
-the slowest part, and the same with `split` before it and `rows` behind it. Ends with status 1 if two answers differ.
+For each, the least CPU time of user and system, the least wall time and the greatest peak of memory, of 3 runs or as
+--runs says, and the CPU time over that of reading. The last line has the longest way of a job whose parts run side by
+side, over the one `run`: that of the slowest part, and the same with `split` before it and `rows` behind it. Ends with
+status 1 if two answers differ.
 """
 import argparse
-import os
 import pathlib
-import subprocess
 import sys
 import tempfile
-import time
 
-HERE = pathlib.Path(__file__).resolve().parent
-TOP = HERE.parents[1]
-
-
-class Cost:
-    """The least time and the greatest peak of some runs of a command."""
-
-    def __init__(self):
-        self.cpu, self.wall, self.peak = float("inf"), float("inf"), 0.0
-
-    def take(self, usage, wall):
-        self.cpu = min(self.cpu, usage.ru_utime + usage.ru_stime)
-        self.wall = min(self.wall, wall)
-        self.peak = max(self.peak, usage.ru_maxrss / 1024)
-
-
-def run_once(program, folder, words, out):
-    """Runs a command with its output to a file of the folder; gives what it used, and how long it took."""
-    with open(folder / out, "wb") as file:
-        begun = time.monotonic()
-        child = subprocess.Popen([program, *words], cwd=folder, stdout=file)
-        _, status, usage = os.wait4(child.pid, 0)
-        wall = time.monotonic() - begun
-    child.returncode = os.waitstatus_to_exitcode(status)
-    if child.returncode:
-        sys.exit(f"{' '.join(words)}: status {child.returncode}")
-    return usage, wall
-
-
-def measured(program, folder, runs, words, out):
-    cost = Cost()
-    for _ in range(runs):
-        cost.take(*run_once(program, folder, words, out))
-    return cost
+sys.dont_write_bytecode = True
+sys.path.insert(0, str(pathlib.Path(__file__).resolve().parents[1]))
+from measuring import PROGRAM, generate, measured  # noqa: E402
 
 
 def told(name, cost, reading):
     print(f"{name:12} CPU {cost.cpu:7.3f} s, {cost.cpu / reading:5.2f} of reading; wall {cost.wall:7.3f} s; peak {cost.peak:7.1f} MB", flush=True)
-
-
-def generate(folder, shape):
-    made = folder / "generate"
-    subprocess.run(["rustc", "--edition", "2024", "-O", str(HERE.parent / "job/generate.rs"), "-o", str(made)], check=True)
-    subprocess.run([str(made), "plan.json", "input.json", *shape], cwd=folder, check=True)
 
 
 def measure(program, folder, parts, runs):
@@ -87,7 +49,7 @@ def measure(program, folder, parts, runs):
 
 def main():
     words = argparse.ArgumentParser(description=__doc__, formatter_class=argparse.RawDescriptionHelpFormatter)
-    words.add_argument("--program", default=str(TOP / "crates/streamjob/out/streamjob"))
+    words.add_argument("--program", default=str(PROGRAM))
     words.add_argument("--parts", type=int, default=4)
     words.add_argument("--runs", type=int, default=3)
     words.add_argument("shape", nargs="*", default=[])

@@ -3,61 +3,39 @@
 
     bench/saves/run.py [--program PROGRAM] [--runs N] [name=number ..]
 
-The input is that of `bench/job/generate.rs`, with its names and defaults (`records=1000000 keys=100000`, say), in a folder of its own that is removed.
-The leg goes to the end of the input, alone, with 16 savepoints where it begins, which hold nothing, and with 1, 4 and 16 on its way, at cuts at even
-steps through the input, the last of which is always the same. How many panes and numbers stand in the windows at each of these cuts is read off a leg
-that stops there.
+The input is that of `bench/job/generate.rs`, with its names and defaults (`records=1000000 keys=100000`, say), in a
+folder of its own that is removed. The leg goes to the end of the input, alone, with 16 savepoints where it begins,
+which hold nothing, and with 1, 4 and 16 on its way, at cuts at even steps through the input, the last of which is
+always the same. How many panes and numbers stand in the windows at each of these cuts is read off a leg that stops
+there.
 
-For each, the least CPU time of user and system, the least wall time and the greatest peak of memory, of 3 runs or as --runs says, the CPU time over
-that of the leg alone, and by how much the peak is over that of the leg with one savepoint, for each number that is kept for the savepoints before the
-last. Ends with status 1 if two legs print other rows.
+For each, the least CPU time of user and system, the least wall time and the greatest peak of memory, of 3 runs or as
+--runs says, the CPU time over that of the leg alone, and by how much the peak is over that of the leg with one
+savepoint, for each number that is kept for the savepoints before the last. Ends with status 1 if two legs print other
+rows.
 """
 import argparse
-import os
+import json
 import pathlib
 import re
 import subprocess
 import sys
 import tempfile
-import time
 
-HERE = pathlib.Path(__file__).resolve().parent
-TOP = HERE.parents[1]
+sys.dont_write_bytecode = True
+sys.path.insert(0, str(pathlib.Path(__file__).resolve().parents[1]))
+from measuring import PROGRAM, generate, measured  # noqa: E402
+
 COUNTS = [1, 4, 16]
 SCALE = '{"ring": 16, "operators": %s}'
-
-
-def run_once(program, folder, words, out):
-    """Runs a command with its output to a file of the folder; gives its CPU time, its wall time and its peak of memory in MB."""
-    with open(folder / out, "wb") as file:
-        begun = time.monotonic()
-        child = subprocess.Popen([program, *words], cwd=folder, stdout=file)
-        _, status, usage = os.wait4(child.pid, 0)
-        wall = time.monotonic() - begun
-    child.returncode = os.waitstatus_to_exitcode(status)
-    if child.returncode:
-        sys.exit(f"{' '.join(words)}: status {child.returncode}")
-    return usage.ru_utime + usage.ru_stime, wall, usage.ru_maxrss / 1024
-
-
-def measured(program, folder, runs, words, out):
-    costs = [run_once(program, folder, words, out) for _ in range(runs)]
-    return min(cpu for cpu, *_ in costs), min(wall for _, wall, _ in costs), max(peak for *_, peak in costs)
-
-
-def generate(folder, shape):
-    made = folder / "generate"
-    subprocess.run(["rustc", "--edition", "2024", "-O", str(HERE.parent / "job/generate.rs"), "-o", str(made)], check=True)
-    subprocess.run([str(made), "plan.json", "input.json", *shape], cwd=folder, check=True)
 
 
 def told(program, folder, *words):
     return subprocess.run([program, *words], cwd=folder, capture_output=True, text=True, check=True).stdout
 
 
-def write_scale(program, folder):
-    """A scale with one subtask for each operator of the plan, whose names `check` asks for one after the other."""
-    import json
+def write_scale(folder):
+    """Writes a scale with one subtask for each operator of the plan."""
     plan = json.loads((folder / "plan.json").read_text())
     named = plan["sources"] + plan.get("filters", []) + [plan["window"]]
     (folder / "scale.json").write_text(SCALE % json.dumps({it["uid"]: {"parallelism": 1} for it in named}))
@@ -86,11 +64,11 @@ def measure(program, folder, runs):
     """Prints what each leg took; gives whether all printed the same."""
     line = ["leg", "plan.json", "input.json", "scale.json"]
     alone = measured(program, folder, runs, line, "alone.rows")
-    print(f"alone        CPU {alone[0]:7.3f} s; wall {alone[1]:7.3f} s; peak {alone[2]:7.1f} MB", flush=True)
+    print(f"alone        CPU {alone.cpu:7.3f} s; wall {alone.wall:7.3f} s; peak {alone.peak:7.1f} MB", flush=True)
     cuts = cuts_at(program, folder, max(COUNTS))
     nothing = re.sub("[0-9]+", "0", "+".join(cuts))
     cost = measured(program, folder, runs, [*line, "--saves", nothing], "saved.rows")
-    print(f"{len(cuts)} of nothing CPU {cost[0]:7.3f} s, {cost[0] / alone[0]:.2f} of it alone; wall {cost[1]:7.3f} s; peak {cost[2]:7.1f} MB", flush=True)
+    print(f"{len(cuts)} of nothing CPU {cost.cpu:7.3f} s, {cost.cpu / alone.cpu:.2f} of it alone; wall {cost.wall:7.3f} s; peak {cost.peak:7.1f} MB", flush=True)
     held = [numbers_at(program, folder, cut) for cut in cuts]
     last, is_same = None, True
     for count in COUNTS:
@@ -99,14 +77,14 @@ def measure(program, folder, runs):
         last = last or cost
         is_same &= (folder / "saved.rows").read_bytes() == (folder / "alone.rows").read_bytes()
         panes, numbers = map(sum, zip((0, 0), *(held[cuts.index(cut)] for cut in taken[:-1])))
-        more = f"; {panes} panes and {numbers} numbers kept, {(cost[2] - last[2]) * 2**20 / numbers:.0f} bytes more for each number" if numbers else ""
-        print(f"{count:2} savepoints CPU {cost[0]:7.3f} s, {cost[0] / alone[0]:.2f} of it alone; wall {cost[1]:7.3f} s; peak {cost[2]:7.1f} MB{more}", flush=True)
+        more = f"; {panes} panes and {numbers} numbers kept, {(cost.peak - last.peak) * 2**20 / numbers:.0f} bytes more for each number" if numbers else ""
+        print(f"{count:2} savepoints CPU {cost.cpu:7.3f} s, {cost.cpu / alone.cpu:.2f} of it alone; wall {cost.wall:7.3f} s; peak {cost.peak:7.1f} MB{more}", flush=True)
     return is_same
 
 
 def main():
     words = argparse.ArgumentParser(description=__doc__, formatter_class=argparse.RawDescriptionHelpFormatter)
-    words.add_argument("--program", default=str(TOP / "crates/streamjob/out/streamjob"))
+    words.add_argument("--program", default=str(PROGRAM))
     words.add_argument("--runs", type=int, default=3)
     words.add_argument("shape", nargs="*")
     words = words.parse_args()
@@ -114,7 +92,7 @@ def main():
     with tempfile.TemporaryDirectory() as name:
         folder = pathlib.Path(name)
         generate(folder, words.shape)
-        write_scale(program, folder)
+        write_scale(folder)
         return 0 if measure(program, folder, words.runs) else 1
 
 
