@@ -2,13 +2,12 @@
 use Rattle.std.proofs.Common.{◌≡◌, ℕ, zero, suc, ◌+◌, ◌<◌, ◌≤◌, Bool, true, false, List, [], ◌∷◌, length, get_or, take, refl, sym, ap, subst, ◌∙◌, inl, inr, arith, if◌then◌else◌}
 use Rattle.std.specs.Prelude.{slice_index, slice_index_or}
 use Rattle.std.specs.FinMap.{get}
-use Rattle.std.specs.List.{AllByRecursion, AllZip}
 use Rattle.std.proofs.lemmas.Bool.{cases_Bool, cases_eq, cases_lt, eq-eqb, ne_eqb, false≢true}
-use Rattle.std.proofs.lemmas.List.{get_or_default, take_all}
+use Rattle.std.proofs.lemmas.List.{get_or_default, get_or_past, take_all}
 use Rattle.plan_model.specs.declared.spec.Row.{Row}
 use Rattle.plan_model.specs.declared.limits.TheConstants.{MOST_RECORDS}
 use Rattle.plan_model.specs.Rows.{AreRowsOf}
-use Rattle.stream_model.specs.Watermarks.{IsCut, IsBefore}
+use Rattle.stream_model.specs.Watermarks.{IsCut}
 use Rattle.dataflow_model.specs.AbstractLayout.{AbstractLayout}
 use Rattle.dataflow_model.specs.Ending.{may_stop}
 use Rattle.dataflow_model.specs.Steps.{barriers}
@@ -21,8 +20,7 @@ use Rattle.dataflow_laws.specs.World.{with_task}
 use Rattle.dataflow_laws.proofs.Facts.{aligned_is_complete, compiled_savepoint_delivers, compiled_savepoint_keeps_panes, few_before, kept_is_counted, stopped_is_complete, worlds_are_histories}
 use Rattle.redistribute.specs.StartData.{offsets_of}
 use Rattle.redistribute.specs.Begins.{HasSnapshot}
-use Rattle.redistribute.specs.Stopping.{Rises}
-use Rattle.redistribute.proofs.Facts.{tasks_have_own_panes, tasks_have_snapshot}
+use Rattle.redistribute.proofs.Facts.{all_at, rises_to, tasks_have_own_panes, tasks_have_snapshot}
 use Rattle.task_steps.specs.TaskData.{TaskData}
 use Rattle.leg_tasks.specs.Leaving.{HaveStates, savepoint_left}
 use Rattle.leg_tasks.specs.Saved.{IsSavedAt}
@@ -36,40 +34,6 @@ use Rattle.core_steps.proofs.Delivered.{cut, leg}
 use Rattle.core_steps.proofs.Ending.{came, have_states, own_panes}
 use Rattle.core_steps.proofs.Sound.{compiled, sound}
 use Rattle.core_steps.proofs.States.{state_here}
-
--- a list's element past its end is the default
-past_end : {X : Type 0} (xs : List X) (n : ℕ) (d : X) → length xs ≤ n → get_or xs n d ≡ d
-past_end [] n d l = refl
-past_end (x ∷ xs) zero d l = absurd (omega (arith, l))
-past_end (x ∷ xs) (suc n) d l = past_end xs n d (omega (arith, l))
-
-all_at : {X : Type 0} (P : X → Type 0) (xs : List X) (n : ℕ) (d : X) → AllByRecursion P xs → n < length xs → P (get_or xs n d)
-all_at P [] n d all l = absurd (omega (arith, l))
-all_at P (x ∷ xs) zero d all l = all.0
-all_at P (x ∷ xs) (suc n) d all l = all_at P xs n d all.1 (omega (arith, l))
-
--- of three cuts that rise the first is no later than the last
-before_both : (a b c : List ℕ) → AllZip (λ m n. m ≤ n) a b → AllZip (λ m n. m ≤ n) b c → AllZip (λ m n. m ≤ n) a c
-before_both [] [] [] x y = tt
-before_both [] [] (n ∷ ns) x y = absurd y
-before_both [] (m ∷ ms) c x y = absurd x
-before_both (k ∷ ks) [] c x y = absurd x
-before_both (k ∷ ks) (m ∷ ms) [] x y = absurd y
-before_both (k ∷ ks) (m ∷ ms) (n ∷ ns) x y = (let one = x.0 in let two = y.0 in omega (arith, one, two), before_both ks ms ns x.1 y.1)
-
-earlier_both : (a b c : List (List ℕ)) → IsBefore a b → IsBefore b c → IsBefore a c
-earlier_both [] [] [] x y = tt
-earlier_both [] [] (n ∷ ns) x y = absurd y
-earlier_both [] (m ∷ ms) c x y = absurd x
-earlier_both (k ∷ ks) [] c x y = absurd x
-earlier_both (k ∷ ks) (m ∷ ms) [] x y = absurd y
-earlier_both (k ∷ ks) (m ∷ ms) (n ∷ ns) x y = (before_both k m n x.0 y.0, earlier_both ks ms ns x.1 y.1)
-
--- each of cuts that rise from one is no earlier
-rises_to : (begin : List (List ℕ)) (cuts : List (List (List ℕ))) (m : ℕ) → Rises begin cuts → m < length cuts → IsBefore begin (get_or cuts m [])
-rises_to begin [] m rises l = absurd (omega (arith, l))
-rises_to begin (c ∷ cs) zero rises l = rises.0
-rises_to begin (c ∷ cs) (suc m) rises l = earlier_both begin c (get_or cs m []) rises.0 (rises_to c cs m rises.1 (omega (arith, l)))
 
 -- ---- at a barrier that every task has passed
 
@@ -145,7 +109,7 @@ module _ (g : GivenData) (given : IsGiven g) (states : ℕ → State) (come : Ha
   as_now past t k =
       let c = (counted t k).few in
       let same : (l.task t).saves ≡ length g.saves = (is_sound.start.leg.alike t k).1 in
-      past_end (h.end t).kept m (kept_of (h.end t)) (omega (arith, c, same, past))
+      get_or_past (h.end t).kept m (kept_of (h.end t)) (omega (arith, c, same, past))
 
   at_the_stop : length g.saves ≤ m → IsKept
   at_the_stop past =

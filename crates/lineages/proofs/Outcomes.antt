@@ -1,7 +1,6 @@
 -- What one call of `job_leg` has come to.
 use Rattle.std.proofs.Common.{◌≡◌, ◌∙◌, ℕ, zero, suc, ◌+◌, ◌<◌, ◌≤◌, Bool, true, false, List, [], ◌∷◌, length, Option, Some, None, Ok, Err, refl, sym, ap, subst, inl, inr, arith}
 use Rattle.std.specs.Prelude.{slice_index_or}
-use Rattle.std.specs.List.{AllByRecursion, AllZip}
 use Rattle.std.specs.Option.{option_map, option_map_or}
 use Rattle.std.proofs.lemmas.Bool.{false≢true}
 use Rattle.std.proofs.lemmas.List.{length-map}
@@ -16,7 +15,7 @@ use Rattle.legs.specs.declared.stop.Stop.TheVariants.{Never, At}
 use Rattle.legs.specs.Stops.{counts_of, until_of}
 use Rattle.redistribute.specs.Begins.{HasSnapshot}
 use Rattle.redistribute.specs.StartData.{StartData, offsets_of}
-use Rattle.redistribute.specs.Stopping.{Rises}
+use Rattle.redistribute.proofs.Facts.{all_at, rises_to}
 use Rattle.savepoint_codec.specs.Layout.{savepoint_bytes}
 use Rattle.savepoint_codec.specs.declared.savepoint.Contents.{Contents}
 use Rattle.leg_tasks.specs.Saved.{IsSavedAt}
@@ -29,34 +28,6 @@ use Rattle.job_legs.specs.Reached.{savepoints_to}
 use Rattle.job.specs.Leg.{IsLastOf, IsLeft, IsLegTold, IsSavedBy, LegJob, LegRuns, leg_job, saves_said, stop_said}
 use Rattle.lineages.specs.Calls.{AreGivenAt, HasRowsToCome, IsReach, LegCall, Reach, last_cut, last_of}
 use Rattle.lineages.specs.Calls.IsReach.{came, was_given_up}
-
--- ---- one of cuts that rise
-
-one_of : {X : Type 0} (P : X → Type 0) (d : X) (n : ℕ) (xs : List X) → n < length xs → AllByRecursion P xs → P (slice_index_or xs n d)
-one_of P d n [] few all = absurd (omega (arith, few))
-one_of P d zero (x ∷ xs) few all = all.0
-one_of P d (suc n) (x ∷ xs) few all = one_of P d n xs (omega (arith, few)) all.1
-
-before_both : (a b c : List ℕ) → AllZip (λ m n. m ≤ n) a b → AllZip (λ m n. m ≤ n) b c → AllZip (λ m n. m ≤ n) a c
-before_both [] [] [] x y = tt
-before_both [] [] (n ∷ ns) x y = absurd y
-before_both [] (m ∷ ms) c x y = absurd x
-before_both (k ∷ ks) [] c x y = absurd x
-before_both (k ∷ ks) (m ∷ ms) [] x y = absurd y
-before_both (k ∷ ks) (m ∷ ms) (n ∷ ns) x y = (let one = x.0 in let two = y.0 in omega (arith, one, two), before_both ks ms ns x.1 y.1)
-
-earlier_both : (a b c : List (List ℕ)) → IsBefore a b → IsBefore b c → IsBefore a c
-earlier_both [] [] [] x y = tt
-earlier_both [] [] (n ∷ ns) x y = absurd y
-earlier_both [] (m ∷ ms) c x y = absurd x
-earlier_both (k ∷ ks) [] c x y = absurd x
-earlier_both (k ∷ ks) (m ∷ ms) [] x y = absurd y
-earlier_both (k ∷ ks) (m ∷ ms) (n ∷ ns) x y = (before_both k m n x.0 y.0, earlier_both ks ms ns x.1 y.1)
-
-rises_to : (begin : List (List ℕ)) (cuts : List (List (List ℕ))) (m : ℕ) → Rises begin cuts → m < length cuts → IsBefore begin (slice_index_or cuts m [])
-rises_to begin [] m rises few = absurd (omega (arith, few))
-rises_to begin (c ∷ cs) zero rises few = rises.0
-rises_to begin (c ∷ cs) (suc m) rises few = earlier_both begin c (slice_index_or cs m []) rises.0 (rises_to c cs m rises.1 (omega (arith, few)))
 
 -- ---- where a call has come to that has rows to come
 
@@ -123,7 +94,7 @@ module _ (p : PlanData) (i : InputData) (s : StartData) (saves : List Cut) (stop
           reach = record { stop = At cut; last = Some cut; taken = suc passed };
           reached = was_given_up up spelled few refl;
           no_earlier = rises_to (offsets_of s) (counts_of saves) passed runs.1.rises inside;
-          is_cut = one_of (IsCut i.sources) [] passed (counts_of saves) inside runs.1.cuts;
+          is_cut = all_at (IsCut i.sources) (counts_of saves) passed [] runs.1.cuts inside;
           text = text;
           given = one_given cut passed (suc passed) refl saved c.saved e left;
         }

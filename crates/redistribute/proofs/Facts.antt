@@ -5,3 +5,4 @@ pub use Rattle.redistribute.proofs.Beginning.{offsets_in, shaped}
 pub use Rattle.redistribute.proofs.Owned.{has, owns}
 pub use Rattle.redistribute.proofs.Opened.{saved_there, tasks_open, tasks_have_snapshot, tasks_have_own_panes, no_saves}
 pub use Rattle.redistribute.proofs.Grouped.{open_within, total_within}
+pub use Rattle.redistribute.proofs.Rising.{all_at, rises_to}

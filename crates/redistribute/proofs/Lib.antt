@@ -6,4 +6,5 @@ mod Grouped
 mod Owned
 mod Beginning
 mod Opened
+mod Rising
 pub mod Facts

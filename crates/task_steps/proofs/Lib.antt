@@ -2,7 +2,6 @@ mod Beginnings
 pub mod Runnings
 pub mod Lists
 pub mod Numbered
-pub mod Dealt
 pub mod Sent
 pub mod Counts
 pub mod Standing
@@ -11,7 +10,6 @@ pub mod Readings
 pub mod Barriers
 pub mod Over
 mod KeptRows
-mod Packings
 mod Keeping
 mod Going
 mod Shutting

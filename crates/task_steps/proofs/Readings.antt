@@ -22,7 +22,7 @@ use Rattle.input_state.specs.Inputs.{rise}
 use Rattle.dataflow_model.specs.Steps.LocalStep.{reads}
 use Rattle.task_steps.specs.declared.setup.Setup.{Setup}
 use Rattle.task_steps.specs.declared.setup.Split.{Split}
-use Rattle.task_steps.specs.Dealing.{owner}
+use Rattle.key_dealing.specs.Dealing.{owner}
 use Rattle.task_steps.specs.Sending.{sends}
 use Rattle.task_steps.specs.TaskData.{TaskData, Stands}
 use Rattle.input_flow.specs.InputEntries.{message_of, brings}

@@ -15,7 +15,7 @@ use Rattle.dataflow_model.specs.declared.message.Message.{Message}
 use Rattle.dataflow_model.specs.declared.message.Message.TheVariants.{Rows}
 use Rattle.dataflow_model.specs.Routes.{spread, batch}
 use Rattle.task_steps.specs.declared.setup.Split.{Split}
-use Rattle.task_steps.specs.Dealing.{owner, dealt}
+use Rattle.key_dealing.specs.Dealing.{owner, dealt}
 use Rattle.task_steps.specs.Pending.{numbered}
 use Rattle.task_steps.specs.Sending.{sends}
 use Rattle.task_steps.proofs.Numbered.{numbered_spread}

@@ -22,7 +22,7 @@ use Rattle.dataflow_model.specs.Routes.{spread, batch, part, route, next_cursor}
 use Rattle.dataflow_model.specs.Steps.{Take, Takes, CanTake, LocalStep}
 use Rattle.dataflow_model.specs.Steps.LocalStep.{chain_rows, window_rows}
 use Rattle.task_steps.specs.declared.setup.Split.{Split}
-use Rattle.task_steps.specs.Dealing.{owner}
+use Rattle.key_dealing.specs.Dealing.{owner}
 use Rattle.task_steps.specs.Sending.{sends}
 use Rattle.task_steps.specs.TaskData.{TaskData, Stands, IsRouting, IsWindowOf}
 use Rattle.task_steps.specs.Taking.{IsReady, AreAdmitted}

@@ -1,9 +1,6 @@
 pub mod Pending
-pub mod Dealing
 pub mod Limits
 pub mod Sending
-pub mod Packing
-pub mod PackedView
 pub mod Keeping
 pub mod TaskData
 pub mod Answers

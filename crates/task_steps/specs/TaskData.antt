@@ -23,7 +23,7 @@ use Rattle.task_steps.specs.declared.setup.Setup.{Setup}
 use Rattle.task_steps.specs.declared.setup.Split.{Split}
 use Rattle.task_steps.specs.declared.task.Task.TheInside.{Inside}
 use Rattle.task_steps.specs.Limits.{barriers_in, limit_in}
-use Rattle.task_steps.specs.Dealing.{owner}
+use Rattle.key_dealing.specs.Dealing.{owner}
 use Rattle.task_steps.specs.Sending.{IsSplit}
 use Rattle.task_steps.specs.Keeping.{kept_value, IsKept}
 

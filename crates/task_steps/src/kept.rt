@@ -7,8 +7,8 @@ ghost use Rattle.window_state.specs.Parts.{entries_of};
 ghost use Rattle.task_steps.specs.Keeping.{kept_value, kinds_in, ArePartsOf};
 ghost use Rattle.task_steps.specs.TaskData.{windows_in};
 
-use crate::packed::PackedParts;
 use aggregates::Kind;
+use packed_parts::PackedParts;
 use plan_model::Aggregate;
 use std::alloc::{AllocError, Global};
 use window_state::{Part, WindowState};

@@ -3,11 +3,9 @@
 
 mod admitting;
 mod collecting;
-mod dealing;
 mod fault;
 mod firing;
 mod kept;
-mod packed;
 mod pending;
 mod reading;
 mod seen;

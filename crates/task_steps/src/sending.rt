@@ -8,12 +8,12 @@ ghost use Rattle.plan_model.specs.Windows.{passes};
 ghost use Rattle.dataflow_model.specs.Routes.{next_cursor};
 ghost use Rattle.task_steps.specs.Sending.{sends, IsSplit};
 
-use crate::dealing::pieces_of;
 use crate::pending::to_each;
 use crate::setup::{Setup, Split};
 use columns::Batch;
 use dataflow_model::Message;
 use filtering::passing;
+use key_dealing::pieces_of;
 use plan_model::FilterSpec;
 use std::alloc::{AllocError, Global};
 use std::collections::VecDeque;

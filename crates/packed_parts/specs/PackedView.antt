@@ -3,8 +3,8 @@ use Rattle.std.specs.Prelude.{◌≡◌, List, length, map}
 use Rattle.std.specs.List.{All}
 use Rattle.aggregates.specs.Kinds.{IsAcc}
 use Rattle.window_state.specs.declared.parts.Part.{Part}
-use Rattle.task_steps.specs.declared.packed.PackedParts.TheInside.{Inside}
-use Rattle.task_steps.specs.Packing.{part_of}
+use Rattle.packed_parts.specs.declared.packed.PackedParts.TheInside.{Inside}
+use Rattle.packed_parts.specs.Packing.{part_of}
 
 abbrev pub packed_view : Inside → List Part
 packed_view p = map (part_of p.kinds.items) p.entries.entries

@@ -3,7 +3,7 @@
 ghost use Rattle.std.specs.Prelude.{◌≡◌, ◌++◌, ◌∷◌, [], length, OnOk, IfOk};
 ghost use Rattle.std.specs.List.{All};
 ghost use Rattle.aggregates.specs.Kinds.{IsAcc};
-ghost use Rattle.task_steps.specs.Packing.{entry_of};
+ghost use Rattle.packed_parts.specs.Packing.{entry_of};
 
 use aggregates::{Acc, Kind};
 use savepoint_codec::{Entries, Entry};
@@ -13,7 +13,7 @@ use window_state::Part;
 
 /// Parts of the same kinds, which stand there once. A part takes 24 bytes, and 16 for each number.
 #[derive(Drop)]
-pub(crate) struct PackedParts {
+pub struct PackedParts {
     kinds: Vec<Kind>,
     entries: Entries,
 }
@@ -21,7 +21,7 @@ pub(crate) struct PackedParts {
 impl Model for PackedParts {
     ghost use Rattle.std.specs.Prelude.{List};
     ghost use Rattle.window_state.specs.declared.parts.Part.{Part};
-    ghost use Rattle.task_steps.specs.PackedView.{packed_view, IsPackedInside};
+    ghost use Rattle.packed_parts.specs.PackedView.{packed_view, IsPackedInside};
 
     ghost Value = { List Part };
 
@@ -49,7 +49,7 @@ impl PackedParts {
     /// # Errors
     ///
     /// Only where memory runs out.
-    pub(crate) fn new(
+    pub fn new(
         alloc: Global,
         kinds: Vec<Kind>,
         parts: &[Part],
@@ -70,7 +70,7 @@ impl PackedParts {
     /// # Errors
     ///
     /// Only where memory runs out.
-    pub(crate) fn unpack(&self, alloc: Global) -> Result<Vec<Part>, AllocError>
+    pub fn unpack(&self, alloc: Global) -> Result<Vec<Part>, AllocError>
         ensures { IfOk result (λ parts. parts.items ≡ self.now) }
     {
         let mut parts = Vec::with_capacity(alloc, self.entries.len())?;

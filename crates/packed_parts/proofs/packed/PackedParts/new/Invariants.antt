@@ -1,8 +1,8 @@
 use Rattle.std.proofs.Common.{◌≡◌, length, map, take}
 use Rattle.std.specs.List.{All}
 use Rattle.aggregates.specs.Kinds.{IsAcc}
-use Rattle.task_steps.specs.Packing.{part_of}
-use Rattle.task_steps.proofs.packed.PackedParts.new.Given as goal
+use Rattle.packed_parts.specs.Packing.{part_of}
+use Rattle.packed_parts.proofs.packed.PackedParts.new.Given as goal
 
 abbrev pub invariant-loop-part : goal.invariant-loop-part
 invariant-loop-part l = record {

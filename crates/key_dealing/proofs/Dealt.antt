@@ -5,7 +5,7 @@ use Rattle.plain_data.specs.Record.{Record, at, column_of}
 use Rattle.columns.specs.Table.{Table}
 use Rattle.columns.specs.Parts.{kept, with_rows, piece}
 use Rattle.columns.proofs.Facts.{kept-map_test}
-use Rattle.task_steps.specs.Dealing.{owner, dealt}
+use Rattle.key_dealing.specs.Dealing.{owner, dealt}
 
 pub map_alike : {X Y : Type 0} (f g : X → Y) (xs : List X) → ((x : X) → f x ≡ g x) → map f xs ≡ map g xs
 map_alike f g [] h = refl

@@ -6,9 +6,9 @@ use Rattle.aggregates.specs.declared.kind.Kind.{Kind}
 use Rattle.aggregates.specs.Kinds.{IsAcc}
 use Rattle.window_state.specs.declared.parts.Part.{Part}
 use Rattle.savepoint_codec.specs.EntriesData.{EntryData, EntriesData}
-use Rattle.task_steps.specs.Packing.{entry_of, part_of}
-use Rattle.task_steps.proofs.Packings.{back}
-use Rattle.task_steps.proofs.packed.PackedParts.new.Goals as goal
+use Rattle.packed_parts.specs.Packing.{entry_of, part_of}
+use Rattle.packed_parts.proofs.Packings.{back}
+use Rattle.packed_parts.proofs.packed.PackedParts.new.Goals as goal
 
 pub push_part-requires : goal.push_part-requires
 push_part-requires c =

@@ -3,7 +3,7 @@
 ghost use Rattle.std.specs.Prelude.{◌≡◌, ◌<◌, ◌≤◌, map, length, IfOk};
 ghost use Rattle.std.specs.List.{All, range_with_len};
 ghost use Rattle.plain_data.specs.Record.{column_of};
-ghost use Rattle.task_steps.specs.Dealing.{owner, dealt};
+ghost use Rattle.key_dealing.specs.Dealing.{owner, dealt};
 
 use columns::Batch;
 use key_groups::{MaxParallelism, Parallelism, groups_into, owner_of};
@@ -39,7 +39,7 @@ fn owners_of(
 }
 
 /// The records of a batch in a piece for each subtask.
-pub(crate) fn pieces_of(
+pub fn pieces_of(
     alloc: Global,
     max: MaxParallelism,
     par: Parallelism,

@@ -1,7 +1,7 @@
 use Rattle.std.proofs.Common.{◌<◌, ◌∙◌, sym, ap, subst, length, ℕ}
 use Rattle.std.specs.List.{All}
 use Rattle.columns.proofs.Facts.{written_whole}
-use Rattle.task_steps.proofs.dealing.owners_of.Goals as goal
+use Rattle.key_dealing.proofs.dealing.owners_of.Goals as goal
 
 pub returns-clause-owners : goal.returns-clause-owners
 returns-clause-owners c =

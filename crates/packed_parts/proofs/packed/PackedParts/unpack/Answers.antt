@@ -5,9 +5,9 @@ use Rattle.aggregates.specs.Kinds.{AccData, IsAcc}
 use Rattle.window_state.specs.declared.parts.Part.{Part}
 use Rattle.savepoint_codec.specs.EntriesData.{EntryData}
 use Rattle.savepoint_codec.specs.EntriesView.{entry_data}
-use Rattle.task_steps.specs.Packing.{part_of}
-use Rattle.task_steps.proofs.Packings.{one_more}
-use Rattle.task_steps.proofs.packed.PackedParts.unpack.Goals as goal
+use Rattle.packed_parts.specs.Packing.{part_of}
+use Rattle.packed_parts.proofs.Packings.{one_more}
+use Rattle.packed_parts.proofs.packed.PackedParts.unpack.Goals as goal
 
 pub of-acc-requires : goal.of-acc-requires
 of-acc-requires c =

@@ -1,9 +1,9 @@
 use Rattle.std.proofs.Common.{◌≡◌, ◌∙◌, ap, map}
 use Rattle.std.specs.List.{range_with_len}
 use Rattle.columns.specs.Parts.{piece}
-use Rattle.task_steps.specs.Dealing.{owner, dealt}
-use Rattle.task_steps.proofs.Dealt.{map_alike, piece_dealt}
-use Rattle.task_steps.proofs.dealing.pieces_of.Goals as goal
+use Rattle.key_dealing.specs.Dealing.{owner, dealt}
+use Rattle.key_dealing.proofs.Dealt.{map_alike, piece_dealt}
+use Rattle.key_dealing.proofs.dealing.pieces_of.Goals as goal
 
 pub returns-in-Ok : goal.returns-in-Ok
 returns-in-Ok c =

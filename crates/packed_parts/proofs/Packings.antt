@@ -5,7 +5,7 @@ use Rattle.std.proofs.lemmas.Option.{get_or_from_slice_get, slice_get_within}
 use Rattle.aggregates.specs.declared.kind.Kind.{Kind}
 use Rattle.window_state.specs.declared.parts.Part.{Part}
 use Rattle.savepoint_codec.specs.EntriesData.{EntryData}
-use Rattle.task_steps.specs.Packing.{entry_of, part_of}
+use Rattle.packed_parts.specs.Packing.{entry_of, part_of}
 
 -- a part of these kinds comes back
 pub back : (kinds : List Kind) (x : Part) → x.acc.kinds ≡ kinds → part_of kinds (entry_of x) ≡ x

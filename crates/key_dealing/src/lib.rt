@@ -1,0 +1,6 @@
+//! The records of a batch dealt out by the groups of their keys.
+#![tactic(auto)]
+
+mod dealing;
+
+pub use dealing::pieces_of;

@@ -1,0 +1,6 @@
+//! What stands in the panes of a window operator, in little memory.
+#![tactic(auto)]
+
+mod packed;
+
+pub use packed::PackedParts;
