@@ -54,7 +54,7 @@ fn each_task_of_a_run_passes_the_gate(rt: HostRuntime) -> Result<(), Fail> {
 #[test]
 fn each_task_of_a_leg_passes_the_gate(rt: HostRuntime) -> Result<(), Fail> {
     let gate = Counting::new();
-    let (rows, saved) = rows_of_leg(&rt, SCALE, None, &gate)?;
+    let (rows, saved) = rows_of_leg(&rt, SCALE, None, None, &gate)?;
     assert_eq!(rt; rows.as_slice(), ROWS.as_bytes());
     assert_eq!(rt; saved, None);
     assert!(rt; gate.were_passed());

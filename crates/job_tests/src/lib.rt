@@ -6,6 +6,8 @@ mod gates;
 #[cfg(test)]
 mod jobs;
 #[cfg(test)]
+mod leaving;
+#[cfg(test)]
 mod lists;
 #[cfg(test)]
 mod meeting;

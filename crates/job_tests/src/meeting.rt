@@ -86,7 +86,7 @@ fn sources_of_a_run_meet(rt: HostRuntime) -> Result<(), Fail> {
 #[test]
 fn sources_of_a_leg_meet(rt: HostRuntime) -> Result<(), Fail> {
     let gate = Meeting::new(&rt, LIMIT);
-    let (rows, saved) = rows_of_leg(&rt, SCALE_OF_TWO, None, &gate)?;
+    let (rows, saved) = rows_of_leg(&rt, SCALE_OF_TWO, None, None, &gate)?;
     assert_eq!(rt; rows.as_slice(), ROWS.as_bytes());
     assert_eq!(rt; saved, None);
     assert!(rt; gate.took_place() && !gate.gave_up());

@@ -25,7 +25,7 @@ use std::test::Fail;
 use stream_input::ReadInput;
 use stream_model::Input;
 
-fn layout_of(alloc: Global, plan: &Plan) -> Result<Layout, Fail>
+pub fn layout_of(alloc: Global, plan: &Plan) -> Result<Layout, Fail>
     ensures { IfOk result (λ layout. IsLayoutOf plan.now layout) }
 {
     let scale = Scale::read(alloc, plan, SCALE.as_bytes())?;
@@ -33,10 +33,10 @@ fn layout_of(alloc: Global, plan: &Plan) -> Result<Layout, Fail>
 }
 
 /// Where two entries of each partition were read.
-fn halfway(alloc: Global) -> Result<Stop, Fail> {
+pub fn halfway(alloc: Global) -> Result<Cut, Fail> {
     let source = Items::from_vec(Vec::from_slice(alloc, &[2, 2])?);
     let counts = Items::from_vec(vec![in alloc; source]?);
-    Ok(Stop::At(Cut { counts }))
+    Ok(Cut { counts })
 }
 
 /// How many rows a leg has that makes so many steps at most, and whether it left a savepoint, if it ends.
@@ -103,7 +103,7 @@ fn check_legs_from(
     ] {
         assert_eq!(rt; rows_after(alloc, keys, given, Stop::Never, steps)?, whole);
         assert_eq!(rt;
-            rows_after(alloc, keys, given, halfway(alloc)?, steps)?,
+            rows_after(alloc, keys, given, Stop::At(halfway(alloc)?), steps)?,
             half
         );
     }
@@ -177,7 +177,7 @@ fn check_other(rt: &(impl AllocGlobal + Abort), bytes: &[u8]) -> Result<(), Fail
 
 #[test]
 fn a_start_comes_from_the_bytes_of_a_leg(rt: HostRuntime) -> Result<(), Fail> {
-    let (_, saved) = rows_of_leg(&rt, SCALE, Some("2,2"), &OpenGate)?;
+    let (_, saved) = rows_of_leg(&rt, SCALE, None, Some("2,2"), &OpenGate)?;
     let Some(bytes) = saved else {
         assert!(rt; false, "the leg leaves no savepoint");
         return Ok(());

@@ -5,10 +5,7 @@ use Rattle.std.specs.List.{AllZip}
 use Rattle.std.proofs.lemmas.Option.{none-some}
 use Rattle.std.proofs.lemmas.List.{length-map, get_or-map, append-nil, reverse-append, length-append, take_at}
 use Rattle.plan_model.specs.PlanData.{PlanData}
-use Rattle.plan_model.specs.Rows.{AreRowsOf}
 use Rattle.stream_model.specs.InputData.{InputData}
-use Rattle.stream_model.specs.Watermarks.{IsCut, IsBefore}
-use Rattle.dataflow_laws.specs.Inputs.{due_between}
 use Rattle.dataflow_model.specs.declared.message.Message.{Message}
 use Rattle.dataflow_model.specs.AbstractTask.{AbstractTask}
 use Rattle.dataflow_model.specs.State.{State}
@@ -22,15 +19,11 @@ use Rattle.layout_rules.specs.Below.{count_below}
 use Rattle.layout_rules.specs.Stages.{task_count, is_ring}
 use Rattle.task_steps.specs.TaskData.{TaskData}
 use Rattle.task_steps.specs.Answers.{GoesOn}
-use Rattle.redistribute.specs.StartData.{offsets_of}
-use Rattle.leg_tasks.specs.Saved.{IsSavedAt}
 use Rattle.core_steps.specs.Given.{GivenData, layout_in, start_in}
 use Rattle.core_steps.specs.World.{state_at, IsPlaced, IsSound}
 use Rattle.core_steps.specs.Beginning.{AreNewTasks}
 use Rattle.core_steps.specs.Finishing.{AreAtEnd}
-use Rattle.core_steps.specs.declared.sealing.Sealed.{Sealed}
-use Rattle.core_steps.specs.Ending.{HasSealed}
-use Rattle.core_steps.specs.Sealing.{AreOnTheWay, IsSealOf}
+use Rattle.core_steps.specs.Sealing.{AreOnTheWay}
 use Rattle.thread_runner.specs.declared.jobs.Job.{Job}
 use Rattle.thread_runner.specs.declared.jobs.Done.{Done}
 use Rattle.thread_runner.specs.Rings.{put_of, taken_of}
@@ -342,18 +335,3 @@ wired_jobs g first js new w = record {
   fresh = w.fresh;
   joined = w.joined;
 }
-
--- what was sealed at a savepoint on the way
-pub has_sealed : (g : GivenData) (states : ℕ → State) (x : Sealed) → IsSealOf g states x → x.barrier ≤ length g.saves → HasSealed g.plan g.input g.start g.saves x
-has_sealed g states x is few =
-    let passed : is.passed < length g.saves = let b = is.barrier in omega (arith, b, few) in
-    let at = is.is_cut.on_the_way passed in
-    record {
-      passed = is.passed;
-      barrier = is.barrier;
-      few = passed;
-      is_cut = subst (IsCut g.input.sources) at is.is_cut.is_cut;
-      no_earlier = subst (IsBefore (offsets_of g.start)) at is.is_cut.no_earlier;
-      delivered = λ snap. subst (λ (cut : List (List ℕ)). AreRowsOf (due_between g.plan g.input.sources (offsets_of g.start) cut) x.rows) at (is.delivered snap);
-      saved = λ snap. subst (λ (cut : List (List ℕ)). IsSavedAt g.plan g.input cut (g.start.number + x.barrier) x.savepoint) at (is.saved snap);
-    }

@@ -1,4 +1,4 @@
-use Rattle.std.proofs.Common.{◌≤◌, length, subst, arith}
+use Rattle.std.proofs.Common.{subst, arith}
 use Rattle.std.specs.Prelude.{IfSome}
 use Rattle.std.proofs.lemmas.List.{length-map}
 use Rattle.legs.specs.declared.cut.Cut.{Cut}
@@ -6,7 +6,8 @@ use Rattle.legs.specs.Stops.{until_in}
 use Rattle.core_steps.specs.Given.{given_data}
 use Rattle.core_steps.specs.World.{state_at}
 use Rattle.core_steps.specs.Sealing.{IsSealOf}
-use Rattle.thread_runner.proofs.LegLemmas.{are_on_the_way, as_many, are_joined, has_sealed}
+use Rattle.core_steps.proofs.OnWay.{on_way}
+use Rattle.thread_runner.proofs.LegLemmas.{are_on_the_way, as_many, are_joined}
 use Rattle.thread_runner.proofs.ending.given_up.Goals as goal
 
 pub settled-dones-requires-clause-count : goal.settled-dones-requires-clause-count
@@ -28,5 +29,5 @@ returns-in-Some-clause-ends c =
     let states = state_at g c.as_slice.result.now in
     let sealed = subst (λ o. IfSome o (IsSealOf g states)) c.in-Some.is c.in_ok-sealed.ensures.exact in
     let many = length-map c.args.given.saves.now (λ (cut : Cut). cut.counts) in
-    let few : c.in-Some.sealed.barrier ≤ length g.saves = omega (arith, c.if-branch-given.true, many) in
-    has_sealed g states c.in-Some.sealed sealed few
+    let at = sealed.barrier in
+    on_way g states c.in-Some.sealed sealed (omega (arith, c.if-branch-given.true, many, at))
