@@ -15,9 +15,9 @@ use Rattle.dataflow_model.specs.Steps.LocalStep.{put, opens, reads, saves, stops
 use Rattle.dataflow_model.specs.Runs.{Run, taken, sent, only, onto, given}
 use Rattle.dataflow_model.specs.Runs.Run.{none, more}
 use Rattle.dataflow_model.specs.Opening.{IsOpening}
-use Rattle.dataflow_model.proofs.Facts.{given_put, no_source, not_a_source}
+use Rattle.dataflow_model.proofs.Facts.{given_put, no_source, not_a_source, all_shut_at}
 use Rattle.dataflow_laws.specs.Kept.{has_barrier, AlignedIsComplete}
-use Rattle.dataflow_laws.proofs.Ends.{ended, Closed, HasEnds, IsIdle, has_ends, not_over, all_shut_at, aligned_by, stop_number}
+use Rattle.dataflow_laws.proofs.Ends.{ended, Closed, HasEnds, IsIdle, has_ends, not_over, aligned_by, stop_number}
 use Rattle.dataflow_laws.proofs.Cuts.{Waits, Marks, Passes, marks_by, marks_barrier, end_now, passed_given, waits_step, waits_fresh, shut_closed}
 use Rattle.dataflow_laws.proofs.Openings.{opened_as}
 use Rattle.dataflow_laws.proofs.Complete.{ended_append, idle_of}

@@ -19,9 +19,9 @@ use Rattle.dataflow_model.specs.Routes.{batch, part, route_of, to_all, fired}
 use Rattle.dataflow_model.specs.Steps.{Event, Open, Read, Save, Stop, Close, Take, Put, LocalStep, past_barrier}
 use Rattle.dataflow_model.specs.Steps.LocalStep.{put, opens, reads, saves, stops, closes, chain_rows, chain_mark, window_rows, window_mark, sink_rows, sink_mark, holds, aligns, ends, ends_all, ends_aligned}
 use Rattle.dataflow_model.specs.Runs.{taken, sent, only, onto, given}
-use Rattle.dataflow_model.proofs.Facts.{given_put, given_spread, free_is, get_free, no_source, released_at}
+use Rattle.dataflow_model.proofs.Facts.{given_put, given_spread, free_is, get_free, no_source, released_at, all_shut_at}
 use Rattle.dataflow_laws.proofs.Reader.{width_of, only_route_of}
-use Rattle.dataflow_laws.proofs.Ends.{is_final, ended, Closed, HasEnds, IsIdle, not_over, ended_batch, ended_fired, told_ended, both_ended, given_ended, all_shut_at, aligned_by}
+use Rattle.dataflow_laws.proofs.Ends.{is_final, ended, Closed, HasEnds, IsIdle, not_over, ended_batch, ended_fired, told_ended, both_ended, given_ended, aligned_by}
 
 -- what has come on an input, by how it stands: no barrier from n on, or barrier n or an end at last. Barriers are counted from f
 abbrev pub Waiting : ℕ → Shut → ℕ → List Message → Type 0

@@ -1,5 +1,5 @@
 -- In a complete history each ring has given all that it got.
-use Rattle.std.proofs.Common.{◌≡◌, ℕ, zero, suc, ◌+◌, ◌<◌, List, [], ◌∷◌, ◌++◌, Bool, true, false, cond, eqb, ◌&&◌, length, get_or, set, replicate, refl, sym, ap, subst, ◌∙◌, ◌⊎◌, inl, inr, arith, length-set, get_or-set_same, get_or-set_other, ℤ, Option, Some, None, if◌then◌else◌}
+use Rattle.std.proofs.Common.{◌≡◌, ℕ, suc, ◌+◌, ◌<◌, List, [], ◌∷◌, ◌++◌, Bool, true, false, cond, eqb, ◌&&◌, length, get_or, set, replicate, refl, sym, ap, subst, ◌∙◌, ◌⊎◌, inl, inr, arith, length-set, get_or-set_same, get_or-set_other, ℤ, Option, Some, None, if◌then◌else◌}
 use Rattle.std.proofs.lemmas.List.{length-replicate, length-map}
 use Rattle.std.proofs.lemmas.Bool.{cases_eq, cases_Bool, eq-eqb, ne_eqb, eqb-true, false≢true, and_parts}
 use Rattle.std.specs.List.{filter}
@@ -28,7 +28,7 @@ use Rattle.dataflow_model.specs.Runs.Run.{none, more}
 use Rattle.dataflow_laws.proofs.Streams.{told}
 use Rattle.dataflow_laws.proofs.Logs.{only_announce, onto_append}
 use Rattle.dataflow_laws.proofs.Reader.{width_of, only_route_of}
-use Rattle.dataflow_model.proofs.Facts.{given_put, given_spread, only_append, free_is, get_free, no_source, released_at}
+use Rattle.dataflow_model.proofs.Facts.{given_put, given_spread, only_append, free_is, get_free, no_source, released_at, all_shut_at, none_held_at, all_ended_by, stops_last}
 
 -- ---- the last message of a leg
 
@@ -81,22 +81,6 @@ shut_cases Free = inl (inl refl)
 shut_cases Held = inl (inr refl)
 shut_cases Ended = inr refl
 
-pub all_shut_at : (ss : List Shut) (i : ℕ) → all_shut ss ≡ true → shut_at ss i ≡ Free → ⊥
-all_shut_at [] i a f = absurd cc
-all_shut_at (Free ∷ ss) i a f = absurd cc
-all_shut_at (Held ∷ ss) zero a f = absurd cc
-all_shut_at (Held ∷ ss) (suc i) a f = all_shut_at ss i a f
-all_shut_at (Ended ∷ ss) zero a f = absurd cc
-all_shut_at (Ended ∷ ss) (suc i) a f = all_shut_at ss i a f
-
-pub none_held_at : (ss : List Shut) (i : ℕ) → any_held ss ≡ false → shut_at ss i ≡ Held → ⊥
-none_held_at [] i a f = absurd cc
-none_held_at (Free ∷ ss) zero a f = absurd cc
-none_held_at (Free ∷ ss) (suc i) a f = none_held_at ss i a f
-none_held_at (Held ∷ ss) i a f = absurd cc
-none_held_at (Ended ∷ ss) zero a f = absurd cc
-none_held_at (Ended ∷ ss) (suc i) a f = none_held_at ss i a f
-
 pub held_somewhere : (ss : List Shut) → any_held ss ≡ true → (i : ℕ) × (i < length ss) × (shut_at ss i ≡ Held)
 held_somewhere [] a = absurd cc
 held_somewhere (Free ∷ ss) a = let r = held_somewhere ss a in (suc r.0, omega (arith, r.1), r.2)
@@ -118,11 +102,6 @@ pub aligned_by : (a h : Bool) → (if a then (if h then aligned.Barrier else ali
 aligned_by true true e = (refl, refl)
 aligned_by true false e = absurd cc
 aligned_by false h e = absurd cc
-
-pub all_ended_by : (a h : Bool) → (if a then (if h then aligned.Barrier else aligned.AllEnded) else aligned.Waiting) ≡ aligned.AllEnded → (a ≡ true) × (h ≡ false)
-all_ended_by true true e = absurd cc
-all_ended_by true false e = (refl, refl)
-all_ended_by false h e = absurd cc
 
 -- ---- barriers
 
@@ -339,11 +318,6 @@ stops_at : (ending : Ending) (k : AbstractTask) (s : State) → MayStop ending k
 stops_at AtEnd k s may ask q l = absurd may
 stops_at AtCut k s may ask q l = may.1 q l ∙ ap (λ n. k.limit n q) may.0
 stops_at Asked k s may ask q l = absurd (ask refl)
-
-pub stops_last : (ending : Ending) (k : AbstractTask) (s : State) → MayStop ending k s → s.next ≡ k.saves
-stops_last AtEnd k s may = absurd may
-stops_last AtCut k s may = may.0
-stops_last Asked k s may = may
 
 pub closes_at : (ending : Ending) (k : AbstractTask) (s : State) → MayClose ending k s → (q : ℕ) → q < k.inputs → get_or s.offsets q 0 ≡ k.limit k.saves q
 closes_at AtEnd k s may q l = may.1 q l ∙ ap (λ n. k.limit n q) may.0

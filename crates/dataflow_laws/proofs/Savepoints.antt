@@ -29,10 +29,10 @@ use Rattle.dataflow_model.specs.OneLeg.{IsOneLeg}
 use Rattle.dataflow_model.specs.History.{History}
 use Rattle.dataflow_model.specs.Flow.{Flow, IsDrained}
 use Rattle.dataflow_model.specs.Cuts.{cut_of, save_cut}
-use Rattle.dataflow_model.proofs.Facts.{given_put, onto_ahead, no_source, not_a_source}
+use Rattle.dataflow_model.proofs.Facts.{given_put, onto_ahead, no_source, not_a_source, all_shut_at, stops_last}
 use Rattle.dataflow_laws.specs.Savepoints.{SavepointIsExact}
 use Rattle.dataflow_laws.specs.Laws.{IsExact}
-use Rattle.dataflow_laws.proofs.Ends.{ended, Closed, HasEnds, IsIdle, has_ends, not_over, all_shut_at, aligned_by, stops_last}
+use Rattle.dataflow_laws.proofs.Ends.{ended, Closed, HasEnds, IsIdle, has_ends, not_over, aligned_by}
 use Rattle.dataflow_laws.proofs.Cuts.{Waits, Marks, Passes, marks_by, marks_barrier, end_now, passed_given, waits_step, waits_fresh, shut_closed}
 use Rattle.dataflow_laws.proofs.Openings.{opened_as}
 use Rattle.dataflow_laws.proofs.Complete.{flow_of, ended_append, idle_of, ring_bound}

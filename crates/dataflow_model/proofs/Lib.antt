@@ -1,4 +1,5 @@
 mod Totals
 mod Pendings
 mod Tests
+mod Shutting
 pub mod Facts

@@ -1,22 +1,14 @@
 -- The grammar's loop over the items of a list, a turn at a time, under what the items say.
 use Rattle.std.proofs.Common.{arith, ◌≡◌, ℕ, ◌-◌, ◌<◌, ◌≤◌, List, [], ◌∷◌, ◌++◌, length, Option, Some, None, option_map, option_and_then, refl, sym, ap, ◌∙◌, append_assoc, append-nil}
 use Rattle.json.specs.Token.{Token}
-use Rattle.json.specs.Json as json
 use Rattle.json.specs.Json.{parse_map, after_end_array, items, value}
 use Rattle.json.proofs.Grammar.{items_end, items_more, value-begin_array, value_is}
 use Rattle.serde_json.specs.Data.{Data, array, Items, item}
 use Rattle.serde_json.specs.Read.{of_json, of_items, converted}
 use Rattle.json_parts.specs.Parts.{list_of, each, list_text}
 use Rattle.json_tokens.specs.Ahead.{part, parts_in, parts}
-use Rattle.json_tokens.proofs.Converted.{converted_some, twice}
-
-converted-array : (o : Option (json.Items × List Token)) → converted of_json (parse_map json.array o) ≡ parse_map array (converted of_items o)
-converted-array None = refl
-converted-array (Some p) = twice array p.1 (of_items p.0)
-
-with_item : (j : json.Json) (d : Data) → of_json j ≡ Some d → (o : Option (json.Items × List Token)) → converted of_items (parse_map (json.item j) o) ≡ parse_map (item d) (converted of_items o)
-with_item j d e None = refl
-with_item j d e (Some p) = rw e (twice (item d) p.1 (of_items p.0))
+use Rattle.json_tokens.proofs.Converted.{converted_some}
+use Rattle.json_tokens.proofs.Passed.{converted-array, with_item}
 
 -- with what was read before
 abbrev pub behind : {X : Type 0} → List X → Option (List X × List Token) → Option (List X × List Token)

@@ -1,23 +1,14 @@
 -- The grammar's loop over the members of an object, a turn at a time, under what the members say.
 use Rattle.std.proofs.Common.{arith, ◌≡◌, ℕ, ◌-◌, ◌<◌, List, ◌∷◌, length, Option, Some, None, option_map, refl, ap, ◌∙◌}
 use Rattle.json.specs.Token.{Token}
-use Rattle.json.specs.Json as json
 use Rattle.json.specs.Json.{parse_map, read_key, members, value}
 use Rattle.json.proofs.Grammar.{members_end, members_more, value-begin_object}
 use Rattle.serde_json.specs.Data.{Data, object, Members, no_members, member, put}
 use Rattle.serde_json.specs.Read.{of_json, of_members, converted}
 use Rattle.json_tokens.specs.Ahead.{part}
 use Rattle.json_tokens.specs.Passed.{MembersRead}
-use Rattle.json_tokens.proofs.Converted.{converted_some, twice}
-
-with_member : (k : List ℕ) (j : json.Json) (d : Data) (old : Members) → of_json j ≡ Some d → (o : Option (json.Members × List Token))
-    → converted (λ ms. of_members ms old) (parse_map (json.member k j) o) ≡ converted (λ ms. of_members ms (put k d old)) o
-with_member k j d old e None = refl
-with_member k j d old e (Some p) = rw e
-
-converted-object : (o : Option (json.Members × List Token)) → converted of_json (parse_map json.object o) ≡ parse_map object (converted (λ ms. of_members ms no_members) o)
-converted-object None = refl
-converted-object (Some p) = twice object p.1 (of_members p.0 no_members)
+use Rattle.json_tokens.proofs.Converted.{converted_some}
+use Rattle.json_tokens.proofs.Passed.{converted-object, with_member}
 
 pub members_begin : (depth : ℕ) (ts : List Token) → MembersRead depth ts no_members ts
 members_begin depth ts = record { turns = length ts; enough = omega arith; shorter = omega arith; so_far = refl }

@@ -4,17 +4,13 @@ use Rattle.json.specs.Token.{Token}
 use Rattle.json.specs.Json as json
 use Rattle.json.specs.Json.{Parse, parse_map, after_end_array, read_key, items_step, items, members}
 use Rattle.json.proofs.Grammar.{items_end, items_more, members_end, members_no_key, members_more}
-use Rattle.json_tokens.proofs.Converted.{converted_some}
+use Rattle.json_tokens.proofs.Converted.{converted_some, twice}
 use Rattle.serde_json.specs.Data.{Data, array, object, Items, no_items, item, Members, no_members, put}
 use Rattle.serde_json.specs.Read.{of_json, of_items, of_members, converted}
 
 refused : {B : Type 0} (r : List Token) (x : Option B) → option_map {U = B × List Token} (λ y. (y, r)) x ≡ None → x ≡ None
 refused r None e = refl
 refused r (Some y) e = absurd (cc)
-
-twice : {A B : Type 0} (g : A → B) (r : List Token) (x : Option A) → option_map (λ b. (b, r)) (option_map g x) ≡ parse_map g (option_map (λ a. (a, r)) x)
-twice g r None = refl
-twice g r (Some a) = refl
 
 pub converted-array : (o : Option (json.Items × List Token)) → converted of_json (parse_map json.array o) ≡ parse_map array (converted of_items o)
 converted-array None = refl
@@ -24,7 +20,7 @@ pub converted-object : (o : Option (json.Members × List Token)) → converted o
 converted-object None = refl
 converted-object (Some p) = twice object p.1 (of_members p.0 no_members)
 
-with_item : (j : json.Json) (d : Data) → of_json j ≡ Some d → (o : Option (json.Items × List Token)) → converted of_items (parse_map (json.item j) o) ≡ parse_map (item d) (converted of_items o)
+pub with_item : (j : json.Json) (d : Data) → of_json j ≡ Some d → (o : Option (json.Items × List Token)) → converted of_items (parse_map (json.item j) o) ≡ parse_map (item d) (converted of_items o)
 with_item j d e None = refl
 with_item j d e (Some p) = rw e (twice (item d) p.1 (of_items p.0))
 
@@ -32,7 +28,7 @@ without_item : (j : json.Json) → of_json j ≡ None → (o : Option (json.Item
 without_item j e None = refl
 without_item j e (Some p) = rw e
 
-with_member : (k : List ℕ) (j : json.Json) (d : Data) (old : Members) → of_json j ≡ Some d → (o : Option (json.Members × List Token))
+pub with_member : (k : List ℕ) (j : json.Json) (d : Data) (old : Members) → of_json j ≡ Some d → (o : Option (json.Members × List Token))
     → converted (λ ms. of_members ms old) (parse_map (json.member k j) o) ≡ converted (λ ms. of_members ms (put k d old)) o
 with_member k j d old e None = refl
 with_member k j d old e (Some p) = rw e

@@ -20,11 +20,11 @@ use Rattle.dataflow_model.specs.AbstractTask.{AbstractTask}
 use Rattle.dataflow_model.specs.State.{State, Windows}
 use Rattle.dataflow_model.specs.Opening.{opening, IsOpening}
 use Rattle.dataflow_model.specs.Routes.{route_of, to_all, announce, fired}
-use Rattle.dataflow_model.specs.Steps.{Event, Open, Read, Save, Stop, Close, Take, LocalStep, CanRun, CanTake, MayStop, MayClose, is_last, past_barrier}
+use Rattle.dataflow_model.specs.Steps.{Event, Open, Read, Save, Stop, Close, Take, LocalStep, CanRun, CanTake, MayClose, is_last, past_barrier}
 use Rattle.dataflow_model.specs.Steps.LocalStep.{put, opens, reads, saves, stops, closes, chain_rows, chain_mark, window_rows, window_mark, sink_rows, sink_mark, holds, aligns, ends, ends_all, ends_aligned}
 use Rattle.dataflow_model.specs.Runs.{Run, taken, sent, only, onto, given}
 use Rattle.dataflow_model.specs.Runs.Run.{none, more}
-use Rattle.dataflow_model.proofs.Facts.{free_is, get_free, given_put, given_spread, no_source, released_at}
+use Rattle.dataflow_model.proofs.Facts.{free_is, get_free, given_put, given_spread, no_source, released_at, all_shut_at, none_held_at, all_ended_by, stops_last}
 use Rattle.seal_laws.proofs.Logs.{barriers_in, has_end, is_plain, ArePlain, plain_append, plain_route, plain_route_of, plain_announce, plain_fired, IsGiven, given_none, given_plain, given_barrier, given_end, IsTaken, taken_plain, taken_more, taken_let_go}
 
 -- ---- inputs that are shut
@@ -34,30 +34,9 @@ shut_now [] i v f = absurd (false≢true f)
 shut_now (s ∷ ss) zero v f = refl
 shut_now (s ∷ ss) (suc i) v f = shut_now ss i v f
 
-all_shut_at : (ss : List Shut) (i : ℕ) → all_shut ss ≡ true → shut_at ss i ≡ Free → ⊥
-all_shut_at [] i a f = absurd cc
-all_shut_at (Free ∷ ss) i a f = absurd cc
-all_shut_at (Held ∷ ss) zero a f = absurd cc
-all_shut_at (Held ∷ ss) (suc i) a f = all_shut_at ss i a f
-all_shut_at (Ended ∷ ss) zero a f = absurd cc
-all_shut_at (Ended ∷ ss) (suc i) a f = all_shut_at ss i a f
-
-none_held_at : (ss : List Shut) (i : ℕ) → any_held ss ≡ false → shut_at ss i ≡ Held → ⊥
-none_held_at [] i a f = absurd cc
-none_held_at (Free ∷ ss) zero a f = absurd cc
-none_held_at (Free ∷ ss) (suc i) a f = none_held_at ss i a f
-none_held_at (Held ∷ ss) i a f = absurd cc
-none_held_at (Ended ∷ ss) zero a f = absurd cc
-none_held_at (Ended ∷ ss) (suc i) a f = none_held_at ss i a f
-
 by_barrier : (a h : Bool) → (if a then (if h then aligned.Barrier else aligned.AllEnded) else aligned.Waiting) ≡ aligned.Barrier → a ≡ true
 by_barrier true h e = refl
 by_barrier false h e = absurd cc
-
-by_ends : (a h : Bool) → (if a then (if h then aligned.Barrier else aligned.AllEnded) else aligned.Waiting) ≡ aligned.AllEnded → (a ≡ true) × (h ≡ false)
-by_ends true true e = absurd cc
-by_ends true false e = (refl, refl)
-by_ends false h e = absurd cc
 
 -- ---- a task
 
@@ -184,7 +163,7 @@ passed_ends : (k : AbstractTask) (es : List Event) (s : State) (i : ℕ) → Can
     → HasPassed k (Take i End ∷ es) (record s { inputs = inputs_from s.inputs.marks (set s.inputs.shut i Ended); over = true; pending = to_all k.outputs End })
 passed_ends k es s i can align r =
     let ss = set s.inputs.shut i Ended in
-    let all = by_ends (all_shut ss) (any_held ss) align in
+    let all = all_ended_by (all_shut ss) (any_held ss) align in
     record {
       outputs = λ j l. given_all k End s.next true j (sent j es) s.pending can.idle l (given_end s.next s.over (given j es s) (not_over k es s i can r) (r.outputs j l));
       inputs = λ ns. shut_by k es s i End Ended can (ended_by s.next) r;
@@ -206,11 +185,6 @@ passed_source k es s' e a given over = record {
 -- that makes its next barrier pending
 source_barrier : (k : AbstractTask) (es : List Event) (s : State) (over : Bool) → CanRun k s → HasPassed k es s → (j : ℕ) → j < k.outputs → IsGiven (suc s.next) over (onto (only j (to_all k.outputs (Barrier (k.first + s.next)))) (sent j es))
 source_barrier k es s over can r j l = given_all k (Barrier (k.first + s.next)) (suc s.next) over j (sent j es) s.pending can.idle l (given_barrier s.next s.over (k.first + s.next) over (given j es s) can.going (r.outputs j l))
-
-stops_late : (ending : Ending) (k : AbstractTask) (s : State) → MayStop ending k s → s.next ≡ k.saves
-stops_late AtEnd k s may = absurd may
-stops_late AtCut k s may = may.0
-stops_late Asked k s may = may
 
 closes_late : (ending : Ending) (k : AbstractTask) (s : State) → MayClose ending k s → s.next ≡ k.saves
 closes_late AtEnd k s may = may.0
@@ -235,7 +209,7 @@ passed_step p k es s e s' (reads {n = n} {q = q} own) r =
     (plain_append rows mark (plain_route_of p.window.key k s.cursor (k.entry q read)) (plain_announce k.outputs (rise s.inputs.marks q (k.brings q read)))) (λ j. refl) own.can.can.source r
 passed_step p k es s e s' (saves can may) r = passed_source k es s' Save can.source (source_barrier k es s s.over can r) (λ o. absurd (false≢true (sym can.going ∙ o)))
 passed_step p k es s e s' (stops can may) r =
-    passed_source k es s' Stop can.source (source_barrier k es s true can r) (λ o. (can.opened, let late = stops_late k.ending k s may in omega (arith, late)))
+    passed_source k es s' Stop can.source (source_barrier k es s true can r) (λ o. (can.opened, let late = stops_last k.ending k s may in omega (arith, late)))
 passed_step p k es s e s' (closes can may) r =
     passed_source k es s' Close can.source (λ j l. given_all k End s.next true j (sent j es) s.pending can.idle l (given_end s.next s.over (given j es s) can.going (r.outputs j l)))
     (λ o. (can.opened, let late = closes_late k.ending k s may in omega (arith, late)))
