@@ -2,9 +2,10 @@
 
 ghost use Rattle.std.specs.Prelude.{◌≡◌, ◌==◌, ◌+◌, ◌-◌, ◌*◌, ◌^◌, ◌<◌, ◌&&◌, ◌++◌, IsTrue, SomeIff};
 ghost use Rattle.std.specs.Char.{is_ascii_digit};
-ghost use Rattle.std.specs.Int.{IsInRange};
 ghost use Rattle.std.specs.List.{list_all};
-ghost use Rattle.std.specs.Str.Parse.{digits_value, digits_value_after};
+ghost use Rattle.std.specs.Str.Parse.{digits_value};
+
+use field_values::digits_after;
 
 /// Whether all digits are 0.
 fn are_zeros(digits: &[u8]) -> bool
@@ -18,26 +19,6 @@ pub(crate) fn are_both_zeros(front: &[u8], back: &[u8]) -> bool
     ensures { result ≡ (list_all (λ b. b == 48) front.now && list_all (λ b. b == 48) back.now) }
 {
     are_zeros(front) && are_zeros(back)
-}
-
-fn with_digit(number: u64, digit: u8) -> Option<u64>
-    requires { IsInRange 48 57 digit }
-    ensures { SomeIff result (number * 10 + (digit - 48) < 2 ^ 64) (number * 10 + (digit - 48)) }
-{
-    let tens = number.checked_mul(10)?;
-    tens.checked_add(u64::from(digit - b'0'))
-}
-
-/// The number that the digits write behind those of another number, where 64 bits without a sign hold it.
-fn digits_after(before: u64, digits: &[u8]) -> Option<u64>
-    requires { IsTrue (list_all is_ascii_digit digits.now) }
-    ensures { SomeIff result (digits_value_after 10 before digits.now < 2 ^ 64) (digits_value_after 10 before digits.now) }
-{
-    let mut number = before;
-    for digit in digits {
-        number = with_digit(number, *digit)?;
-    }
-    Some(number)
 }
 
 /// The number that the digits of both write, where 64 bits without a sign hold it.

@@ -16,4 +16,3 @@ pub use digits::raised_digits;
 pub use point::{DecimalPoint, swap_points};
 pub use products::{exact_product, product};
 pub use scaling::exact;
-pub use scientific::fraction_of;

@@ -1,15 +1,14 @@
 //! A decimal and its exponent, apart.
 
-ghost use Rattle.std.specs.Prelude.{◌≡◌, ◌≤◌, ◌&&◌, IsTrue, IfSome, MatchOption, true, false, length, drop};
+ghost use Rattle.std.specs.Prelude.{◌≡◌, ◌&&◌, IsTrue, IfSome, MatchOption, true, false};
 ghost use Rattle.std.specs.Char.{is_ascii_digit};
 ghost use Rattle.std.specs.Str.Parse.{starts_with_minus};
-ghost use Rattle.std.specs.List.{list_all, position_or_len};
-ghost use Rattle.field_values.specs.Decimals.{is_point, without_minus, whole_digits, decimal_digits, is_decimal};
-ghost use Rattle.field_values.specs.Digits.{is_fraction};
+ghost use Rattle.std.specs.List.{list_all};
+ghost use Rattle.field_values.specs.Decimals.{whole_digits, decimal_digits, is_decimal};
 ghost use Rattle.decimal_texts.specs.Exponents.{is_exponent, exponent_said};
 
 use crate::exponent::{Exponent, exponent_of};
-use field_values::are_digits;
+use field_values::{are_digits, fraction_of, has_minus, point_of, without_minus};
 
 /// A decimal with an exponent, as its text has it.
 #[derive(Clone, Copy)]
@@ -20,42 +19,6 @@ pub(crate) struct Scientific<'t> {
     /// The digits behind it, or none.
     pub(crate) decimals: &'t [u8],
     pub(crate) exponent: Exponent,
-}
-
-fn has_minus(text: &[u8]) -> bool
-    ensures { result ≡ starts_with_minus text.now }
-{
-    !text.is_empty() && text[0] == b'-'
-}
-
-fn without_minus(text: &[u8]) -> &[u8]
-    ensures { result.now ≡ without_minus text.now }
-{
-    if has_minus(text) { &text[1..] } else { text }
-}
-
-/// The place of the first point, or of the end where there is none.
-fn point_of(text: &[u8]) -> usize
-    ensures place { result ≡ position_or_len is_point text.now }
-    ensures within { result ≤ length text.now }
-{
-    text.iter().position(|b| *b == b'.').unwrap_or(text.len())
-}
-
-/// The digits behind a point, or none where the text is empty. `None` where it is anything else.
-#[tactic(auto, unfolding(field_values::specs::Digits::is_fraction))]
-pub fn fraction_of(text: &[u8]) -> Option<&[u8]>
-    ensures { MatchOption result (is_fraction text.now ≡ false) (λ digits. (is_fraction text.now ≡ true)
-        × (digits.now ≡ drop 1 text.now) × IsTrue (list_all is_ascii_digit digits.now)) }
-{
-    if text.is_empty() {
-        return Some(text);
-    }
-    let digits = &text[1..];
-    if text[0] == b'.' && are_digits(digits) {
-        return Some(digits);
-    }
-    None
 }
 
 /// The parts of a decimal and an exponent, or `None` where one of the texts is none.

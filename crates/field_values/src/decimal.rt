@@ -20,20 +20,22 @@ struct Decimal<'t> {
     decimals: &'t [u8],
 }
 
-fn has_minus(text: &[u8]) -> bool
+/// Whether a text begins with a minus.
+pub fn has_minus(text: &[u8]) -> bool
     ensures { result ≡ starts_with_minus text.now }
 {
     !text.is_empty() && text[0] == b'-'
 }
 
-fn without_minus(text: &[u8]) -> &[u8]
+/// The text without the minus that it may begin with.
+pub fn without_minus(text: &[u8]) -> &[u8]
     ensures { result.now ≡ without_minus text.now }
 {
     if has_minus(text) { &text[1..] } else { text }
 }
 
 /// The place of the first point, or of the end where there is none.
-fn point_of(text: &[u8]) -> usize
+pub fn point_of(text: &[u8]) -> usize
     ensures place { result ≡ position_or_len is_point text.now }
     ensures within { result ≤ length text.now }
 {

@@ -24,7 +24,7 @@ pub fn are_digits(text: &[u8]) -> bool
 
 /// The digits behind a point, or none where the text is empty. `None` where it is anything else.
 #[tactic(auto, unfolding(crate::specs::Digits::is_fraction))]
-pub(crate) fn fraction_of(text: &[u8]) -> Option<&[u8]>
+pub fn fraction_of(text: &[u8]) -> Option<&[u8]>
     ensures { MatchOption result (is_fraction text.now ≡ false) (λ digits. (is_fraction text.now ≡ true)
         × (digits.now ≡ drop 1 text.now) × IsTrue (list_all is_ascii_digit digits.now)) }
 {
@@ -47,7 +47,7 @@ fn with_digit(number: u64, digit: u8) -> Option<u64>
 }
 
 /// The number that the digits write behind those of another number, where 64 bits without a sign hold it.
-pub(crate) fn digits_after(before: u64, digits: &[u8]) -> Option<u64>
+pub fn digits_after(before: u64, digits: &[u8]) -> Option<u64>
     requires { IsTrue (list_all is_ascii_digit digits.now) }
     ensures { SomeIff result (digits_value_after 10 before digits.now < 2 ^ 64) (digits_value_after 10 before digits.now) }
 {

@@ -30,7 +30,7 @@ fn begins_zone(byte: u8) -> bool
 
 /// Where the zone begins in what stands behind the seconds.
 #[tactic(auto, unfolding(crate::specs::Instants::zone_place))]
-fn zone_place(rest: &[u8]) -> usize
+pub fn zone_place(rest: &[u8]) -> usize
     ensures place { result ≡ zone_place rest.now }
     ensures within { result ≤ length rest.now }
 {

@@ -11,8 +11,8 @@ mod moment;
 mod places;
 mod zone;
 
-pub use decimal::scaled;
-pub use digits::{are_digits, number_of};
+pub use decimal::{has_minus, point_of, scaled, without_minus};
+pub use digits::{are_digits, digits_after, fraction_of, number_of};
 pub use fault::FieldFault;
-pub use instant::milliseconds;
+pub use instant::{milliseconds, zone_place};
 pub use places::{MOST_PLACES, Places};

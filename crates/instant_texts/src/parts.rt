@@ -1,12 +1,12 @@
 //! The parts of a time.
 
-ghost use Rattle.std.specs.Prelude.{◌≡◌, ◌≤◌, ◌<◌, IsTrue, IfSome, IfNone, true, false, length};
+ghost use Rattle.std.specs.Prelude.{◌≡◌, ◌<◌, IsTrue, IfSome, IfNone, true, false};
 ghost use Rattle.std.specs.Char.{is_ascii_digit};
 ghost use Rattle.std.specs.List.{list_all};
 ghost use Rattle.field_values.specs.Digits.{is_fraction};
-ghost use Rattle.field_values.specs.Instants.{begins_zone, zone_place, is_time, clock_text, fraction_text, fraction_digits, zone_text};
+ghost use Rattle.field_values.specs.Instants.{zone_place, is_time, clock_text, fraction_text, fraction_digits, zone_text};
 
-use decimal_texts::fraction_of;
+use field_values::{fraction_of, zone_place};
 
 /// The texts of a time's parts, of which the fraction alone is known to be of its form.
 #[derive(Clone, Copy)]
@@ -16,24 +16,6 @@ pub(crate) struct TimeParts<'t> {
     /// The digits behind the seconds, or none.
     pub(crate) fraction: &'t [u8],
     pub(crate) zone: &'t [u8],
-}
-
-/// Whether a zone begins with this byte.
-fn begins_zone(byte: u8) -> bool
-    ensures { result ≡ begins_zone byte }
-{
-    matches!(byte, b'Z' | b'+' | b'-')
-}
-
-/// Where the zone begins in what stands behind the seconds.
-#[tactic(auto, unfolding(field_values::specs::Instants::zone_place))]
-fn zone_place(rest: &[u8]) -> usize
-    ensures place { result ≡ zone_place rest.now }
-    ensures within { result ≤ length rest.now }
-{
-    rest.iter()
-        .position(|b| begins_zone(*b))
-        .unwrap_or(rest.len())
 }
 
 /// The parts of a time by their places, or `None` where the text is too short or what stands between the seconds and the zone is

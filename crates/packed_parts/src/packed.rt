@@ -49,11 +49,7 @@ impl PackedParts {
     /// # Errors
     ///
     /// Only where memory runs out.
-    pub fn new(
-        alloc: Global,
-        kinds: Vec<Kind>,
-        parts: &[Part],
-    ) -> Result<PackedParts, AllocError>
+    pub fn new(alloc: Global, kinds: Vec<Kind>, parts: &[Part]) -> Result<PackedParts, AllocError>
         requires { All (λ part. part.acc.kinds ≡ kinds.items) parts.now }
         ensures { IfOk result (λ packed. packed ≡ parts.now) }
     {
