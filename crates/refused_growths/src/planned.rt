@@ -7,10 +7,7 @@ ghost use Rattle.stream_model.specs.InputData.{BelongsTo};
 
 use crate::calls::Call;
 use crate::files::{file, word};
-use crate::runs::{
-    run_leg_by_calls, run_leg_calls, run_leg_saving_calls, run_leg_sealing_calls,
-    run_legs_by_calls, run_legs_calls,
-};
+use crate::runs::{run_leg_by_calls, run_leg_calls, run_legs_by_calls, run_legs_calls};
 use crate::saved::{check_calls, encode_calls, gather_calls, spread_calls, start_of};
 use crate::states::{add_calls, fire_calls};
 use crate::worlds::apply_calls;
@@ -107,10 +104,14 @@ fn calls_from_start<R: Files + Print + Threads + Wait + Clock + Sync + AllocGlob
 {
     let scale = Scale::read(rt.alloc(), plan, &file(rt, "scale")?)?;
     match call {
-        Call::RunLegBy => run_leg_by_calls(rt, keys, plan, input, start, &scale),
-        Call::RunLegSaving => run_leg_saving_calls(rt, keys, plan, input, start, &scale),
-        Call::RunLegSealing => run_leg_sealing_calls(rt, keys, plan, input, start, &scale),
-        Call::RunLeg => run_leg_calls(rt, keys, plan, input, start, &scale),
+        Call::RunLegBy | Call::RunLegSaving => {
+            let goes_on = call == Call::RunLegSaving;
+            run_leg_by_calls(rt, keys, plan, input, start, &scale, goes_on)
+        }
+        Call::RunLeg | Call::RunLegSealing => {
+            let goes_on = call == Call::RunLegSealing;
+            run_leg_calls(rt, keys, plan, input, start, &scale, goes_on)
+        }
         _ => calls_at_layout(rt, call, keys, plan, input, start, &scale),
     }
 }

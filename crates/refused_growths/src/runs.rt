@@ -13,16 +13,17 @@ use job_texts::{JobFault, read_cut};
 use layout_rules::Scale;
 use leg_lists::{read_choices, read_legs};
 use leg_runs::run_leg_by;
-use legs::{Choice, LegFault, Stop};
+use legs::{Choice, Cut, LegFault, Stop};
 use plain_data::Items;
 use plan_model::Plan;
 use redistribute::Start;
+use std::alloc::Global;
 use std::rt::Files;
 use std::sync::Wait;
 use std::thread::Threads;
 use std::time::Clock;
 use stream_model::Input;
-use thread_runner::{OpenGate, run_leg};
+use thread_runner::{Gate, OpenGate, run_leg};
 use window_state::HashKeys;
 
 /// Says what came of legs, and tells whether they have answered.
@@ -42,6 +43,26 @@ fn told<R: Print + AllocGlobal, T: Told>(
     }
 }
 
+/// Where a leg stops, or takes a savepoint and goes on.
+#[derive(Clone, Copy)]
+struct Aim<'a> {
+    /// The call's name.
+    name: &'a str,
+    cut: &'a str,
+    goes_on: bool,
+}
+
+/// The savepoints on a leg's way, and where it stops.
+fn ends_of(alloc: Global, aim: Aim<'_>) -> Result<(Vec<Cut>, Stop), JobFault> {
+    let cut = read_cut(alloc, aim.cut)?;
+    let mut saves = Vec::new(alloc);
+    if !aim.goes_on {
+        return Ok((saves, Stop::At(cut)));
+    }
+    saves.push(cut)?;
+    Ok((saves, Stop::Never))
+}
+
 fn run_leg_by_once<R: Print + AllocGlobal>(
     rt: &R,
     keys: HashKeys,
@@ -49,7 +70,7 @@ fn run_leg_by_once<R: Print + AllocGlobal>(
     input: &Input,
     start: &Start,
     scale: &Scale,
-    word: &str,
+    aim: Aim<'_>,
     choices: &[Choice],
 ) -> Result<bool, JobFault>
     requires belongs { BelongsTo plan.now input.now }
@@ -57,13 +78,15 @@ fn run_leg_by_once<R: Print + AllocGlobal>(
     requires starts { IsStartIn plan.now input.now start.now }
 {
     let alloc = rt.alloc();
-    let stop = Stop::At(read_cut(alloc, word)?);
-    begins(rt, "run_leg_by")?;
-    let finish = run_leg_by(alloc, keys, plan, input, start, scale, &[], stop, choices);
+    let (saves, stop) = ends_of(alloc, aim)?;
+    begins(rt, aim.name)?;
+    let finish = run_leg_by(
+        alloc, keys, plan, input, start, scale, &saves, stop, choices,
+    );
     told(rt, finish)
 }
 
-/// Runs a leg in one thread, by the first of the lists of choices.
+/// Runs a leg in one thread, by the first of the lists of choices: to the cut, or to its end with a savepoint there.
 pub(crate) fn run_leg_by_calls<R: Files + Print + AllocGlobal>(
     rt: &R,
     keys: HashKeys,
@@ -71,107 +94,79 @@ pub(crate) fn run_leg_by_calls<R: Files + Print + AllocGlobal>(
     input: &Input,
     start: &Start,
     scale: &Scale,
+    goes_on: bool,
 ) -> Result<(), JobFault>
     requires belongs { BelongsTo plan.now input.now }
     requires scale { IsScale plan.now scale.now }
     requires starts { IsStartIn plan.now input.now start.now }
 {
-    let stop = word(rt, "stop")?;
-    let stop = stop.as_str();
+    let cut = word(rt, "stop")?;
     let lists = read_choices(rt.alloc(), &file(rt, "choices")?, 2)?;
     let Some(choices) = lists.as_slice().first() else {
         return Ok(());
     };
     let choices = choices.as_slice();
-    if !run_leg_by_once(rt, keys, plan, input, start, scale, stop, choices)? {
-        run_leg_by_once(rt, keys, plan, input, start, scale, stop, choices)?;
+    let aim = Aim {
+        name: if goes_on {
+            "run_leg_saving"
+        } else {
+            "run_leg_by"
+        },
+        cut: cut.as_str(),
+        goes_on,
+    };
+    if !run_leg_by_once(rt, keys, plan, input, start, scale, aim, choices)? {
+        run_leg_by_once(rt, keys, plan, input, start, scale, aim, choices)?;
     }
     Ok(())
 }
 
-fn run_leg_saving_once<R: Print + AllocGlobal>(
+fn run_leg_once<R: Print + Threads + Wait + Clock + Sync + AllocGlobal, G: Gate>(
     rt: &R,
     keys: HashKeys,
     plan: &Plan,
     input: &Input,
     start: &Start,
     scale: &Scale,
-    word: &str,
+    aim: Aim<'_>,
+    gate: &G,
 ) -> Result<bool, JobFault>
     requires belongs { BelongsTo plan.now input.now }
     requires scale { IsScale plan.now scale.now }
     requires starts { IsStartIn plan.now input.now start.now }
 {
     let alloc = rt.alloc();
-    let saves = [read_cut(alloc, word)?];
-    begins(rt, "run_leg_saving")?;
-    let finish = run_leg_by(
-        alloc,
-        keys,
-        plan,
-        input,
-        start,
-        scale,
-        &saves,
-        Stop::Never,
-        &[],
+    let (saves, stop) = ends_of(alloc, aim)?;
+    let stop = thread_runner::Stop::from(stop);
+    begins(rt, aim.name)?;
+    let finish = run_leg(
+        rt, alloc, keys, plan, input, start, scale, &saves, stop, gate,
     );
     told(rt, finish)
 }
 
-/// Runs a leg in one thread to its end, with a savepoint on its way where the others stop.
-pub(crate) fn run_leg_saving_calls<R: Files + Print + AllocGlobal>(
+/// Runs a leg with a thread for each of its tasks, and again where it was refused.
+fn run_leg_twice<R: Print + Threads + Wait + Clock + Sync + AllocGlobal, G: Gate>(
     rt: &R,
     keys: HashKeys,
     plan: &Plan,
     input: &Input,
     start: &Start,
     scale: &Scale,
+    aim: Aim<'_>,
+    gate: &G,
 ) -> Result<(), JobFault>
     requires belongs { BelongsTo plan.now input.now }
     requires scale { IsScale plan.now scale.now }
     requires starts { IsStartIn plan.now input.now start.now }
 {
-    let stop = word(rt, "stop")?;
-    let stop = stop.as_str();
-    if !run_leg_saving_once(rt, keys, plan, input, start, scale, stop)? {
-        run_leg_saving_once(rt, keys, plan, input, start, scale, stop)?;
+    if !run_leg_once(rt, keys, plan, input, start, scale, aim, gate)? {
+        run_leg_once(rt, keys, plan, input, start, scale, aim, gate)?;
     }
     Ok(())
 }
 
-fn run_leg_once<R: Print + Threads + Wait + Clock + Sync + AllocGlobal>(
-    rt: &R,
-    keys: HashKeys,
-    plan: &Plan,
-    input: &Input,
-    start: &Start,
-    scale: &Scale,
-    word: &str,
-) -> Result<bool, JobFault>
-    requires belongs { BelongsTo plan.now input.now }
-    requires scale { IsScale plan.now scale.now }
-    requires starts { IsStartIn plan.now input.now start.now }
-{
-    let alloc = rt.alloc();
-    let stop = thread_runner::Stop::At(read_cut(alloc, word)?);
-    begins(rt, "run_leg")?;
-    let finish = run_leg(
-        rt,
-        alloc,
-        keys,
-        plan,
-        input,
-        start,
-        scale,
-        &[],
-        stop,
-        &OpenGate,
-    );
-    told(rt, finish)
-}
-
-/// Runs a leg with a thread for each of its tasks.
+/// Runs a leg with a thread for each of its tasks: to the cut, or to its end with a savepoint there.
 pub(crate) fn run_leg_calls<R: Files + Print + Threads + Wait + Clock + Sync + AllocGlobal>(
     rt: &R,
     keys: HashKeys,
@@ -179,68 +174,27 @@ pub(crate) fn run_leg_calls<R: Files + Print + Threads + Wait + Clock + Sync + A
     input: &Input,
     start: &Start,
     scale: &Scale,
+    goes_on: bool,
 ) -> Result<(), JobFault>
     requires belongs { BelongsTo plan.now input.now }
     requires scale { IsScale plan.now scale.now }
     requires starts { IsStartIn plan.now input.now start.now }
 {
-    let stop = word(rt, "stop")?;
-    if !run_leg_once(rt, keys, plan, input, start, scale, stop.as_str())? {
-        run_leg_once(rt, keys, plan, input, start, scale, stop.as_str())?;
+    let cut = word(rt, "stop")?;
+    let aim = Aim {
+        name: if goes_on {
+            "run_leg_sealing"
+        } else {
+            "run_leg"
+        },
+        cut: cut.as_str(),
+        goes_on,
+    };
+    if goes_on {
+        run_leg_twice(rt, keys, plan, input, start, scale, aim, &SlowWindow { rt })
+    } else {
+        run_leg_twice(rt, keys, plan, input, start, scale, aim, &OpenGate)
     }
-    Ok(())
-}
-
-fn run_leg_sealing_once<R: Print + Threads + Wait + Clock + Sync + AllocGlobal>(
-    rt: &R,
-    keys: HashKeys,
-    plan: &Plan,
-    input: &Input,
-    start: &Start,
-    scale: &Scale,
-    word: &str,
-) -> Result<bool, JobFault>
-    requires belongs { BelongsTo plan.now input.now }
-    requires scale { IsScale plan.now scale.now }
-    requires starts { IsStartIn plan.now input.now start.now }
-{
-    let alloc = rt.alloc();
-    let saves = [read_cut(alloc, word)?];
-    let gate = SlowWindow { rt };
-    begins(rt, "run_leg_sealing")?;
-    let finish = run_leg(
-        rt,
-        alloc,
-        keys,
-        plan,
-        input,
-        start,
-        scale,
-        &saves,
-        thread_runner::Stop::Never,
-        &gate,
-    );
-    told(rt, finish)
-}
-
-/// Runs a leg with a thread for each of its tasks to its end, with a savepoint on its way where the others stop.
-pub(crate) fn run_leg_sealing_calls<R: Files + Print + Threads + Wait + Clock + Sync + AllocGlobal>(
-    rt: &R,
-    keys: HashKeys,
-    plan: &Plan,
-    input: &Input,
-    start: &Start,
-    scale: &Scale,
-) -> Result<(), JobFault>
-    requires belongs { BelongsTo plan.now input.now }
-    requires scale { IsScale plan.now scale.now }
-    requires starts { IsStartIn plan.now input.now start.now }
-{
-    let stop = word(rt, "stop")?;
-    if !run_leg_sealing_once(rt, keys, plan, input, start, scale, stop.as_str())? {
-        run_leg_sealing_once(rt, keys, plan, input, start, scale, stop.as_str())?;
-    }
-    Ok(())
 }
 
 fn run_legs_by_once<R: Print + AllocGlobal>(
