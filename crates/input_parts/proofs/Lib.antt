@@ -2,4 +2,3 @@ mod Kept
 mod Timely
 mod Own
 mod All
-mod Parted

@@ -13,10 +13,6 @@ use Rattle.stream_model.specs.InputData.{InputData, input_data_of}
 abbrev pub part_of_key : PlanData → ℕ → ℤ → ℕ
 part_of_key plan parts key = group_owner plan.max parts (key_group plan.max key)
 
--- part i, of so many, has a key, by the number of key groups alone
-unfoldable pub has_key : ℕ → ℕ → ℕ → ℤ → Bool
-has_key max parts i key = group_owner max parts (key_group max key) == i
-
 -- a record stands in part i
 abbrev pub is_in_part : PlanData → ℕ → ℕ → Record → Bool
 is_in_part plan parts i r = part_of_key plan parts (at plan.window.key r) == i

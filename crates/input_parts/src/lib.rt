@@ -4,7 +4,4 @@
 //! `specs/Parts` says what a part is, and `laws` that a job over the whole input comes to the rows of jobs over the parts.
 #![tactic(auto)]
 
-mod dealing;
 pub mod laws;
-
-pub use dealing::part_of_input;

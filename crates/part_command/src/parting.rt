@@ -1,20 +1,16 @@
-//! From texts to the texts of parts.
+//! From texts to what is split.
 
-ghost use Rattle.std.specs.Prelude.{◌≡◌, ◌≤◌, IfOk, string_bytes};
+ghost use Rattle.std.specs.Prelude.{◌≡◌, ◌≤◌, IfOk};
 ghost use Rattle.answers.specs.Answer.{Gives};
 ghost use Rattle.stream_model.specs.InputData.{BelongsTo};
 ghost use Rattle.input_texts.specs.Answer.{input_of_bytes, is_memory as is_input_memory};
-ghost use Rattle.input_parts.specs.Parts as dealt;
-ghost use Rattle.part_texts.specs.InputTexts.{input_text};
 ghost use Rattle.part_command.specs.Splitting.{parts_said};
 
-use input_parts::part_of_input;
 use input_texts::InputFault;
 use job_texts::{JobFault, read_count};
 use key_groups::{MOST_SUBTASKS, MaxParallelism, Parallelism};
-use part_texts::text_of_input;
 use plan_model::Plan;
-use std::alloc::{AllocError, Global};
+use std::alloc::Global;
 use stream_input::ReadInput;
 use stream_model::Input;
 
@@ -38,24 +34,4 @@ pub(crate) fn read_input(alloc: Global, plan: &Plan, bytes: Vec<u8>) -> Result<I
     ensures belongs { IfOk result (λ i. BelongsTo plan.now i) }
 {
     Input::read(alloc, plan, &bytes)
-}
-
-/// The text of one part of an input.
-///
-/// # Errors
-///
-/// Only where memory runs out.
-pub(crate) fn text_of_part(
-    alloc: Global,
-    plan: &Plan,
-    parts: Parallelism,
-    place: u32,
-    input: &Input,
-) -> Result<String, AllocError>
-    requires fits { parts ≤ plan.now.max }
-    requires belongs { BelongsTo plan.now input.now }
-    ensures { IfOk result (λ text. string_bytes text ≡ input_text plan.now (dealt.part_of_input plan.now parts place input.now)) }
-{
-    let part = part_of_input(alloc, plan, parts, place, input)?;
-    text_of_input(alloc, plan, &part)
 }

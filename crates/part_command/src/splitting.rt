@@ -4,11 +4,12 @@ ghost use Rattle.std.specs.Prelude.{◌≡◌, ◌⊎◌, ◌≤◌, IfErr};
 ghost use Rattle.stream_model.specs.InputData.{BelongsTo};
 ghost use Rattle.part_command.specs.Splitting.{IsUnwritten, AnswersSplit, SplitsTexts};
 
-use crate::parting::{parts_of, read_input, text_of_part};
+use crate::parting::{parts_of, read_input};
 use command_files::{file, save};
 use job_texts::JobFault;
 use key_groups::Parallelism;
 use logical_plan::ReadPlan;
+use part_texts::{PartText, texts_of_parts};
 use plan_model::Plan;
 use std::alloc::{AllocError, Global};
 use std::random::RandomSource;
@@ -29,7 +30,7 @@ pub struct SplitWords<'a> {
 }
 
 /// The path of the part at a place.
-fn path_of(alloc: Global, out: &str, place: u32) -> Result<String, AllocError> {
+fn path_of(alloc: Global, out: &str, place: usize) -> Result<String, AllocError> {
     format!(in alloc; "{out}.{place}")
 }
 
@@ -51,7 +52,7 @@ fn check_all_apart<R: AllocGlobal>(
 ) -> Result<(), JobFault>
     ensures { IfErr result IsUnwritten }
 {
-    for place in 0..parts.get() {
+    for place in 0..parts.get() as usize {
         let path = path_of(rt.alloc(), words.out, place)?;
         check_apart(words, path.as_str())?;
     }
@@ -59,6 +60,21 @@ fn check_all_apart<R: AllocGlobal>(
 }
 
 /// Writes the text of each part to its file.
+fn save_parts<R: Files + Print + RandomSource + AllocGlobal>(
+    rt: &R,
+    words: &SplitWords<'_>,
+    texts: &[PartText],
+) -> Result<(), JobFault>
+    ensures { IfErr result IsUnwritten }
+{
+    for (place, part) in texts.iter().enumerate() {
+        let path = path_of(rt.alloc(), words.out, place)?;
+        save(rt, path.as_str(), part.text().as_bytes())?;
+    }
+    Ok(())
+}
+
+/// Deals an input out to the texts of its parts, and writes these.
 fn write_parts<R: Files + Print + RandomSource + AllocGlobal>(
     rt: &R,
     words: &SplitWords<'_>,
@@ -71,12 +87,8 @@ fn write_parts<R: Files + Print + RandomSource + AllocGlobal>(
     ensures { IfErr result IsUnwritten }
 {
     check_all_apart(rt, words, parts)?;
-    for place in 0..parts.get() {
-        let path = path_of(rt.alloc(), words.out, place)?;
-        let text = text_of_part(rt.alloc(), plan, parts, place, input)?;
-        save(rt, path.as_str(), text.as_bytes())?;
-    }
-    Ok(())
+    let texts = texts_of_parts(rt.alloc(), plan, parts, input)?;
+    save_parts(rt, words, &texts)
 }
 
 /// The same of a plan and an input that texts tell.

@@ -3,6 +3,7 @@ use Rattle.std.specs.Prelude.{ℕ, ℤ, List, ◌++◌, map, zip, codes}
 use Rattle.std.specs.Fmt.{signed_decimal}
 use Rattle.std.specs.List.{join_with_byte, range_with_len}
 use Rattle.plain_data.specs.Record.{Record, at}
+use Rattle.columns.specs.Table.{Table}
 use Rattle.plan_model.specs.PlanData.{PlanData}
 use Rattle.plan_model.specs.declared.spec.SourceSpec.{SourceSpec}
 use Rattle.stream_model.specs.InputData.{InputData}
@@ -19,6 +20,9 @@ record_text width record_ = codes "[" ++ (cells_text width record_ ++ codes "]")
 abbrev pub records_text : ℕ → List Record → List ℕ
 records_text width records = join_with_byte 44 (map (record_text width) records)
 
+abbrev pub rows_entry : Table → List ℕ
+rows_entry table = codes "{\"rows\":[" ++ (records_text table.width table.rows ++ codes "]}")
+
 unfoldable pub mark_name : List ℕ
 mark_name = codes "{\"watermark\":"
 
@@ -26,7 +30,7 @@ abbrev pub mark_entry : ℤ → List ℕ
 mark_entry time = mark_name ++ (signed_decimal time ++ codes "}")
 
 abbrev pub entry_text : Entry → List ℕ
-entry_text (Rows batch) = codes "{\"rows\":[" ++ (records_text batch.width batch.rows ++ codes "]}")
+entry_text (Rows batch) = rows_entry batch
 entry_text (Watermark time) = mark_entry time
 
 abbrev pub entries_text : List Entry → List ℕ

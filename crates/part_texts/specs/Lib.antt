@@ -1,1 +1,2 @@
 pub mod InputTexts
+pub mod PartTexts

@@ -1,8 +1,11 @@
-//! The JSON text of an input.
+//! The JSON text of an entry, and the texts of the parts of an input.
 #![tactic(auto)]
 
 mod entries;
-mod sources;
+mod part;
+mod parts;
+mod records;
 
 pub use entries::push_entry;
-pub use sources::text_of_input;
+pub use part::PartText;
+pub use parts::texts_of_parts;

@@ -1,0 +1,6 @@
+use Rattle.part_texts.specs.PartTexts.{with_words}
+use Rattle.part_texts.proofs.Steps.{Done}
+use Rattle.part_texts.proofs.parts.push_all.Given as goal
+
+abbrev pub invariant-loop-place : goal.invariant-loop-place
+invariant-loop-place l = Done (λ i p. with_words l.words p) l.place l.fn.texts l.texts
