@@ -1,4 +1,6 @@
 pub mod Parses
+pub mod Sizes
+pub mod Parts
 pub mod Texts
 pub mod Places
 pub mod Feeds

@@ -4,7 +4,6 @@ use mir.Syntax.{w64, w128}
 use Rattle.std.specs.Fmt.{decimal, signed_decimal}
 use Rattle.std.specs.Int.{IsInRange}
 use Rattle.std.specs.List.{All, slice_split, join_with_byte, flat_map}
-use Rattle.std.specs.Str.{IsAscii}
 use Rattle.std.specs.Str.Parse.{AllDigits, digits_value}
 use Rattle.std.proofs.lemmas.Bool.Decides.{nat_tests}
 use Rattle.std.proofs.lemmas.Fmt.{decimal_is_IsNumeral_wide}
@@ -12,10 +11,7 @@ use Rattle.std.proofs.lemmas.List.Concat.{flat_map-cons}
 use Rattle.std.proofs.lemmas.List.Elements.{All-nil, All-cons, All-head, All-tail, All-get_or}
 use Rattle.std.proofs.lemmas.Int.{to_z-of_z}
 use Rattle.std.proofs.lemmas.List.Splits.{slice_split_none, slice_split_at}
-use Rattle.std.proofs.lemmas.Str.{IsAscii-append}
-use Rattle.std.proofs.lemmas.Str.Ascii.{IsAscii-nil, IsAscii-cons}
 use Rattle.std.proofs.lemmas.Str.Parse.{digit_from_value, not_in_digits}
-use Rattle.itoa.proofs.Decimal.{signed_wide}
 use Rattle.plan_model.specs.declared.spec.Row.{Row}
 use Rattle.row_lines.specs.Text.{spaced, text_of_row}
 use Rattle.row_lines.specs.Numbers.{AreNumbers, text_of_numbers}
@@ -120,14 +116,6 @@ row_numbers row h = record {
       (All-cons (FitsSigned w128) row.end (row.key ∷ row.values) (wider row.end h.end)
       (All-cons (FitsSigned w128) row.key row.values (wider row.key h.key) h.values));
 }
-
--- a text of numbers is ASCII
-pub ascii_numbers : (numbers : List ℤ) → All (FitsSigned w128) numbers → IsAscii (text_of_numbers numbers)
-ascii_numbers [] fit = IsAscii-nil
-ascii_numbers (z ∷ []) fit = (signed_wide z (All-head (FitsSigned w128) z [] fit)).0
-ascii_numbers (z ∷ y ∷ numbers) fit =
-    IsAscii-append (signed_decimal z) (32 ∷ text_of_numbers (y ∷ numbers)) (signed_wide z (All-head (FitsSigned w128) z (y ∷ numbers) fit)).0
-    (IsAscii-cons 32 (text_of_numbers (y ∷ numbers)) (omega arith) (ascii_numbers (y ∷ numbers) (All-tail (FitsSigned w128) z (y ∷ numbers) fit)))
 
 -- from numbers to a row
 pub row_given : {E : Type 0} (r : Result (Option Row) E) (line : List ℕ) (numbers : List ℤ) → AreNumbers numbers → line ≡ text_of_numbers numbers → IfOk r (GivesRowOf numbers) → IfOk r (GivesRow line)

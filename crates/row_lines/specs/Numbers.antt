@@ -1,17 +1,12 @@
 -- Numbers, as they are printed.
 use Rattle.std.specs.Prelude.{◌≡◌, ◌≢◌, ℕ, ℤ, ◌<◌, ◌≤◌, List, map, length, Option, Some, None, FitsSigned}
-use Rattle.std.specs.Int.{w64, w128}
+use Rattle.std.specs.Int.{w128}
 use Rattle.std.specs.List.{All, join_with_byte}
 use Rattle.std.specs.Fmt.{signed_decimal}
 use Rattle.arrayvec.specs.ArrayVec.{ArrayVec}
 use Rattle.row_lines.specs.declared.row.TheConstants.{MOST_NUMBERS}
 
--- the text is how this number of 64 bits is printed, or that of no such number
-abbrev pub GivesNarrow : List ℕ → Option ℤ → Type 0
-GivesNarrow text (Some z) = FitsSigned w64 z × (text ≡ signed_decimal z)
-GivesNarrow text None = (z : ℤ) → FitsSigned w64 z → text ≢ signed_decimal z
-
--- the same of 128 bits
+-- the text is how this number of 128 bits is printed, or that of no such number
 abbrev pub GivesNumber : List ℕ → Option ℤ → Type 0
 GivesNumber text (Some z) = FitsSigned w128 z × (text ≡ signed_decimal z)
 GivesNumber text None = (z : ℤ) → FitsSigned w128 z → text ≢ signed_decimal z

@@ -8,17 +8,16 @@ use crate::number::number_of;
 use arrayvec::ArrayVec;
 use plan_model::{MOST_AGGREGATES, Numbers, Row};
 use std::alloc::{AllocError, Global};
-use std::str;
 
 /// The most numbers of a row: its start, its end, its key, and those of its aggregates.
 const MOST_NUMBERS: usize = 3 + MOST_AGGREGATES;
 
 /// The numbers that stand in a text with single spaces between, if there are no more than a row can have.
-fn numbers_of(text: &str) -> Option<ArrayVec<i128, MOST_NUMBERS>>
+fn numbers_of(text: &[u8]) -> Option<ArrayVec<i128, MOST_NUMBERS>>
     ensures { GivesNumbers text.now result }
 {
     let mut numbers = ArrayVec::new();
-    for part in text.split(' ') {
+    for part in text.split(|byte| *byte == b' ') {
         let Some(number) = number_of(part) else {
             return None;
         };
@@ -74,11 +73,8 @@ fn row_of(alloc: Global, numbers: &[i128]) -> Result<Option<Row>, AllocError>
 pub fn read_row(alloc: Global, line: &[u8]) -> Result<Option<Row>, AllocError>
     ensures { IfOk result (GivesRow line.now) }
 {
-    let Ok(text) = str::from_utf8(line) else {
-        return Ok(None);
-    };
-    let Some(numbers) = numbers_of(text) else {
-        return Ok(None);
-    };
-    row_of(alloc, numbers.as_slice())
+    match numbers_of(line) {
+        Some(numbers) => row_of(alloc, numbers.as_slice()),
+        None => Ok(None),
+    }
 }

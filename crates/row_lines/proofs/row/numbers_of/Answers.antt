@@ -1,4 +1,4 @@
-use Rattle.std.proofs.Common.{◌≡◌, ℕ, ℤ, ◌≤◌, ◌++◌, ◌∷◌, [], List, length, map, eqb, true, false, lit<, FitsSigned, sym, ap, subst, ◌∙◌, arith, to_z, of_z}
+use Rattle.std.proofs.Common.{◌≡◌, ℕ, ℤ, ◌≤◌, ◌++◌, ◌∷◌, [], List, length, map, eqb, true, false, FitsSigned, sym, ap, subst, ◌∙◌, arith, rules, tests, to_z, of_z}
 use mir.Syntax.{w128}
 use Rattle.std.specs.Fmt.{signed_decimal}
 use Rattle.std.specs.List.{All, slice_split, join_with_byte}
@@ -7,8 +7,8 @@ use Rattle.std.proofs.lemmas.Int.{to_z-of_z}
 use Rattle.std.proofs.lemmas.List.{map-append, length-map}
 use Rattle.std.proofs.lemmas.List.Elements.{All-push, All-map, All-weaker, All-get_or}
 use Rattle.std.proofs.lemmas.List.Splits.{length-slice_split, join_with_byte-slice_split}
-use Rattle.std.proofs.lemmas.Iterator.Consumers.{YieldsList-at, YieldsList-turn, YieldsList-end}
-use Rattle.std.proofs.lemmas.Iterator.Splits.{YieldsList-from_str_split}
+use Rattle.std.proofs.lemmas.Iterator.Splits.{YieldsList-from_slice_split}
+use Rattle.row_lines.proofs.Parts.{part_there, all_parts}
 use Rattle.row_lines.proofs.Texts.{split_numbers}
 use Rattle.row_lines.proofs.row.numbers_of.Goals as goal
 
@@ -29,8 +29,8 @@ pub returns-in_default : goal.returns-in_default
 returns-in_default c = λ numbers are is.
     let text = c.args.text.now in
     let parts = slice_split (λ b. eqb b 32) text in
-    let road = YieldsList-from_str_split 32 text (lit< tt) c.split-part-items.ensures.text c.split-part-items.ensures.has_more c.split-part-items.ensures.pattern in
-    let turn = YieldsList-turn (YieldsList-at c.into_iter-part-iterator.ensures.into_iter_gives road) c.loop-part.yielded _ c.loop-part.yielded_by _ _ c.in-Some.part c.in-Some.is c.next.ensures.steps in
+    let turn = part_there c.loop-part.yielded _ c.loop-part.yielded_by c.into_iter-part-iterator.ensures.into_iter_gives
+    (YieldsList-from_slice_split _ (λ b. eqb b 32) text c.split-part-items.ensures.rest c.split-part-items.ensures.done c.split-part-items.ensures.closure (λ x r q k. search (rules, tests))) _ _ c.in-Some.part c.in-Some.is c.next.ensures.steps in
     let same : parts ≡ map signed_decimal numbers = ap (slice_split (λ b. eqb b 32)) is ∙ split_numbers numbers are.some are.fit in
     let all : All IsPrinted parts = subst (λ (ts : List (List ℕ)). All IsPrinted ts) (sym same) (printed numbers are.fit) in
     let one : IsPrinted c.in-Some.part.now = subst IsPrinted (sym turn.1) (All-get_or IsPrinted parts (length c.loop-part.yielded) c.in-Some.part.now turn.0 all) in
@@ -40,8 +40,8 @@ pub returns-then-is_full : goal.returns-then-is_full
 returns-then-is_full c = λ numbers are is.
     let text = c.args.text.now in
     let parts = slice_split (λ b. eqb b 32) text in
-    let road = YieldsList-from_str_split 32 text (lit< tt) c.split-part-items.ensures.text c.split-part-items.ensures.has_more c.split-part-items.ensures.pattern in
-    let turn = YieldsList-turn (YieldsList-at c.into_iter-part-iterator.ensures.into_iter_gives road) c.loop-part.yielded _ c.loop-part.yielded_by _ _ c.in-Some.part c.in-Some.is c.next.ensures.steps in
+    let turn = part_there c.loop-part.yielded _ c.loop-part.yielded_by c.into_iter-part-iterator.ensures.into_iter_gives
+    (YieldsList-from_slice_split _ (λ b. eqb b 32) text c.split-part-items.ensures.rest c.split-part-items.ensures.done c.split-part-items.ensures.closure (λ x r q k. search (rules, tests))) _ _ c.in-Some.part c.in-Some.is c.next.ensures.steps in
     let same : parts ≡ map signed_decimal numbers = ap (slice_split (λ b. eqb b 32)) is ∙ split_numbers numbers are.some are.fit in
     let long : length parts ≡ length numbers = ap length same ∙ length-map numbers signed_decimal in
     let so_far : length c.loop-part.numbers.items ≡ length c.loop-part.yielded = sym (length-map c.loop-part.numbers.items signed_decimal) ∙ ap length c.loop-part.invariant.texts ∙ length-map c.loop-part.yielded (λ part. part.now) in
@@ -69,8 +69,8 @@ pub returns : goal.returns
 returns c =
     let text = c.args.text.now in
     let items = c.loop-part.numbers.items in
-    let road = YieldsList-from_str_split 32 text (lit< tt) c.split-part-items.ensures.text c.split-part-items.ensures.has_more c.split-part-items.ensures.pattern in
-    let end = YieldsList-end (YieldsList-at c.into_iter-part-iterator.ensures.into_iter_gives road) c.loop-part.yielded _ c.loop-part.yielded_by _ _ c.in-None.is c.next.ensures.steps in
+    let end = all_parts c.loop-part.yielded _ c.loop-part.yielded_by c.into_iter-part-iterator.ensures.into_iter_gives
+    (YieldsList-from_slice_split _ (λ b. eqb b 32) text c.split-part-items.ensures.rest c.split-part-items.ensures.done c.split-part-items.ensures.closure (λ x r q k. search (rules, tests))) _ _ c.in-None.is c.next.ensures.steps in
     let count = length-slice_split (λ b. eqb b 32) text in
     let so_far : length items ≡ length c.loop-part.yielded = sym (length-map items signed_decimal) ∙ ap length c.loop-part.invariant.texts ∙ length-map c.loop-part.yielded (λ part. part.now) in
     (record { some = omega (arith, end.1, count); few = c.loop-part.invariant.few; fit = c.loop-part.invariant.fit }, sym (join_with_byte-slice_split 32 text) ∙ ap (join_with_byte 32) (sym end.0 ∙ sym c.loop-part.invariant.texts))
