@@ -1,15 +1,14 @@
 //! Days, months and years in ISO 8601.
 
-ghost use Rattle.std.specs.Prelude.{◌≡◌, OnOk, string_bytes};
+ghost use Rattle.std.specs.Prelude.{◌≡◌, ◌≤◌, OnOk, length, string_bytes};
 ghost use Rattle.calendar_numbers.specs.Calendars.{month_number};
 ghost use Rattle.row_tables.specs.Dates.{IsDate, date_number, date_milliseconds, first_moment};
 
-use crate::decimal::push_padded;
+use crate::decimal::push_bytes;
 use crate::fault::CellFault;
 use crate::kind::DatePart;
-use crate::time::reads_as;
+use crate::time::{fill_day, reads_as};
 use jiff_core::civil::Date;
-use std::alloc::AllocError;
 
 /// The first day of a month, if it is in the calendar.
 fn first_day(year: i64, month: i64) -> Option<Date> {
@@ -55,19 +54,35 @@ fn milliseconds_of(date: Date) -> i64
     i64::from(date.to_unix_epoch_day()) * 86_400_000
 }
 
+/// How many places of a day its text has, or that of its month or year alone.
+fn places_of(part: DatePart) -> usize
+    ensures { result ≤ 10 }
+{
+    match part {
+        DatePart::Day => 10,
+        DatePart::Month => 7,
+        DatePart::Year => 4,
+    }
+}
+
+/// Puts the first places of a day behind a text.
+fn push_places(
+    text: &mut String,
+    day: &mut [u8],
+    date: Date,
+    places: usize,
+) -> Result<(), CellFault>
+    requires day { length day.old ≡ 10 }
+    requires places { places ≤ 10 }
+{
+    fill_day(day, date);
+    push_bytes(text, &day[..places])
+}
+
 /// Puts a day behind a text, or its month or year alone.
-fn push_part(text: &mut String, part: DatePart, date: Date) -> Result<(), AllocError> {
-    push_padded(text, u64::from(date.year.unsigned_abs()), 4)?;
-    if part == DatePart::Year {
-        return Ok(());
-    }
-    text.push_str("-")?;
-    push_padded(text, u64::from(date.month), 2)?;
-    if part == DatePart::Month {
-        return Ok(());
-    }
-    text.push_str("-")?;
-    push_padded(text, u64::from(date.day), 2)
+fn push_part(text: &mut String, part: DatePart, date: Date) -> Result<(), CellFault> {
+    let mut day = *b"0000-00-00";
+    push_places(text, &mut day, date, places_of(part))
 }
 
 /// What has to stand behind a day, a month or a year for its first moment in UTC.

@@ -8,32 +8,60 @@ use crate::fault::CellFault;
 use field_values::{Places, scaled};
 use row_lines::push_decimal;
 use std::alloc::AllocError;
+use std::str;
 
-/// Puts a number behind a text, with zeros before it where it has fewer digits than are wanted.
-pub(crate) fn push_padded(text: &mut String, number: u64, digits: u32) -> Result<(), AllocError> {
-    let mut bound = 10u64;
-    for _ in 1..digits {
-        if number < bound {
-            text.push_str("0")?;
-        }
-        bound = bound.saturating_mul(10);
+/// The most digits behind a point that a number of 64 bits has.
+const MOST_PLACES: usize = 20;
+
+/// Fills places with the last digits of a number, with zeros before them where it has fewer.
+pub(crate) fn fill_digits(places: &mut [u8], number: u64) {
+    let mut left = number;
+    for place in places.iter_mut().rev() {
+        *place = b'0' + (left % 10) as u8;
+        left /= 10;
     }
-    push_decimal(text, number)
+}
+
+/// Puts bytes of ASCII behind a text.
+pub(crate) fn push_bytes(text: &mut String, bytes: &[u8]) -> Result<(), CellFault> {
+    let Ok(bytes) = str::from_utf8(bytes) else {
+        return Err(CellFault::Unread);
+    };
+    text.push_str(bytes)?;
+    Ok(())
+}
+
+/// Puts the digits behind a point, as many as there are places, behind a text.
+fn push_places(text: &mut String, number: u64, places: usize) -> Result<(), CellFault> {
+    let mut digits = [b'0'; MOST_PLACES + 1];
+    digits[0] = b'.';
+    let end = places.min(MOST_PLACES) + 1;
+    fill_digits(&mut digits[1..end], number);
+    push_bytes(text, &digits[..end])
 }
 
 /// Puts a decimal with a point behind a text: a number that is scaled by ten to the power of the places.
-fn push_scaled(text: &mut String, number: i128, places: u32) -> Result<(), AllocError> {
+fn push_scaled(text: &mut String, number: i128, places: u32) -> Result<(), CellFault> {
+    let size = number.unsigned_abs();
+    let scale = 10u64.checked_pow(places).unwrap_or(u64::MAX).max(1);
     if number < 0 {
         text.push_str("-")?;
     }
-    let size = number.unsigned_abs();
-    let scale = 10u64.checked_pow(places).unwrap_or(u64::MAX);
-    push_decimal(text, size / u128::from(scale.max(1)))?;
     if places == 0 {
+        push_decimal(text, size)?;
         return Ok(());
     }
-    text.push_str(".")?;
-    push_padded(text, (size % u128::from(scale.max(1))) as u64, places)
+    match u64::try_from(size) {
+        Ok(size) => {
+            push_decimal(text, size / scale)?;
+            push_places(text, size % scale, places as usize)
+        }
+        Err(_) => {
+            let scale = u128::from(scale);
+            push_decimal(text, size / scale)?;
+            push_places(text, (size % scale) as u64, places as usize)
+        }
+    }
 }
 
 /// Whether a text reads as a number that is scaled so.
