@@ -22,6 +22,7 @@ import random
 import shutil
 import sys
 import tempfile
+import time
 
 HERE = pathlib.Path(__file__).resolve().parent
 PROGRAM = HERE.parents[1] / "crates/streamjob/out/streamjob"
@@ -58,19 +59,29 @@ def made(folder, lines):
     (folder / "plan.json").write_text(json.dumps(plan_of(3, 1)))
 
 
+def peak_of(child):
+    """The most memory in KB that a program which runs has had at once: its own, while what wait4 tells of begins with this script's."""
+    with open(f"/proc/{child}/status") as it:
+        return next((int(line.split()[1]) for line in it if line.startswith("VmHWM:")), 0)
+
+
 def took(folder, words, out):
     """The CPU seconds and the peak in MB of a program, whose standard output goes to a file. Ends where it fails."""
+    peak, ended = 0, 0
     with open(folder / out, "wb") as it:
         child = os.posix_spawnp(words[0], words, os.environ, file_actions=[(os.POSIX_SPAWN_DUP2, it.fileno(), 1)])
-        _, status, used = os.wait4(child, 0)
+        while not ended:
+            peak = max(peak, peak_of(child))
+            time.sleep(0.002)
+            ended, status, used = os.wait4(child, os.WNOHANG)
     if status:
         sys.exit(f"{' '.join(words)}: ends with {os.waitstatus_to_exitcode(status)}")
-    return used.ru_utime + used.ru_stime, used.ru_maxrss / 1024
+    return used.ru_utime + used.ru_stime, peak / 1024
 
 
 def told(folder, runs, name, words, out="out"):
     measured = [took(folder, words, out) for _ in range(runs)]
-    print(f"| {name} | {min(cpu for cpu, _ in measured):.2f} | {max(peak for _, peak in measured):.0f} |", flush=True)
+    print(f"| {name} | {min(cpu for cpu, _ in measured):.2f} | {max(peak for _, peak in measured):.1f} |", flush=True)
 
 
 def python_with_pandas():
@@ -102,6 +113,7 @@ def main():
         made(folder, said.lines)
         os.chdir(folder)
         print("| Program | CPU, s | Peak, MB |\n|---|---|---|")
+        told(folder, said.runs, "nothing but its version", [program, "version"])
         told(folder, said.runs, "import, usage", [program, "import", "usage.json", "usage_input.json", USAGE, "s=usage.csv", "--names", "names.csv"])
         pandas = python_with_pandas()
         if pandas:
