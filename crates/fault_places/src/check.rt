@@ -10,12 +10,13 @@ ghost use Rattle.input_texts.specs.Answer.{input_of_bytes};
 ghost use Rattle.input_texts.specs.Answer.{is_memory as is_input_memory};
 ghost use Rattle.fault_places.specs.Answer.{AnswersCheck};
 
-use crate::telling::{Notes, write_places};
-use crate::{input, plan, scale};
+use crate::writing::write_places;
+use crate::{input, scale};
 use input_texts::InputFault;
 use json::Scratch;
 use layout_rules::{Scale, ScaleFault};
 use logical_plan::{PlanFault, ReadPlan};
+use place_notes::Notes;
 use plan_model::Plan;
 use plan_scale::ReadScale;
 use std::alloc::{AllocError, Global};
@@ -62,7 +63,7 @@ impl Refused<'_> {
 /// Tells of the places of a text, which is JSON.
 fn check(notes: &mut Notes, value: &Placed<'_>, refused: Refused<'_>) -> Result<(), AllocError> {
     match refused {
-        Refused::Plan(fault) => plan::check(notes, value, fault),
+        Refused::Plan(fault) => plan_places::tell_places(notes, value, fault),
         Refused::Scale(plan, fault) => scale::check(notes, plan, value, fault),
         Refused::Input(plan, fault) => input::check(notes, plan, value, fault),
     }
@@ -70,9 +71,9 @@ fn check(notes: &mut Notes, value: &Placed<'_>, refused: Refused<'_>) -> Result<
 
 /// Tells where the bytes are no JSON.
 fn tell_breach(notes: &mut Notes, bytes: &[u8]) -> Result<(), AllocError> {
-    match breach_in(notes.alloc, bytes)? {
+    match breach_in(notes.alloc(), bytes)? {
         Some(breach) => {
-            let reason = String::from_str(notes.alloc, breach.reason)?;
+            let reason = String::from_str(notes.alloc(), breach.reason)?;
             notes.tell(breach.offset, reason)
         }
         None => Ok(()),
@@ -80,8 +81,8 @@ fn tell_breach(notes: &mut Notes, bytes: &[u8]) -> Result<(), AllocError> {
 }
 
 fn tell_places(notes: &mut Notes, text: &str, refused: Refused<'_>) -> Result<(), AllocError> {
-    let mut scratch = Scratch::new(notes.alloc);
-    let spots = spots_of(notes.alloc, text, &mut scratch)?;
+    let mut scratch = Scratch::new(notes.alloc());
+    let spots = spots_of(notes.alloc(), text, &mut scratch)?;
     match first_value(&spots) {
         Some(value) => check(notes, &value, refused),
         None => Ok(()),
@@ -96,17 +97,6 @@ fn notes_of(alloc: Global, bytes: &[u8], refused: Refused<'_>) -> Result<Notes, 
         _ => tell_breach(&mut notes, bytes)?,
     }
     Ok(notes)
-}
-
-/// The places of the notes, in a text of so many bytes.
-fn findings_of(alloc: Global, notes: Notes, end: usize) -> Result<Findings, AllocError>
-    ensures { IfOk result (λ found. found.end ≡ end) }
-{
-    let mut found = Findings::new(alloc, end);
-    for note in notes.places {
-        found.tell(note.offset, note.sentence)?;
-    }
-    Ok(found)
 }
 
 /// Tells of the whole text where no place was found.
@@ -131,7 +121,7 @@ pub fn places_of(alloc: Global, bytes: &[u8], refused: Refused<'_>) -> Result<Fi
     ensures some { IfOk result (λ found. 0 < length found.places) }
 {
     let notes = notes_of(alloc, bytes, refused)?;
-    let mut found = findings_of(alloc, notes, bytes.len())?;
+    let mut found = notes.into_findings(bytes.len())?;
     tell_whole(alloc, &mut found, refused.sentence())?;
     Ok(found)
 }

@@ -1,11 +1,8 @@
 //! The entries of an input.
 
-use crate::forms::{tell_other, wanted_number};
-use crate::owner::Owner;
-use crate::seeing::whole_of;
-use crate::telling::Notes;
 use columns::MOST_ROWS;
 use json::Token;
+use place_notes::{Notes, Owner, check_number, tell_other, whole_of};
 use plan_model::is_time;
 use std::alloc::{AllocError, Global};
 use stream_model::is_late_time;
@@ -54,7 +51,7 @@ fn check_rows_form(notes: &mut Notes, rows: &Placed<'_>) -> Result<(), AllocErro
     if !matches!(rows.token, Token::BeginArray) {
         return tell_other(notes, Owner::One("`rows`"), rows, "a list of rows");
     }
-    let parts = rows.parts(notes.alloc)?;
+    let parts = rows.parts(notes.alloc())?;
     for (i, row) in parts.iter().enumerate() {
         if !matches!(row.value.token, Token::BeginArray) {
             tell_other(
@@ -74,11 +71,11 @@ fn check_entry_form(notes: &mut Notes, entry: &Placed<'_>, place: usize) -> Resu
     if !matches!(entry.token, Token::BeginObject) {
         return tell_other(notes, owner, entry, "an object with `rows` or `watermark`");
     }
-    match entry_of(&entry.parts(notes.alloc)?) {
+    match entry_of(&entry.parts(notes.alloc())?) {
         Entry::Rows(rows) => check_rows_form(notes, &rows),
         Entry::Watermark(_) => Ok(()),
         Entry::Other => {
-            let sentence = format!(in notes.alloc;
+            let sentence = format!(in notes.alloc();
                 "{owner} has to have one member, `rows` or `watermark`"
             )?;
             notes.tell(entry.offset, sentence)
@@ -96,7 +93,7 @@ fn check_partition_form(
         let owner = Owner::Listed("partition", place);
         return tell_other(notes, owner, partition, "a list of entries");
     }
-    let entries = partition.parts(notes.alloc)?;
+    let entries = partition.parts(notes.alloc())?;
     for (i, entry) in entries.iter().enumerate() {
         check_entry_form(notes, &entry.value, i)?;
     }
@@ -109,19 +106,11 @@ pub(crate) fn check_forms(notes: &mut Notes, source: &Part<'_>) -> Result<(), Al
         let owner = Owner::Named("source", source.name);
         return tell_other(notes, owner, &source.value, "a list of partitions");
     }
-    let partitions = source.value.parts(notes.alloc)?;
+    let partitions = source.value.parts(notes.alloc())?;
     for (i, partition) in partitions.iter().enumerate() {
         check_partition_form(notes, &partition.value, i)?;
     }
     Ok(())
-}
-
-/// Tells of a value that is no whole number.
-fn check_number(notes: &mut Notes, owner: Owner<'_>, value: &Placed<'_>) -> Result<(), AllocError> {
-    if whole_of(value).is_some() {
-        return Ok(());
-    }
-    tell_other(notes, owner, value, wanted_number(value))
 }
 
 fn check_numbers(notes: &mut Notes, cells: &[Part<'_>]) -> Result<(), AllocError> {
@@ -138,7 +127,7 @@ fn tell_width(
     count: usize,
     columns: usize,
 ) -> Result<(), AllocError> {
-    let sentence = format!(in notes.alloc;
+    let sentence = format!(in notes.alloc();
         "this row has {count} numbers, and the plan {columns} columns"
     )?;
     notes.tell(row.offset, sentence)
@@ -153,7 +142,7 @@ fn cell_of(cells: &[Part<'_>], column: usize) -> Option<i64> {
 fn check_time(notes: &mut Notes, what: &str, value: &Placed<'_>) -> Result<(), AllocError> {
     match whole_of(value) {
         Some(time) if !is_time(time) => {
-            let sentence = format!(in notes.alloc;
+            let sentence = format!(in notes.alloc();
                 "the {what} {time} is out of range: times are from -2^62 to 2^62 - 1"
             )?;
             notes.tell(value.offset, sentence)
@@ -179,7 +168,7 @@ fn check_late(
 ) -> Result<(), AllocError> {
     match (time, before) {
         (Some(time), Some(watermark)) if is_late_time(watermark, time) => {
-            let sentence = format!(in notes.alloc;
+            let sentence = format!(in notes.alloc();
                 "this row comes late: its time {time} is not above the watermark {watermark} before it"
             )?;
             notes.tell(offset, sentence)
@@ -195,7 +184,7 @@ fn check_row(
     test: Test,
     before: Option<i64>,
 ) -> Result<(), AllocError> {
-    let cells = row.parts(notes.alloc)?;
+    let cells = row.parts(notes.alloc())?;
     match test {
         Test::Width(columns) if cells.len() != columns => tell_width(
             notes,
@@ -215,7 +204,7 @@ fn check_row_count(notes: &mut Notes, rows: &Placed<'_>, count: usize) -> Result
     if 1 <= count && count <= MOST_ROWS {
         return Ok(());
     }
-    let sentence = format!(in notes.alloc;
+    let sentence = format!(in notes.alloc();
         "this entry has {count} rows, and has to have 1 to {MOST_ROWS}"
     )?;
     notes.tell(rows.offset, sentence)
@@ -239,7 +228,7 @@ fn check_rows(
     test: Test,
     before: Option<i64>,
 ) -> Result<(), AllocError> {
-    let parts = rows.parts(notes.alloc)?;
+    let parts = rows.parts(notes.alloc())?;
     match test {
         Test::Rows => check_row_count(notes, rows, parts.len()),
         _ => check_each_row(notes, &parts, test, before),
@@ -287,10 +276,10 @@ fn check_partition(
     partition: &Placed<'_>,
     test: Test,
 ) -> Result<(), AllocError> {
-    let entries = partition.parts(notes.alloc)?;
+    let entries = partition.parts(notes.alloc())?;
     let mut before = None;
     for part in &entries {
-        let entry = entry_at(notes.alloc, part)?;
+        let entry = entry_at(notes.alloc(), part)?;
         check_entry(notes, entry, test, before)?;
         before = watermark_after(before, entry);
     }
@@ -303,7 +292,7 @@ pub(crate) fn check_entries(
     source: &Placed<'_>,
     test: Test,
 ) -> Result<(), AllocError> {
-    let partitions = source.parts(notes.alloc)?;
+    let partitions = source.parts(notes.alloc())?;
     for partition in &partitions {
         check_partition(notes, &partition.value, test)?;
     }

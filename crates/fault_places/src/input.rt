@@ -1,11 +1,9 @@
 //! The places of an input.
 
 use crate::entries::{Test, check_entries, check_forms};
-use crate::forms::tell_other;
-use crate::owner::Owner;
-use crate::telling::{Notes, behind};
 use input_texts::InputFault;
 use json::Token;
+use place_notes::{Notes, Owner, behind, tell_other};
 use plan_model::{Plan, SourceSpec};
 use std::alloc::AllocError;
 use text_places::{Part, Placed, part_named};
@@ -15,7 +13,7 @@ fn check_shape(notes: &mut Notes, input: &Placed<'_>) -> Result<(), AllocError> 
     if !matches!(input.token, Token::BeginObject) {
         return tell_other(notes, Owner::One("the input"), input, "an object");
     }
-    let sources = input.parts(notes.alloc)?;
+    let sources = input.parts(notes.alloc())?;
     for source in &sources {
         check_forms(notes, source)?;
     }
@@ -32,7 +30,7 @@ fn check_planned(
     if sources.iter().any(|source| source.uid.as_str() == name) {
         return Ok(());
     }
-    let sentence = format!(in notes.alloc; "the plan has no source {name:?}")?;
+    let sentence = format!(in notes.alloc(); "the plan has no source {name:?}")?;
     notes.tell(part.offset, sentence)
 }
 
@@ -46,7 +44,7 @@ fn check_given(
     if part_named(parts, uid).is_some() {
         return Ok(());
     }
-    let sentence = format!(in notes.alloc; "the source {uid:?} of the plan is missing here")?;
+    let sentence = format!(in notes.alloc(); "the source {uid:?} of the plan is missing here")?;
     notes.tell(input.offset, sentence)
 }
 
@@ -68,13 +66,13 @@ fn check_names(
 
 /// Tells of a source that has another number of partitions than the plan says.
 fn check_count(notes: &mut Notes, source: &SourceSpec, part: &Part<'_>) -> Result<(), AllocError> {
-    let count = part.value.parts(notes.alloc)?.len();
+    let count = part.value.parts(notes.alloc())?.len();
     let wanted = source.partitions;
     if count == wanted as usize {
         return Ok(());
     }
     let uid = source.uid.as_str();
-    let sentence = format!(in notes.alloc;
+    let sentence = format!(in notes.alloc();
         "the source {uid:?} has {count} partitions here, and {wanted} in the plan"
     )?;
     notes.tell(part.value.offset, sentence)
@@ -163,7 +161,7 @@ fn check_one(
     if !matches!(input.token, Token::BeginObject) {
         return Ok(());
     }
-    let parts = input.parts(notes.alloc)?;
+    let parts = input.parts(notes.alloc())?;
     match fault {
         InputFault::Source => check_names(notes, input, &parts, plan.sources()),
         InputFault::Partitions => check_counts(notes, &parts, plan.sources()),

@@ -6,12 +6,8 @@
 
 mod check;
 mod entries;
-mod forms;
 mod input;
-mod owner;
-mod plan;
 mod scale;
-mod seeing;
-mod telling;
+mod writing;
 
 pub use check::{Refused, check_input, check_plan, check_scale, places_of};

@@ -1,12 +1,12 @@
 //! The places of a scale.
 
-use crate::forms::{Form, Rule, Shape, check_object, tell_other};
-use crate::owner::{Member, Owner};
-use crate::seeing::member_of;
-use crate::telling::{Notes, Range, behind, check_range};
 use json::Token;
 use key_groups::MOST_SUBTASKS;
 use layout_rules::{MOST_CAPACITY, ScaleFault};
+use place_notes::{
+    Form, Member, Notes, Owner, Range, Rule, Shape, behind, check_object, check_range, member_of,
+    tell_other,
+};
 use plan_model::{FilterSpec, Plan, SourceSpec};
 use std::alloc::AllocError;
 use text_places::{Part, Placed, part_named};
@@ -61,7 +61,7 @@ fn check_operators(notes: &mut Notes, operators: &Placed<'_>) -> Result<(), Allo
             "an object",
         );
     }
-    let parts = operators.parts(notes.alloc)?;
+    let parts = operators.parts(notes.alloc())?;
     for part in &parts {
         let owner = Owner::Named("operator", part.name);
         check_object(notes, owner, &part.value, operator_shape())?;
@@ -72,7 +72,7 @@ fn check_operators(notes: &mut Notes, operators: &Placed<'_>) -> Result<(), Allo
 /// Tells of the members that are missing, unknown or of another form.
 fn check_shape(notes: &mut Notes, scale: &Placed<'_>) -> Result<(), AllocError> {
     check_object(notes, Owner::One("the scale"), scale, scale_shape())?;
-    match member_of(notes.alloc, scale, "operators")? {
+    match member_of(notes.alloc(), scale, "operators")? {
         Some(operators) => check_operators(notes, &operators),
         None => Ok(()),
     }
@@ -84,7 +84,7 @@ fn check_known(notes: &mut Notes, plan: &Plan, part: &Part<'_>) -> Result<(), Al
     if plan.place_of(name).is_some() {
         return Ok(());
     }
-    let sentence = format!(in notes.alloc; "the plan has no operator {name:?}")?;
+    let sentence = format!(in notes.alloc(); "the plan has no operator {name:?}")?;
     notes.tell(part.offset, sentence)
 }
 
@@ -98,7 +98,7 @@ fn check_given(
     if part_named(parts, uid).is_some() {
         return Ok(());
     }
-    let sentence = format!(in notes.alloc; "the operator {uid:?} of the plan is missing here")?;
+    let sentence = format!(in notes.alloc(); "the operator {uid:?} of the plan is missing here")?;
     notes.tell(operators.offset, sentence)
 }
 
@@ -173,15 +173,15 @@ fn check_under(
     scale: &Placed<'_>,
     fault: ScaleFault,
 ) -> Result<(), AllocError> {
-    let Some(operators) = member_of(notes.alloc, scale, "operators")? else {
+    let Some(operators) = member_of(notes.alloc(), scale, "operators")? else {
         return Ok(());
     };
-    let parts = operators.parts(notes.alloc)?;
+    let parts = operators.parts(notes.alloc())?;
     match fault {
         ScaleFault::MissingUid => check_all_given(notes, plan, &operators, &parts),
         ScaleFault::Tasks => notes.tell(
             operators.offset,
-            String::from_str(notes.alloc, "the layout has more than 256 tasks")?,
+            String::from_str(notes.alloc(), "the layout has more than 256 tasks")?,
         ),
         _ => check_each(notes, plan, &parts, fault),
     }
