@@ -9,7 +9,16 @@ use Rattle.csv.specs.Writing.{default_writer, end_text, field_text, fields_writt
 use Rattle.csv.specs.declared.writer.QuoteStyle.TheVariants as style
 use Rattle.csv.specs.declared.writer.Writer.{Writer}
 use Rattle.csv.specs.declared.writer.WriterBuilder.{WriterBuilder}
-use Rattle.import_asides.specs.Written.{IsBehindFields, csv_text}
+use Rattle.import_asides.specs.declared.writer.CsvWriter.{CsvWriter}
+use Rattle.import_asides.specs.Written.{HasRecords, IsBehindFields, csv_text}
+
+-- what is said of a writer, of what it has on the heap
+pub held : {W : Type 0} (contents : W → Option (List ℕ)) (start : Option (List ℕ)) (records : List (List (List ℕ))) (fields : List (List ℕ)) (writer : CsvWriter W) (old : Writer W) → old ≡ writer.writer.value
+    → HasRecords contents start records fields writer → IsBehindFields fields old × Appends start (text_written contents old) (csv_text records ++ row_body default_writer fields)
+held contents start records fields writer old is h = (
+  subst (IsBehindFields fields) (sym is) h.behind,
+  subst (λ out. Appends start (text_written contents out) (csv_text records ++ row_body default_writer fields)) (sym is) h.text,
+)
 
 pub plain : (setup : WriterBuilder) → setup ≡ default_writer → setup.style ≢ style.NonNumeric
 plain setup is e = let other : style.Necessary ≡ style.NonNumeric = sym (ap (λ (s : WriterBuilder). s.style) is) ∙ e in cc
