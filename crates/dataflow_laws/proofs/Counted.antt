@@ -26,7 +26,7 @@ use Rattle.dataflow_laws.proofs.Opened.{IsFresh, fresh}
 use Rattle.dataflow_laws.proofs.Openings.{opened_as}
 
 -- at most one barrier is that of a stop
-stop_is_one : (k : AbstractTask) → barriers k ≤ suc k.saves
+pub stop_is_one : (k : AbstractTask) → barriers k ≤ suc k.saves
 stop_is_one k = elim (cases_Bool (may_stop k.ending)) [ inl d ↦ rw d (omega arith) | inr d ↦ rw d (omega arith) ]
 
 -- ---- a step

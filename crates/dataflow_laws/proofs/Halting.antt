@@ -31,6 +31,7 @@ use Rattle.dataflow_laws.proofs.Openings.{opened_as}
 use Rattle.dataflow_laws.proofs.Admission.{outs_of}
 use Rattle.dataflow_laws.proofs.Complete.{ended_append, idle_of, ring_bound}
 use Rattle.dataflow_laws.proofs.Completing.{Meets, met, nothing_behind, aligned_is_complete}
+use Rattle.dataflow_laws.proofs.Counted.{stop_is_one}
 
 -- ---- logs
 
@@ -100,10 +101,6 @@ pub record Halts (k : AbstractTask) (es : List Event) (s : State) : Type 0 where
   pub unheld : is_source k.role ≡ false → s.over ≡ true → s.next ≤ k.saves → any_held s.inputs.shut ≡ false
   pub closed : k.role ≡ Source → s.over ≡ true → s.next ≤ k.saves → IsClosed k s
 
--- at most one barrier is that of a stop
-one_more : (k : AbstractTask) → barriers k ≤ suc k.saves
-one_more k = elim (cases_Bool (may_stop k.ending)) [ inl d ↦ rw d (omega arith) | inr d ↦ rw d (omega arith) ]
-
 halts_same : (k : AbstractTask) (es : List Event) (s : State) (e : Event) (s' : State) → s'.over ≡ s.over → s'.inputs.shut ≡ s.inputs.shut → s'.next ≡ s.next → (s.over ≡ true → s'.offsets ≡ s.offsets) → Halts k es s → Halts k (e ∷ es) s'
 halts_same k es s e s' oe se ne fe r = record {
   few = subst (λ n. n ≤ barriers k) (sym ne) r.few;
@@ -142,7 +139,7 @@ halts_wait k es s i m v ns ov long il is r = record {
 halts_past : (k : AbstractTask) (es : List Event) (s : State) (i : ℕ) (m : Message) (v : Shut) → is_source k.role ≡ false → length s.inputs.shut ≡ k.inputs → i < k.inputs → s.next < barriers k → (v ≡ Ended → is_end m ≡ true) → Halts k es s
     → Halts k (Take i m ∷ es) (past_barrier k s (set s.inputs.shut i v))
 halts_past k es s i m v ns long il left is r =
-    let up = one_more k in
+    let up = stop_is_one k in
     record {
       few = omega (arith, left);
       going = λ o. let other = not_last k s.next left o in less s.next k.saves (omega (arith, left, up)) other;

@@ -1,5 +1,5 @@
 -- Whatever a leg begins with, what stands in its windows is of their own keys, and has no more records than were read.
-use Rattle.std.proofs.Common.{◌≡◌, ℕ, zero, suc, ◌+◌, ◌-◌, ◌<◌, ◌≤◌, List, [], ◌∷◌, Bool, cond, length, map, refl, sym, ap, ◌∙◌, ◌⊎◌, inl, inr, arith, Option, Some, None, ℤ, pos}
+use Rattle.std.proofs.Common.{◌≡◌, ℕ, zero, suc, ◌+◌, ◌-◌, ◌<◌, ◌≤◌, List, [], ◌∷◌, Bool, cond, length, refl, sym, ap, ◌∙◌, ◌⊎◌, inl, inr, arith, Option, Some, None, pos}
 use Rattle.std.proofs.lemmas.Bool.{cases_eq, cases_Bool}
 use Rattle.std.proofs.lemmas.List.{get_or_default}
 use Rattle.std.specs.FinMap.{get}
@@ -7,11 +7,11 @@ use Rattle.std.specs.List.{filter}
 use Rattle.plain_data.specs.Record.{Record}
 use Rattle.plan_model.specs.declared.spec.Pane.{Pane}
 use Rattle.plan_model.specs.declared.spec.WindowSpec.{WindowSpec}
-use Rattle.plan_model.specs.declared.spec.Aggregate.{Aggregate}
 use Rattle.plan_model.specs.PlanData.{PlanData}
 use Rattle.plan_model.specs.Windows.{is_at, is_start}
-use Rattle.plan_model.specs.Aggregates.{Aggregated, aggregate_of, number_of, merge, merge_numbers}
+use Rattle.plan_model.specs.Aggregates.{Aggregated, aggregate_of, merge}
 use Rattle.plan_model.specs.Rows.{aggregate_at, is_due}
+use Rattle.plan_model.proofs.Facts.{count_of_some, count_merged}
 use Rattle.dataflow_model.specs.declared.message.Message.{Message}
 use Rattle.dataflow_model.specs.declared.role.Role.TheVariants.{Source}
 use Rattle.dataflow_model.specs.Message.{records_of}
@@ -52,28 +52,12 @@ length_weighs : (test : Record → Bool) (rs : List Record) → length (filter t
 length_weighs test [] = refl
 length_weighs test (r ∷ rs) = let h = length_weighs test rs in elim (cases_Bool (test r)) [ inl e ↦ rw e (omega (arith, h)) | inr e ↦ rw e (omega (arith, h)) ]
 
-same_count : (n : ℕ) (numbers : List ℤ) (a : Aggregated) → Some (record { count = n; numbers = numbers }) ≡ Some a → a.count ≡ n
-same_count n numbers a e = let b : Aggregated = record { count = n; numbers = numbers } in let same : b ≡ a = cc in sym (ap (λ (x : Aggregated). x.count) same)
-
-count_of : (ks : List Aggregate) (rs : List Record) (a : Aggregated) → aggregate_of ks rs ≡ Some a → a.count ≡ length rs
-count_of ks [] a e = absurd cc
-count_of ks (r ∷ rs) a e = same_count (length (r ∷ rs)) (map (λ k. number_of k r rs) ks) a e
-
 count_at : (w : WindowSpec) (rs : List Record) (q : Pane) (a : Aggregated) → aggregate_at w rs q ≡ Some a → a.count ≡ weigh (there w q) rs
 count_at w rs q a e =
     elim (cases_Bool (is_start w q.start)) [
-      | inl s ↦ count_of w.aggregates (filter (is_at w q) rs) a (sym (ap (λ t. cond t (aggregate_of w.aggregates (filter (is_at w q) rs)) None) s) ∙ e) ∙ length_weighs (is_at w q) rs
+      | inl s ↦ count_of_some w.aggregates (filter (is_at w q) rs) a (sym (ap (λ t. cond t (aggregate_of w.aggregates (filter (is_at w q) rs)) None) s) ∙ e) ∙ length_weighs (is_at w q) rs
       | inr s ↦ absurd (let z : None ≡ Some a = sym (ap (λ t. cond t (aggregate_of w.aggregates (filter (is_at w q) rs)) None) s) ∙ e in cc)
     ]
-
-count_merged : (ks : List Aggregate) (x y : Option Aggregated) (a : Aggregated) (n m : ℕ) → ((b : Aggregated) → x ≡ Some b → b.count ≤ n) → ((b : Aggregated) → y ≡ Some b → b.count ≤ m) → merge ks x y ≡ Some a → a.count ≤ n + m
-count_merged ks None y a n m hx hy e = let h = hy a e in omega (arith, h)
-count_merged ks (Some x) None a n m hx hy e = let h = hx a e in omega (arith, h)
-count_merged ks (Some x) (Some y) a n m hx hy e =
-    let h = hx x refl in
-    let k = hy y refl in
-    let many = same_count (x.count + y.count) (merge_numbers ks x.numbers y.numbers) a e in
-    omega (arith, h, k, many)
 
 cases_option : {X : Type 0} (o : Option X) → (o ≡ None) ⊎ ((x : X) × (o ≡ Some x))
 cases_option None = inl refl

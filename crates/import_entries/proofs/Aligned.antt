@@ -1,7 +1,7 @@
 -- A watermark that is rounded down to the last time of a window.
 use Rattle.std.proofs.Common.{◌≡◌, ℕ, suc, ℤ, pos, negsuc, neg_ℤ, ◌+◌, ◌-◌, ◌*◌, ◌/◌, ◌%◌, ◌<◌, ◌≤◌, ◌+ℤ◌, ◌-ℤ◌, ◌*ℤ◌, ◌<ℤ◌, ◌≤ℤ◌, Bool, true, false, refl, sym, ap, ◌∙◌, inl, inr, arith}
 use Rattle.std.specs.Int.{int_rem_euclid}
-use Rattle.std.specs.Int.RustNames.{int_le, int_lt}
+use Rattle.std.specs.Int.RustNames.{int_le}
 use Rattle.std.proofs.lemmas.Int.{ints}
 use Rattle.std.proofs.lemmas.Bool.{cases_lt}
 use Rattle.std.proofs.lemmas.Nat.{div-add-mod', mod_below}
@@ -16,6 +16,7 @@ use Rattle.std.proofs.Common.{◌^◌, Option, Some, None}
 use Rattle.plan_model.specs.declared.limits.TheConstants.{TIME_LIMIT}
 use Rattle.import_entries.specs.Entries.{timely, reached}
 use Rattle.import_entries.specs.Ends.{distance, last_end, AreEndsOf}
+use Rattle.plan_model.proofs.Facts.{natural_above, le_from_test, test_from_le}
 
 -- a number is a multiple and its remainder
 pub record Divided (z : ℤ) (n : ℕ) : Type 0 where
@@ -60,10 +61,6 @@ steps (negsuc a) (pos b) n r small h = omega (arith, ints, negsuc-*ℤ-pos a n, 
 steps (negsuc a) (negsuc b) n r small h =
     let found = steps_nat (suc b) (suc a) n r small (omega (arith, ints, negsuc-*ℤ-pos a n, negsuc-*ℤ-pos b n)) in
     omega (arith, ints, negsuc-*ℤ-pos a n, negsuc-*ℤ-pos b n)
-
-natural_above : (z : ℤ) → pos 0 <ℤ z → (n : ℕ) × (0 < n) × (z ≡ pos n)
-natural_above (pos n) h = (n, omega (arith, ints), refl)
-natural_above (negsuc n) h = absurd (omega (arith, ints))
 
 -- the watermark and what it is rounded to, by the first time of an end
 pub record Rounded (ends : WindowEnds) (mark : ℤ) : Type 0 where
@@ -110,12 +107,6 @@ same_test true true f g = refl
 same_test false false f g = refl
 same_test true false f g = sym (f refl)
 same_test false true f g = g refl
-
-le_from_test : (a b : ℤ) → int_le a b ≡ true → a ≤ℤ b
-le_from_test a b h = grind (arith, ints)
-
-test_from_le : (a b : ℤ) → a ≤ℤ b → int_le a b ≡ true
-test_from_le a b h = grind (arith, ints)
 
 same_le : (a b c d : ℤ) → (a ≤ℤ b → c ≤ℤ d) → (c ≤ℤ d → a ≤ℤ b) → int_le a b ≡ int_le c d
 same_le a b c d f g =

@@ -9,6 +9,7 @@ use Rattle.plain_data.specs.Times.{highest}
 use Rattle.stream_model.specs.declared.entry.Entry.{Entry}
 use Rattle.stream_model.specs.Watermarks.{partition_watermark}
 use Rattle.input_cuts.specs.Cuts.{first_count}
+use Rattle.stream_model.proofs.Facts.{above}
 
 pub is_at : (a b : ℤ) → a ≤ℤ b → int_le a b ≡ true
 is_at a b h = grind (arith, ints)
@@ -70,9 +71,6 @@ pub record IsFirst (w : ℤ) (entries : List Entry) (n : ℕ) : Type 0 where
   pub within : n ≤ length entries
   pub reached : w ≤ℤ partition_watermark entries n
   pub first : (m : ℕ) → m < n → partition_watermark entries m <ℤ w
-
-above : (a b : ℤ) → int_le a b ≡ false → b <ℤ a
-above a b h = grind (arith, ints)
 
 n_eqb : (n : ℕ) → (n == n) ≡ true
 n_eqb n = grind arith

@@ -12,6 +12,7 @@ use Rattle.stream_model.specs.declared.entry.Entry.TheVariants.{Rows, Watermark}
 use Rattle.stream_model.specs.InputData.{records_of_entry}
 use Rattle.stream_model.specs.Watermarks.{watermark_of_entry, partition_watermark, IsOrderlyPartition, IsOrderly}
 use Rattle.input_parts.specs.Parts.{entry_of_rows, entries_kept, sources_kept}
+use Rattle.stream_model.proofs.Facts.{le_max}
 
 abbrev after : ℤ → Entry → ℤ
 after w e = int_max w (watermark_of_entry e)
@@ -50,9 +51,6 @@ below a b c h k = omega (arith, ints)
 raised : (a b c : ℤ) → a ≤ℤ b → int_max a c ≤ℤ int_max b c
 raised a b c h = omega (arith, ints, clamps)
 
-above : (a b : ℤ) → a ≤ℤ int_max a b
-above a b = omega (arith, ints, clamps)
-
 -- so it is from each lower watermark on
 from_lower : (time : ℕ) (low high : ℤ) (es : List Entry) → low ≤ℤ high → AreTimelyFrom time high es → AreTimelyFrom time low es
 from_lower time low high [] le h = tt
@@ -63,7 +61,7 @@ from_lower time low high (e ∷ es) le h = (
 
 from_rows : (time : ℕ) (w : ℤ) (width : ℕ) (rs : List Record) (es : List Entry) → All (λ r. w <ℤ at time r) rs → AreTimelyFrom time (int_max w lowest) es
     → AreTimelyFrom time w (entry_of_rows width rs ++ es)
-from_rows time w width [] es h k = from_lower time w (int_max w lowest) es (above w lowest) k
+from_rows time w width [] es h k = from_lower time w (int_max w lowest) es (le_max w lowest) k
 from_rows time w width (r ∷ rs) es h k = (h, k)
 
 kept_timely : (keep : Record → Bool) (time : ℕ) (w : ℤ) (es : List Entry) → AreTimelyFrom time w es → AreTimelyFrom time w (entries_kept keep es)

@@ -24,7 +24,7 @@ rows_member : (d : Data) → entry_text (object (member (codes "rows") d no_memb
 unfolding entry_text has_only rows_text each_at list_text
 rows_member d = rows_then _
 
-watermark_member : (d : Data) → entry_text (object (member (codes "watermark") d no_members)) ≡ Some (watermark (whole d))
+pub watermark_member : (d : Data) → entry_text (object (member (codes "watermark") d no_members)) ≡ Some (watermark (whole d))
 unfolding entry_text has_only watermark_text
 watermark_member d = refl
 

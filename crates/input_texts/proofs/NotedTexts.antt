@@ -26,6 +26,7 @@ use Rattle.input_texts.specs.Document.{Document, pairs, names_in, is_source, is_
 use Rattle.input_texts.specs.Seen.{SourceSeen, source_seen, slot_of}
 use Rattle.input_texts.proofs.Sources.{found_at}
 use Rattle.input_texts.proofs.Pairs.{same_some, under}
+use Rattle.json_tokens.proofs.Facts.{equal_from}
 
 -- places of what stands behind i others
 abbrev pub moved : {Y : Type 0} → ℕ → Option (ℕ × Y) → Option (ℕ × Y)
@@ -138,11 +139,6 @@ below_none l no_members h = refl
 below_none l (member m e ms) h =
     let parts = and_parts (is_lt (slice_cmp nat_cmp l m)) (entries.below_all (slice_cmp nat_cmp) l (pairs ms)) h in
     below_by (slice_cmp nat_cmp l m) e (get_member l ms) parts.0 (below_none l ms parts.1)
-
-equal_from : (o : Ordering) → is_eq o ≡ true → o ≡ Equal
-equal_from Less h = absurd (cc)
-equal_from Equal h = refl
-equal_from Greater h = absurd (cc)
 
 own : (l : List ℕ) (e : Data) (ms : Members) → get_member l (member l e ms) ≡ Some e
 own l e ms = let same : slice_cmp nat_cmp l l ≡ Equal = equal_from (slice_cmp nat_cmp l l) (is_eq-slice_cmp l l ∙ same_bytes l) in rw same refl

@@ -12,7 +12,7 @@ use Rattle.layout_rules.proofs.Shapes.{shaped, parallelism_within}
 pub use Rattle.layout_rules.proofs.Rows.{row_is, row_at}
 pub use Rattle.layout_rules.proofs.Groups.{headed}
 pub use Rattle.layout_rules.proofs.Counted.{tasks_counted}
-pub use Rattle.layout_rules.proofs.Shapes.{compiled_is_layout}
+pub use Rattle.layout_rules.proofs.Shapes.{compiled_is_layout, one_within}
 pub use Rattle.layout_rules.proofs.Legs.{tasks_are_one_leg}
 pub use Rattle.layout_rules.proofs.Outputs.{rings_by_group, tasks_have_outputs, sink_is_last}
 pub use Rattle.layout_rules.proofs.Once.{compiled_once, compiled_ever}

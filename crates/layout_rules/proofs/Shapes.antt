@@ -190,7 +190,7 @@ kept_in_order p r =
     ∙ ap (λ fs. passes fs r) (take-length p.filters)
 
 -- each parallelism is one that the plan's key groups allow
-one_within : (max : ℕ) → 1 ≤ max → IsParallelism max 1
+pub one_within : (max : ℕ) → 1 ≤ max → IsParallelism max 1
 one_within max some = record { some = omega arith; few = omega arith; grouped = some }
 
 pub parallelism_within : (p : PlanData) (c : ScaleData) → 1 ≤ p.max → IsScale p c → (os : List Operator) → IsParallelism p.max (stage_parallelism c os)

@@ -1,5 +1,5 @@
 -- How many records stand in a pane.
-use Rattle.std.proofs.Common.{◌≡◌, ℕ, ◌+◌, ◌≤◌, true, false, List, [], ◌∷◌, length, refl, arith, Option, Some, None, if◌then◌else◌}
+use Rattle.std.proofs.Common.{◌≡◌, ℕ, ◌+◌, ◌≤◌, true, false, List, [], ◌∷◌, length, refl, sym, ap, ◌∙◌, arith, Option, Some, None, if◌then◌else◌}
 use Rattle.std.proofs.lemmas.List.Sums.{length-filter, count_by-le-length}
 use Rattle.plain_data.specs.Record.{Record}
 use Rattle.plan_model.specs.declared.spec.Aggregate.{Aggregate}
@@ -28,3 +28,17 @@ pub count_merge : (ks : List Aggregate) (a b : Option Aggregated) → count_or (
 count_merge ks None b = omega arith
 count_merge ks (Some a) None = omega arith
 count_merge ks (Some a) (Some b) = refl
+
+-- the same, of what is there
+pub count_of_some : (ks : List Aggregate) (rs : List Record) (a : Aggregated) → aggregate_of ks rs ≡ Some a → a.count ≡ length rs
+count_of_some ks rs a e = sym (ap count_or e) ∙ count_of ks rs
+
+most : (x : Option Aggregated) (n : ℕ) → ((b : Aggregated) → x ≡ Some b → b.count ≤ n) → count_or x ≤ n
+most None n h = omega arith
+most (Some b) n h = h b refl
+
+pub count_merged : (ks : List Aggregate) (x y : Option Aggregated) (a : Aggregated) (n m : ℕ) → ((b : Aggregated) → x ≡ Some b → b.count ≤ n) → ((b : Aggregated) → y ≡ Some b → b.count ≤ m)
+    → merge ks x y ≡ Some a → a.count ≤ n + m
+count_merged ks x y a n m hx hy e =
+    let both : a.count ≡ count_or x + count_or y = sym (ap count_or e) ∙ count_merge ks x y in
+    omega (arith, both, most x n hx, most y m hy)

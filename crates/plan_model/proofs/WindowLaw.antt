@@ -60,7 +60,7 @@ no_remainder (negsuc a) n h =
     let e : negsuc a *ℤ pos n +ℤ pos (suc a * n) ≡ pos 0 = omega (arith, ints, negsuc-*ℤ-pos a n) in
     int_rem_euclid_is (negsuc a *ℤ pos n) (pos n) n (suc a) 0 h refl e ∙ ap pos (zero-mod n)
 
-natural_above : (z : ℤ) → pos 0 <ℤ z → (n : ℕ) × (0 < n) × (z ≡ pos n)
+pub natural_above : (z : ℤ) → pos 0 <ℤ z → (n : ℕ) × (0 < n) × (z ≡ pos n)
 natural_above (pos n) h = (n, omega (arith, ints), refl)
 natural_above (negsuc n) h = absurd (omega (arith, ints))
 
@@ -87,13 +87,13 @@ is_start-to w s h is =
     let found : (k : ℤ) × (s -ℤ w.offset ≡ k *ℤ pos n.0) = has_multiple (s -ℤ w.offset) n.0 n.1 none in
     (found.0, back_again s w.offset (found.0 *ℤ w.slide) (found.1 ∙ ap (λ d. found.0 *ℤ d) (sym slide)))
 
-le_from_test : (a b : ℤ) → int_le a b ≡ true → a ≤ℤ b
+pub le_from_test : (a b : ℤ) → int_le a b ≡ true → a ≤ℤ b
 le_from_test a b h = grind (arith, ints)
 
 lt_from_test : (a b : ℤ) → int_lt a b ≡ true → a <ℤ b
 lt_from_test a b h = grind (arith, ints)
 
-test_from_le : (a b : ℤ) → a ≤ℤ b → int_le a b ≡ true
+pub test_from_le : (a b : ℤ) → a ≤ℤ b → int_le a b ≡ true
 test_from_le a b h = grind (arith, ints)
 
 test_from_lt : (a b : ℤ) → a <ℤ b → int_lt a b ≡ true

@@ -26,6 +26,7 @@ use Rattle.plan_scale.specs.Tasks.{only_parallelism, chains_to, filter_tasks, Is
 use Rattle.plan_scale.specs.Requirements.{has_parallelism, has_capacity, has_few_tasks}
 use Rattle.plan_scale.proofs.Named.{found_passes}
 use Rattle.plan_scale.proofs.TaskCount.{Fits, tasks_are}
+use Rattle.layout_rules.proofs.Facts.{one_within}
 
 is_one : (max : ℕ) → 1 ≤ max → is_within (pos 1) (pos (min MOST_SUBTASKS max)) (pos 1) ≡ true
 is_one max some = grind (arith, ints)
@@ -123,13 +124,10 @@ one_opens before (x ∷ xs) =
       | inr e ↦ rw e (omega (arith, rest))
     ]
 
-one_each : (max : ℕ) → 1 ≤ max → IsParallelism max 1
-one_each max some = record { some = omega arith; few = omega arith; grouped = some }
-
 pub single_is_scale : (plan : PlanData) → IsPlan plan → IsScale plan (single_scale plan)
 unfolding chained_one
 single_is_scale plan p =
-    let one = one_each plan.max p.grouped in
+    let one = one_within plan.max p.grouped in
     let fits : Fits plan (single_scale plan) = record { sources = length-map plan.sources (λ (s : SourceSpec). 1); filters = length-map plan.filters (λ (f : FilterSpec). chained_one) } in
     let sources = ones_sum plan.sources in
     let filters = one_opens (only_parallelism (single_scale plan).sources) plan.filters in

@@ -27,7 +27,7 @@ IsFine result = (result ≡ Ok tt) ⊎ (result ≡ Err fault.Memory)
 as_many : (n : ℕ) → (n == n) ≡ true
 as_many n = grind arith
 
-both : (a b : Bool) → a ≡ true → b ≡ true → (a && b) ≡ true
+pub both : (a b : Bool) → a ≡ true → b ≡ true → (a && b) ≡ true
 both true true a b = refl
 both true false a b = absurd cc
 both false b a c = absurd cc

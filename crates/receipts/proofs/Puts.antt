@@ -1,5 +1,5 @@
 -- Members that are put into an object one after another, each under a name of its own.
-use Rattle.std.proofs.Common.{◌≡◌, ◌&&◌, ◌||◌, ℕ, Bool, true, false, not, bytes_eq, List, [], ◌∷◌, map, Some, Ordering, Less, Equal, Greater, nat_cmp, refl, sym, ◌∙◌}
+use Rattle.std.proofs.Common.{◌≡◌, ◌||◌, ℕ, Bool, true, false, not, bytes_eq, List, [], ◌∷◌, map, Some, Ordering, Less, Equal, Greater, nat_cmp, refl, sym, ◌∙◌}
 use Rattle.std.proofs.lemmas.Bool.{and_parts, or_parts, true≢false}
 use Rattle.std.proofs.lemmas.Slice.Eq.{bytes_eq-Decides}
 use Rattle.std.specs.Cmp.Lexicographic.{slice_cmp}
@@ -10,6 +10,7 @@ use Rattle.serde_json.specs.Data.{Data, Members, no_members, member, put}
 use Rattle.serde_json.specs.Find.{get_member}
 use Rattle.serde_json.proofs.Views.{get_member-put, get_member-put_other}
 use Rattle.json_parts.specs.Parts.{is_one_of, names_of}
+use Rattle.receipts.proofs.Kept.{both}
 
 abbrev pub Named : Type 0
 Named = List ℕ × Data
@@ -47,11 +48,6 @@ all_there [] ms distinct = tt
 all_there (z ∷ zs) ms distinct = (kept z.0 zs (put z.0 z.1 ms) distinct.0 ∙ get_member-put z.0 z.1 ms, all_there zs (put z.0 z.1 ms) distinct.1)
 
 -- ---- no other name is there
-
-both : (a b : Bool) → a ≡ true → b ≡ true → (a && b) ≡ true
-both true true a b = refl
-both true false a b = absurd cc
-both false b a c = absurd cc
 
 named_at : (o : Ordering) (P : List ℕ → Bool) (k l : List ℕ) (d e : Data) (ms : Members) → P k ≡ true → P l ≡ true → list_all P (names_of ms) ≡ true → list_all P (names_of (put k d ms)) ≡ true
     → list_all P (names_of (match_ordering o (member k d (member l e ms)) (member l d ms) (member l e (put k d ms)))) ≡ true

@@ -10,12 +10,12 @@ use Rattle.plain_data.specs.Record.{Record}
 use Rattle.stream_model.specs.declared.entry.Entry.{Entry}
 use Rattle.stream_model.specs.declared.entry.Entry.TheVariants.{Watermark}
 use Rattle.input_texts.specs.declared.text.EntryText.TheVariants.{Rows as rows, Watermark as watermark}
-use Rattle.input_texts.specs.InputText.{rows_text, watermark_text, entry_text}
+use Rattle.input_texts.specs.InputText.{rows_text, entry_text}
 use Rattle.input_texts.specs.Said.{record_of}
 use Rattle.plan_model.specs.Windows.{is_time}
 use Rattle.input_texts.specs.Requirements.{is_wide, is_whole}
 use Rattle.stream_input.specs.Fit.{if_fit, fit_entry}
-use Rattle.input_texts.proofs.Facts.{all_weaker}
+use Rattle.input_texts.proofs.Facts.{all_weaker, watermark_member}
 use Rattle.stream_input.proofs.Refines.{is_row, list_refines, row_refines}
 
 rows_member : (d : Data) (found : List (List (Option ℤ))) → list_text (list_text cell_text) d ≡ Some found → entry_text (object (member (codes "rows") d no_members)) ≡ Some (rows found)
@@ -32,10 +32,6 @@ rows_fit columns time name rs e same fits d h =
     let all_whole = all_weaker (is_row columns) (list_all is_some) (λ row is. (and_parts (length row == columns) (list_all is_some row) is).1) found.0 found.3 in
     let named : name ≡ codes "rows" = (bytes_eq-Decides name (codes "rows")).0 same in
     ap (λ k. option_and_then (if_fit columns time) (entry_text (object (member k d no_members)))) named ∙ ap (option_and_then (if_fit columns time)) (rows_member d found.0 found.1) ∙ fits found.0 wide all_whole found.2
-
-watermark_member : (d : Data) → entry_text (object (member (codes "watermark") d no_members)) ≡ Some (watermark (whole d))
-unfolding entry_text has_only watermark_text
-watermark_member d = refl
 
 pub watermark_fit : (columns time : ℕ) (name : List ℕ) (t : ℤ) → bytes_eq name (codes "watermark") ≡ true → is_time t ≡ true → (d : Data) → whole d ≡ Some t
     → fit_entry columns time (object (member name d no_members)) ≡ Some (Watermark t)

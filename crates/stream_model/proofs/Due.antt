@@ -24,11 +24,12 @@ use Rattle.stream_model.specs.InputData.{records_of_entry, records_in}
 use Rattle.stream_model.specs.Watermarks.{IsOrderlyPartition, IsOrderly, IsBefore, IsCut, full_cut, merged_watermark, source_watermark, records_before, records_before_in, partition_watermark, watermark_of_entry}
 use Rattle.plain_data.specs.Times.{lowest, highest}
 use Rattle.stream_model.specs.PlanRows.{passing, plan_aggregate}
+use Rattle.plan_model.proofs.Facts.{le_from_test}
 
-le_trans_z : (a b c : ℤ) → a ≤ℤ b → b ≤ℤ c → a ≤ℤ c
+pub le_trans_z : (a b c : ℤ) → a ≤ℤ b → b ≤ℤ c → a ≤ℤ c
 le_trans_z a b c h k = omega (arith, ints)
 
-le_max : (a b : ℤ) → a ≤ℤ int_max a b
+pub le_max : (a b : ℤ) → a ≤ℤ int_max a b
 le_max a b = omega (arith, ints, clamps)
 
 -- a running greatest only rises
@@ -110,9 +111,6 @@ settled w q (s ∷ ss) (c ∷ cs) orderly cut due =
     filter-append test (records_before_in s (map (λ p. length p) s)) (records_before ss (full_cut ss))
     ∙ (λ i. one_source w q s c orderly.0 cut.0 (min_first _ _ _ due) i ++ settled w q ss cs orderly.1 cut.1 (min_second _ _ _ due) i)
     ∙ sym (filter-append test (records_before_in s c) (records_before ss cs))
-
-le_from_test : (a b : ℤ) → int_le a b ≡ true → a ≤ℤ b
-le_from_test a b h = grind (arith, ints)
 
 -- a window that is due at a cut has there all that it will ever have
 pub due_is_settled : (plan : PlanData) (ss : List (List (List Entry))) (cut : List (List ℕ)) (q : Pane) → IsOrderly plan.window.time ss → IsCut ss cut

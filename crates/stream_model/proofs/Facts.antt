@@ -1,4 +1,4 @@
 -- PUBLIC: the lemmas that crates above cite. Nothing else of proofs/ is theirs to import.
-pub use Rattle.stream_model.proofs.LateRecords.{orderly, watermark_goes_on}
-pub use Rattle.stream_model.proofs.Due.{filter_nothing, le_fold, partition_watermark-highest}
+pub use Rattle.stream_model.proofs.LateRecords.{above, orderly, watermark_goes_on}
+pub use Rattle.stream_model.proofs.Due.{filter_nothing, le_fold, le_max, partition_watermark-highest}
 pub use Rattle.stream_model.proofs.Snapshots.{watermark_low, end_is_due, nothing_at_first, empty_records, some_only}

@@ -10,13 +10,10 @@ use Rattle.stream_model.specs.declared.entry.Entry.{Entry}
 use Rattle.stream_model.specs.Watermarks.{watermark_of_entry}
 use Rattle.plain_data.specs.Times.{lowest}
 use Rattle.stream_model.specs.Laws.{WatermarkIsGreatest}
-use Rattle.stream_model.proofs.Due.{le_fold}
+use Rattle.stream_model.proofs.Due.{le_fold, le_trans_z}
 
 abbrev step : ℤ → Entry → ℤ
 step w e = int_max w (watermark_of_entry e)
-
-le_trans : (a b c : ℤ) → a ≤ℤ b → b ≤ℤ c → a ≤ℤ c
-le_trans a b c h k = omega (arith, ints)
 
 max_second : (a b : ℤ) → b ≤ℤ int_max a b
 max_second a b = omega (arith, ints, clamps)
@@ -25,7 +22,7 @@ bounds : (a : ℤ) (es : List Entry) → All (λ e. watermark_of_entry e ≤ℤ 
 bounds a [] = All-nil (λ e. watermark_of_entry e ≤ℤ a)
 bounds a (e ∷ es) =
     All-cons (λ d. watermark_of_entry d ≤ℤ fold step (step a e) es) e es
-    (le_trans (watermark_of_entry e) (step a e) _ (max_second a (watermark_of_entry e)) (le_fold (step a e) es))
+    (le_trans_z (watermark_of_entry e) (step a e) _ (max_second a (watermark_of_entry e)) (le_fold (step a e) es))
     (bounds (step a e) es)
 
 neither : (a b z : ℤ) → int_eq (int_max a b) z ≡ true → int_eq a z ≡ false → int_eq b z ≡ false → ⊥

@@ -74,7 +74,7 @@ none_in_range test from (suc len) n h low high =
     let parts = no_choice (test from) from (find test (range_with_len (from + 1) len)) h in
     elim (cases_eq n from) as (λ _. test n ≡ false) [ inl e ↦ rw e parts.0 | inr ne ↦ none_in_range test (from + 1) len n parts.1 (omega arith) (omega arith) ]
 
-above : (a b : ℤ) → int_le a b ≡ false → b <ℤ a
+pub above : (a b : ℤ) → int_le a b ≡ false → b <ℤ a
 above a b h = grind (arith, ints)
 
 all_above : (time : ℕ) (w : ℤ) (rs : List Record) → list_any (λ r. is_late_time w (at time r)) rs ≡ false → All (λ r. w <ℤ at time r) rs
