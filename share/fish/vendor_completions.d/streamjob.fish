@@ -29,7 +29,7 @@ complete -c streamjob -n '__fish_seen_subcommand_from leg' -l saves -r -d 'Cuts 
 complete -c streamjob -n '__fish_seen_subcommand_from leg' -l stop -r -d 'Cut to stop at; without it the leg goes to the end of the input' -f
 complete -c streamjob -n '__fish_seen_subcommand_from leg' -l stop-file -r -d 'File that stops the leg where it is, once it is there; with --save, and without --stop and --saves' -F
 complete -c streamjob -n '__fish_seen_subcommand_from leg' -l save -r -d 'File to write the savepoint to: that of the stop, or else the last one on the way' -F
-complete -c streamjob -n '__fish_seen_subcommand_from leg' -l since -r -d 'Receipt of the leg that left the savepoint: what it tells of has to be as it was; with --from' -f
+complete -c streamjob -n '__fish_seen_subcommand_from leg' -l since -r -d 'Receipt of the leg that left the savepoint: what it tells of has to be as it was; with --from' -F
 complete -c streamjob -n '__fish_seen_subcommand_from leg' -l receipt -r -d 'File to write the receipt to, which tells of what was read before the cut, and printed' -F
 complete -c streamjob -n '__fish_seen_subcommand_from leg' -l names -r -d 'File of the table of names, of which receipts tell too' -F
 complete -c streamjob -n '__fish_seen_subcommand_from import' -F
@@ -43,7 +43,7 @@ complete -c streamjob -n '__fish_seen_subcommand_from import' -l twice -r -d 'Fi
 complete -c streamjob -n '__fish_seen_subcommand_from import' -l zone -r -d 'Zone of the times that have none, as Europe/Berlin' -f
 complete -c streamjob -n '__fish_seen_subcommand_from import' -l fold -r -d 'Which instant of a time that its clocks show twice or never: first or second; without it the record is bad' -f
 complete -c streamjob -n '__fish_seen_subcommand_from import' -l report -r -d 'File to write to how many records of each file went where' -F
-complete -c streamjob -n '__fish_seen_subcommand_from import' -l zones -r -d 'Folder of the time zones (/usr/share/zoneinfo)' -f
+complete -c streamjob -n '__fish_seen_subcommand_from import' -l zones -r -d 'Folder of the time zones (/usr/share/zoneinfo)' -F
 complete -c streamjob -n '__fish_seen_subcommand_from import' -l separator -r -d 'What stands between the fields of CSV: one character, or `tab` (,)' -f
 complete -c streamjob -n '__fish_seen_subcommand_from import' -l decimal -r -d 'What stands for the point of decimals in CSV: a point or a comma (.)' -f
 complete -c streamjob -n '__fish_seen_subcommand_from split' -F
