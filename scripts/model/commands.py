@@ -53,6 +53,9 @@ def run_leg(files, plan, input_, scale, *options):
     require("--since" not in options or "--from" in options, "C2 Number")
     require("--names" not in options or "--since" in options or "--receipt" in options, "C2 Number")
     require("--receipt" not in options or options["--receipt"] != options.get("--save"), "C2 Number")
+    read = [plan, input_, scale, options.get("--names"), options.get("--stop-file")]
+    require_apart(options.get("--save"), [*read, options.get("--since")])
+    require_apart(options.get("--receipt"), [*read, options.get("--from")])
     require("--stop-file" not in options or ("--stop" not in options and "--saves" not in options and "--save" in options), "C1 Cut")
     if "--since" in options:
         require_receipt(files, plan, input_, options)
@@ -81,6 +84,11 @@ def run_leg(files, plan, input_, scale, *options):
     return text
 
 
+def require_apart(written, read):
+    """Refuses to write a file over one that is read."""
+    require(written is None or written not in read, "F2 Write")
+
+
 def require_receipt(files, plan, input_, options):
     """Refuses a leg that goes on by a receipt of something else. What the leg refuses of the texts is left to it."""
     try:
@@ -96,6 +104,7 @@ def run_told(files, plan, input_, *options):
     """The answer of `run` with `--receipt FILE`, `--parallelism N` and `--names FILE`; without a receipt there are no names."""
     options = dict(zip(options[::2], options[1::2]))
     require("--names" not in options or "--receipt" in options, "C2 Number")
+    require_apart(options.get("--receipt"), [plan, input_, options.get("--names")])
     text = run_parallel(files, plan, input_, options["--parallelism"]) if "--parallelism" in options else run(files, plan, input_)
     read = read_plan(files[plan])
     sources = read_input(read, files[input_])

@@ -58,19 +58,11 @@ HasImportWords words said =
     × (option_map (λ w. w.now) said.separator ≡ first_value words (codes "separator"))
     × (option_map (λ w. w.now) said.decimal ≡ first_value words (codes "decimal")) × IsFlag words (codes "align") said.is_aligned
 
--- what stands there, or else something else
-abbrev pub or_else : Option (List ℕ) → Option (List ℕ) → Option (List ℕ)
-or_else None other = other
-or_else (Some word) other = Some word
-
--- the word of a scale, or else the option of it
-abbrev pub scale_word : Found → Option (List ℕ)
-scale_word words = or_else (first_value words (codes "SCALE")) (first_value words (codes "scale"))
-
 -- the words of a check, each by its name
 abbrev pub HasCheckWords : Found → CheckWords → Type 0
 HasCheckWords words said =
-    (said.plan.now ≡ word words (codes "PLAN")) × (option_map (λ w. w.now) said.input ≡ first_value words (codes "INPUT")) × (option_map (λ w. w.now) said.scale ≡ scale_word words)
+    (said.plan.now ≡ word words (codes "PLAN")) × (option_map (λ w. w.now) said.input ≡ first_value words (codes "INPUT")) × (option_map (λ w. w.now) said.scale ≡ first_value words (codes "SCALE"))
+    × (option_map (λ w. w.now) said.scale_option ≡ first_value words (codes "scale"))
     × (option_map (λ w. w.now) said.from ≡ first_value words (codes "from")) × (option_map (λ w. w.now) said.stop ≡ first_value words (codes "stop"))
     × (option_map (λ w. w.now) said.save ≡ first_value words (codes "save"))
 

@@ -2,7 +2,7 @@
 
 ghost use Rattle.std.specs.Prelude.{◌≡◌, option_map};
 ghost use Rattle.clap.specs.Words.{found_of, subcommand_name_of};
-ghost use Rattle.command_line.specs.Reading.{word, scale_word, HasCheckWords, HasExportWords, HasImportWords, HasLegWords, HasMergeWords, HasRunWords, HasSplitWords, IsFound, IsRead};
+ghost use Rattle.command_line.specs.Reading.{word, HasCheckWords, HasExportWords, HasImportWords, HasLegWords, HasMergeWords, HasRunWords, HasSplitWords, IsFound, IsRead};
 
 use clap::ArgMatches;
 use commands::{CheckWords, Command, RunWords};
@@ -42,16 +42,6 @@ fn import_words<'m>(words: &'m ArgMatches<'_>) -> ImportWords<'m>
     }
 }
 
-/// The word of a scale, or else the option of it.
-fn scale_word<'m>(words: &'m ArgMatches<'_>) -> Option<&'m str>
-    ensures { option_map (λ w. w.now) result ≡ scale_word (found_of words.now) }
-{
-    match words.get_str("SCALE") {
-        Some(word) => Some(word),
-        None => words.get_str("scale"),
-    }
-}
-
 /// The words of a check.
 fn check_words<'m>(words: &'m ArgMatches<'_>) -> CheckWords<'m>
     ensures { HasCheckWords (found_of words.now) result }
@@ -59,7 +49,8 @@ fn check_words<'m>(words: &'m ArgMatches<'_>) -> CheckWords<'m>
     CheckWords {
         plan: named(words, "PLAN"),
         input: words.get_str("INPUT"),
-        scale: scale_word(words),
+        scale: words.get_str("SCALE"),
+        scale_option: words.get_str("scale"),
         from: words.get_str("from"),
         stop: words.get_str("stop"),
         save: words.get_str("save"),

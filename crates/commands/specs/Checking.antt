@@ -1,5 +1,6 @@
 -- What the command `check` answers.
 use Rattle.std.specs.Prelude.{◌≡◌, ◌⊎◌, ◌&&◌, ◌||◌, ℕ, List, Bool, true, false, not, Option, Some, None, is_some, option_map, Result, Ok, Err}
+use Rattle.std.specs.Option.{option_or}
 use Rattle.job_texts.specs.declared.fault.JobFault.{JobFault}
 use Rattle.job_texts.specs.declared.fault.JobFault.TheVariants.{Plan, Input, Number}
 use Rattle.job_texts.specs.Fault.{plan_fault, scale_fault}
@@ -53,22 +54,22 @@ abbrev pub ChecksTexts : List ℕ → Option (List ℕ) → Option (List ℕ) �
 ChecksTexts plan None scale from stop result = ChecksPlan plan scale result
 ChecksTexts plan (Some input) scale from stop result = IsAsLeg plan input scale from stop result
 
--- a savepoint or a cut is named, and no input that they are of
-abbrev pub lacks_input : CheckWords → Bool
-lacks_input words = not (is_some words.input) && (is_some words.from || is_some words.stop)
+-- a savepoint or a cut is named, and no input that they are of; or a scale behind the input, and one as an option
+abbrev pub are_wrong : CheckWords → Bool
+are_wrong words = (not (is_some words.input) && (is_some words.from || is_some words.stop)) || (is_some words.scale && is_some words.scale_option)
 
 -- of some texts of files, an input, a scale and a savepoint just where they are named, or a file was not read
 abbrev pub ChecksFiles : CheckWords → Result (Unit {0}) JobFault → Type 0
 ChecksFiles words result =
     CannotRead result
     ⊎ ((plan : List ℕ) × (input : Option (List ℕ)) × (scale : Option (List ℕ)) × (from : Option (List ℕ))
-    × (is_some input ≡ is_some words.input) × (is_some scale ≡ is_some words.scale) × (is_some from ≡ is_some words.from)
+    × (is_some input ≡ is_some words.input) × (is_some scale ≡ is_some (option_or words.scale words.scale_option)) × (is_some from ≡ is_some words.from)
     × ChecksTexts plan input scale from (option_map (λ word. word.now) words.stop) result)
 
--- that there is no such number, where a leg lacks its input
+-- that there is no such number, of words that do not go together
 abbrev pub AnswersWords : Bool → CheckWords → Result (Unit {0}) JobFault → Type 0
 AnswersWords true words result = result ≡ Err Number
 AnswersWords false words result = ChecksFiles words result
 
 abbrev pub AnswersCheck : CheckWords → Result (Unit {0}) JobFault → Type 0
-AnswersCheck words result = AnswersWords (lacks_input words) words result
+AnswersCheck words result = AnswersWords (are_wrong words) words result

@@ -110,8 +110,8 @@ fn run_told<R: Files + Print + RandomSource + Threads + Wait + Clock + Sync + Al
 /// # Errors
 ///
 /// `Number` where words do not go together: a parallelism or a receipt beside a list of legs, or a table of names without a
-/// receipt; `Read` where a file cannot be read; else the fault of `job_run`, or of `job_run_parallel`; `Write` where the receipt cannot
-/// be written.
+/// receipt; `Write` where the receipt would be written over a file that is read; `Read` where a file cannot be read; else the fault of
+/// `job_run`, or of `job_run_parallel`; `Write` where the receipt cannot be written.
 pub fn run<R: Files + Print + RandomSource + Threads + Wait + Clock + Sync + AllocGlobal>(
     rt: &R,
     words: &RunWords<'_>,
@@ -120,6 +120,9 @@ pub fn run<R: Files + Print + RandomSource + Threads + Wait + Clock + Sync + All
 {
     if words.are_wrong() {
         return Err(JobFault::Number);
+    }
+    if words.overwrite() {
+        return Err(JobFault::Write);
     }
     run_told(rt, words)
 }

@@ -1,6 +1,7 @@
 //! What the command `check` does.
 
 ghost use Rattle.std.specs.Prelude.{◌≡◌, ◌⊎◌, is_some, option_map, IfErr, IfOk};
+ghost use Rattle.std.specs.Option.{option_or};
 ghost use Rattle.input_texts.specs.Answer.{input_of_bytes};
 ghost use Rattle.plan_scale.specs.Answer.{scale_of_bytes};
 ghost use Rattle.plan_scale.specs.Answer.{is_memory as is_scale_memory};
@@ -97,13 +98,13 @@ fn read_texts<'n, R: Files + Print + AllocGlobal>(
     words: &CheckWords<'n>,
 ) -> Result<CheckTexts<'n>, JobFault>
     ensures input { IfOk result (λ texts. is_some texts.input ≡ is_some words.now.input) }
-    ensures scale { IfOk result (λ texts. is_some texts.scale ≡ is_some words.now.scale) }
+    ensures scale { IfOk result (λ texts. is_some texts.scale ≡ is_some (option_or words.now.scale words.now.scale_option)) }
     ensures from { IfOk result (λ texts. is_some texts.from ≡ is_some words.now.from) }
     ensures err { IfErr result (λ fault. (fault ≡ JobFault.Read) ⊎ (fault ≡ JobFault.Memory)) }
 {
     let plan = checked_file(rt, words.plan)?;
     let input = optional_checked_file(rt, words.input)?;
-    let scale = optional_checked_file(rt, words.scale)?;
+    let scale = optional_checked_file(rt, words.any_scale())?;
     let from = optional_checked_file(rt, words.from)?;
     Ok(CheckTexts {
         plan,
@@ -303,12 +304,12 @@ fn warn_of_texts<R: Print + AllocGlobal>(rt: &R, texts: Texts<'_>, is_plain_inpu
 ///
 /// # Errors
 ///
-/// `Number` where a savepoint or a cut is named, and no input; `Read` where a file cannot be read; else what `leg` answers before its
+/// `Number` where a savepoint or a cut is named, and no input, or two scales are; `Read` where a file cannot be read; else what `leg` answers before its
 /// first step: the fault of the plan, the input, the scale, the savepoint or the cut, the first of these; `Memory`.
 pub fn check<R: Files + Print + AllocGlobal>(rt: &R, words: &CheckWords<'_>) -> Result<(), JobFault>
     ensures { AnswersCheck words.now result }
 {
-    if words.lack_input() {
+    if words.are_wrong() {
         return Err(JobFault::Number);
     }
     let read = read_texts(rt, words)?;

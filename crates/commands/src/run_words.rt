@@ -3,6 +3,8 @@
 ghost use Rattle.std.specs.Prelude.{◌≡◌};
 ghost use Rattle.commands.specs.Running as said;
 
+use leg_command::is_one_of;
+
 /// The words of `run`: its files, by their names, and in how many subtasks it runs.
 #[derive(Clone, Copy)]
 pub struct RunWords<'a> {
@@ -25,5 +27,14 @@ impl RunWords<'_> {
     {
         (self.legs.is_some() && (self.parallelism.is_some() || self.receipt.is_some()))
             || (self.names.is_some() && self.receipt.is_none())
+    }
+    /// Whether the receipt would be written over a file that is read. Two names of one file are not told apart.
+    pub(crate) fn overwrite(&self) -> bool
+        ensures { result ≡ said.overwrite self.now }
+    {
+        is_one_of(
+            self.receipt,
+            &[Some(self.plan), Some(self.input), self.names],
+        )
     }
 }

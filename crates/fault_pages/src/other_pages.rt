@@ -33,11 +33,11 @@ digits, from 1 to 32768; PAR has 1 to 5 digits, from 1 to 64 and at most MAX. A 
 is none. `import` says it of `--bound`, digits alone, below 2^64, and of `--rows`, from 1 to 4096, with the word. `run`
 says it of `--parallelism` where it is not 1 to 5 digits, and beside a list of legs, each of which has its own scale;
 `cuts` of `--until` where it is neither a number as KEY is nor a time in ISO 8601, and beside `--open`; `check` of
-`--from` and `--stop` where no INPUT is named; `leg` of `--since` without `--from`, and where `--save` and `--receipt`
-name one file; `leg` and `run` of `--names` where no receipt is named; `run` of `--receipt` beside a list of legs;
-`export` of `--header` where it is neither `yes` nor `no`, or beside `--json`, and of `--json` where two numbers of a
-row would be called the same; `split` of N where it is not 1 to 5 digits, from 1 to 64 and at most the plan's
-`maxParallelism`.
+`--from` and `--stop` where no INPUT is named, and of `--scale` beside SCALE; `leg` of `--since` without `--from`, and
+where `--save` and `--receipt` name one file; `leg` and `run` of `--names` where no receipt is named; `run` of
+`--receipt` beside a list of legs; `export` of `--header` where it is neither `yes` nor `no`, or beside `--json`, and of
+`--json` where two numbers of a row would be called the same; `split` of N where it is not 1 to 5 digits, from 1 to 64
+and at most the plan's `maxParallelism`.
 
 ```console
 $ streamjob group 7 128 65
@@ -98,8 +98,10 @@ is not known. `leg --save` also says it where the file cannot be written: a fold
 or takes no files of yours, or the disk is full. Then no row was printed, and the file is as it was. So does `import`,
 of INPUT and of the files of `--names` and `--late`; and where one of them is named twice, or is a file of a source too,
 since one would be written over the other. `split` says it of a part's file that cannot be written, or is PLAN or INPUT.
-Two names of one file are not told apart there. `leg --save FILE > FILE`
-is refused so before anything is written, by each name of the file but a hard link.
+Two names of one file are not told apart there. `leg` and `run` say it, before anything is read, of a file of `--save`
+or `--receipt` that is PLAN, INPUT, SCALE or another file that they read; only the next savepoint may take the name of
+that of `--from`, and the next receipt that of `--since`. `leg --save FILE > FILE` is refused so before anything is
+written, by each name of the file but a hard link.
 
 What is no regular file of a name of its own is written to as it stands, behind what it holds: a pipe, a device,
 `/dev/stdout`. Any other file is written beside, as `FILE.NUMBER.part`, and takes its name once it is on the disk. Where

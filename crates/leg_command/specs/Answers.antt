@@ -6,7 +6,7 @@ use Rattle.job_texts.specs.declared.fault.JobFault.TheVariants.{Cut, Number, Wri
 use Rattle.job.specs.Asked.{TellsAskedLeg}
 use Rattle.job.specs.Leg.{LegJob, LegLeft, TellsLeg, leg_said, words as leg_words}
 use Rattle.command_files.specs.Files.{CannotRead}
-use Rattle.leg_command.specs.Receipts.{IsChecked, are_wrong}
+use Rattle.leg_command.specs.Receipts.{IsChecked, are_wrong, overwrite}
 use Rattle.leg_command.specs.declared.fault.LegRefusal.{LegRefusal}
 use Rattle.leg_command.specs.declared.fault.LegRefusal.TheVariants.{Job}
 use Rattle.leg_command.specs.declared.stops.LegStop.{LegStop}
@@ -88,10 +88,15 @@ IsStop words (Err fault) = (fault ≡ Cut) × (is_some words.stop_file ≡ true)
 abbrev pub AnswersWords : LegWords → Result (Unit {0}) LegRefusal → Type 0
 AnswersWords words result = ((stop : LegStop) × IsStop words (Ok stop) × AnswersStop words stop result) ⊎ (IsStop words (Err Cut) × (result ≡ Err (Job Cut)))
 
+-- nothing is written over a file that the leg reads
+abbrev pub if_apart : Bool → LegWords → Result (Unit {0}) LegRefusal → Type 0
+if_apart true words result = result ≡ Err (Job Write)
+if_apart false words result = AnswersWords words result
+
 -- and else that there is no such number
 abbrev pub if_right : Bool → LegWords → Result (Unit {0}) LegRefusal → Type 0
 if_right true words result = result ≡ Err (Job Number)
-if_right false words result = AnswersWords words result
+if_right false words result = if_apart (overwrite words) words result
 
 abbrev pub AnswersLeg : LegWords → Result (Unit {0}) LegRefusal → Type 0
 AnswersLeg words result = if_right (are_wrong words) words result

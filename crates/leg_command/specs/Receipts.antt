@@ -1,6 +1,7 @@
 -- What is asked of receipts before a leg.
-use Rattle.std.specs.Prelude.{◌≡◌, ◌&&◌, ◌||◌, ℕ, List, Bool, false, not, bytes_eq, Option, Some, None, is_some, Result, Ok, Err}
+use Rattle.std.specs.Prelude.{◌≡◌, ◌&&◌, ◌||◌, ℕ, List, [], ◌∷◌, Bool, false, not, bytes_eq, Option, Some, None, is_some, Result, Ok, Err}
 use Rattle.std.specs.Borrow.{Bor}
+use Rattle.std.specs.List.{list_any}
 use Rattle.job_texts.specs.declared.fault.JobFault.{JobFault}
 use Rattle.job_texts.specs.declared.fault.JobFault.TheVariants.{Memory}
 use Rattle.receipts.specs.declared.fault.ReceiptFault.{ReceiptFault}
@@ -16,6 +17,16 @@ abbrev pub are_same : Option (Bor (List ℕ)) → Option (Bor (List ℕ)) → Bo
 are_same (Some one) (Some other) = bytes_eq one.now other.now
 are_same None other = false
 are_same (Some one) None = false
+
+-- a word is there, and the same as one of others
+abbrev pub is_one_of : Option (Bor (List ℕ)) → List (Option (Bor (List ℕ))) → Bool
+is_one_of word others = list_any (λ other. are_same word other) others
+
+-- the savepoint or the receipt would be written over a file that the leg reads, but for the one of its kind that it goes on from
+abbrev pub overwrite : LegWords → Bool
+overwrite words =
+    is_one_of words.save (Some words.plan ∷ Some words.input ∷ Some words.scale ∷ words.names ∷ words.stop_file ∷ words.since ∷ [])
+    || is_one_of words.receipt (Some words.plan ∷ Some words.input ∷ Some words.scale ∷ words.names ∷ words.stop_file ∷ words.from ∷ [])
 
 -- a receipt to go on by needs a savepoint to go on from; a table of names is one of a receipt; and a receipt goes to a file of its own
 abbrev pub are_wrong : LegWords → Bool

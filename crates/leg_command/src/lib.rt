@@ -15,4 +15,4 @@ mod words;
 pub use fault::LegRefusal;
 pub use one_leg::leg;
 pub use whole::{RunFiles, run_with_receipt};
-pub use words::LegWords;
+pub use words::{LegWords, is_one_of};

@@ -229,7 +229,7 @@ fn leg_of_files<
 ///
 /// # Errors
 ///
-/// `Number` where words of receipts do not go with the others; `Cut` where a file is to stop the leg, and a cut is named besides, or its
+/// `Number` where words of receipts do not go with the others; `Write` where a file that it reads would be written over; `Cut` where a file is to stop the leg, and a cut is named besides, or its
 /// savepoint would be lost; `Read` where a file cannot be read; what is not as the receipt tells; else the fault of `job_leg`, or of
 /// `job_leg_asked`, or `Memory` once all is given of a leg that was given up; `Write` where the savepoint, the receipt or the rows
 /// cannot be written.
@@ -247,6 +247,9 @@ pub fn leg<
 {
     if words.are_wrong() {
         return Err(LegRefusal::Job(JobFault::Number));
+    }
+    if words.overwrite() {
+        return Err(LegRefusal::Job(JobFault::Write));
     }
     let stop = stop_of(words)?;
     leg_of_files(rt, words, stop)

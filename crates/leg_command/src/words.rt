@@ -1,6 +1,7 @@
 //! The words of `leg`.
 
 ghost use Rattle.std.specs.Prelude.{◌≡◌};
+ghost use Rattle.std.specs.List.{list_any};
 ghost use Rattle.leg_command.specs.Receipts as said;
 
 /// The words of `leg`: its files, by their names, where it takes savepoints on its way, and where it is to stop.
@@ -37,6 +38,13 @@ fn are_same(one: Option<&str>, other: Option<&str>) -> bool
     }
 }
 
+/// Whether a word is there, and the same as one of others.
+pub fn is_one_of(word: Option<&str>, others: &[Option<&str>]) -> bool
+    ensures { result ≡ list_any (λ other. said.are_same word.entry other) others.now }
+{
+    others.iter().any(|other| are_same(word, *other))
+}
+
 impl LegWords<'_> {
     /// Whether the words of receipts do not go with the others: a receipt to go on by needs a savepoint to go on from, a table of
     /// names is one of a receipt, and a receipt goes to a file of its own.
@@ -46,5 +54,20 @@ impl LegWords<'_> {
         (self.since.is_some() && self.from.is_none())
             || (self.names.is_some() && !(self.since.is_some() || self.receipt.is_some()))
             || are_same(self.save, self.receipt)
+    }
+    /// Whether the leg would write over a file that it reads. The next savepoint and the next receipt may take the place of those
+    /// that it goes on from. Two names of one file are not told apart.
+    pub(crate) fn overwrite(&self) -> bool
+        ensures { result ≡ said.overwrite self.now }
+    {
+        let (plan, input, scale) = (Some(self.plan), Some(self.input), Some(self.scale));
+        let (names, stop_file) = (self.names, self.stop_file);
+        is_one_of(
+            self.save,
+            &[plan, input, scale, names, stop_file, self.since],
+        ) || is_one_of(
+            self.receipt,
+            &[plan, input, scale, names, stop_file, self.from],
+        )
     }
 }

@@ -16,5 +16,5 @@ returns g c =
     let input = some_map bytes texts.input ∙ c.texts_of-texts.ensures.input ∙ c.in_ok-read.ensures.input in
     let scale = some_map bytes texts.scale ∙ c.texts_of-texts.ensures.scale ∙ c.in_ok-read.ensures.scale in
     let from = some_map bytes texts.from ∙ c.texts_of-texts.ensures.from ∙ c.in_ok-read.ensures.from in
-    subst (λ (lacks : Bool). AnswersWords lacks words said) (sym (sym c.lack_input.ensures ∙ c.if-lack_input.false))
+    subst (λ (lacks : Bool). AnswersWords lacks words said) (sym (sym c.are_wrong.ensures ∙ c.if-are_wrong.false))
     (inr (texts.plan.bytes.now, option_map bytes texts.input, option_map bytes texts.scale, option_map bytes texts.from, input, scale, from, checks))
