@@ -1,3 +1,4 @@
 pub mod Members
+pub mod Plain
 pub mod Rows
 pub mod Tables

@@ -15,7 +15,7 @@ one_more (k ∷ kinds) names [] texts kind number text h s = absurd h
 one_more (k ∷ kinds) names (n ∷ numbers) [] kind number text h s = absurd h
 one_more (k ∷ kinds) names (n ∷ numbers) (t ∷ texts) kind number text h s = (h.0, one_more kinds names numbers texts kind number text h.1 s)
 
-taken : {X : Type 0} (xs : List X) (i : ℕ) (x : X) → slice_get xs i ≡ Some x → take (i + 1) xs ≡ take i xs ++ x ∷ []
+pub taken : {X : Type 0} (xs : List X) (i : ℕ) (x : X) → slice_get xs i ≡ Some x → take (i + 1) xs ≡ take i xs ++ x ∷ []
 taken xs i x at = take_more xs i x (slice_get_within xs i x at) ∙ ap (λ y. take i xs ++ y ∷ []) (get_or_from_slice_get xs i x x at)
 
 pub row_more : (kinds : List CellKind) (names : List (List ℕ)) (numbers : List ℤ) (texts : List (List ℕ)) (i : ℕ) (kind : CellKind) (number : ℤ) (text : List ℕ) → slice_get kinds i ≡ Some kind → slice_get numbers i ≡ Some number

@@ -1,6 +1,7 @@
 //! Rows written as CSV or as JSON objects, by what each of their numbers is shown as.
 #![tactic(auto)]
 
+mod cells;
 mod fault;
 mod header;
 mod objects;

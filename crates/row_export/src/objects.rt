@@ -1,53 +1,170 @@
 //! A table as JSON objects, row by row.
 
-ghost use Rattle.std.specs.Prelude.{◌≡◌, ◌++◌, ◌∷◌, [], IfOk, IfErr, List, OnOk, map, string_bytes};
+ghost use Rattle.std.specs.Prelude.{◌≡◌, ◌++◌, ◌∷◌, [], IfOk, IfErr, IsTrue, List, OnOk, length, map, string_bytes};
 ghost use Rattle.std.specs.Io.KnownBytes.{Appends};
-ghost use Rattle.csv.specs.Records.{fields_of};
+ghost use Rattle.json.specs.Print.{escape, escape_byte, quoted, token_text};
+ghost use Rattle.row_lines.specs.Rows.{numbers_in};
 ghost use Rattle.row_lines.specs.Sequences.{rows_left, width_of, last_of};
 ghost use Rattle.row_tables.specs.declared.kind.CellKind.{CellKind as Kind};
 ghost use Rattle.row_export.specs.Faults.{IsTableFault};
 ghost use Rattle.row_export.specs.Shown.{WritesTable, kinds_of, titles_of};
-ghost use Rattle.row_export.specs.Objects.{cell_token, members, object_line};
+ghost use Rattle.row_export.specs.Objects.{cell_token, comma_at, key_text, HasMember, HasMembers, IsLine, object_line};
 
+use crate::cells::CellWriter;
 use crate::fault::ExportFault;
-use crate::record::fill_record;
+use crate::record::{has_width, number_at};
 use crate::table::Table;
-use csv::StringRecord;
 use json::{Writer, is_number};
+use plan_model::Row;
 use row_lines::{RowLines, RowsFault};
 use row_tables::{CellFault, CellKind};
-use std::alloc::Global;
+use std::alloc::{AllocError, Global};
 use std::io::{BufWriter, Read, Write};
 
-/// Puts a cell behind what an object has: a decimal as a number, and any other text as a string.
-fn put_cell(object: &mut Writer, kind: CellKind, text: &str) -> Result<(), CellFault>
-    ensures tokens { OnOk result (object.new.tokens ≡ object.old.tokens ++ cell_token kind text.now ∷ []) }
-    ensures before { object.new.before ≡ object.old.before }
+/// The key of a member that is called so, with its colon.
+fn key_of(alloc: Global, title: &str) -> Result<Vec<u8>, AllocError>
+    ensures { IfOk result (λ key. key.items ≡ key_text title.now) }
+{
+    let mut text = Writer::new(Vec::new(alloc));
+    text.key(title)?;
+    Ok(text.into_inner())
+}
+
+/// The key of each title.
+fn keys_of(alloc: Global, titles: &[String]) -> Result<Vec<Vec<u8>>, AllocError>
+    ensures { IfOk result (λ keys. map (λ key. key.items) keys.items ≡ map key_text (map string_bytes titles.now)) }
+{
+    let mut keys = Vec::new(alloc);
+    for title in titles {
+        keys.push(key_of(alloc, title.as_str())?)?;
+    }
+    Ok(keys)
+}
+
+/// Whether a byte stands in a string of JSON as it is.
+fn is_plain_byte(byte: u8) -> bool
+    ensures { IsTrue result → escape_byte byte ≡ byte ∷ [] }
+{
+    if byte < b' ' {
+        return false;
+    }
+    if byte == b'"' {
+        return false;
+    }
+    byte != b'\\'
+}
+
+/// Whether a text stands in a string of JSON as it is.
+fn is_plain(text: &[u8]) -> bool
+    ensures { IsTrue result → escape text.now ≡ text.now }
+{
+    let mut plain = true;
+    for byte in text {
+        if !is_plain_byte(*byte) {
+            plain = false;
+        }
+    }
+    plain
+}
+
+/// Puts a string whose bytes have to be escaped behind a line.
+fn put_escaped(line: &mut Vec<u8>, text: &str) -> Result<(), AllocError>
+    ensures { OnOk result (line.new.items ≡ line.old.items ++ quoted text.now) }
+{
+    let mut string = Writer::new(Vec::new(*line.allocator()));
+    string.string(text)?;
+    line.extend_from_slice(string.into_inner().as_slice())
+}
+
+/// Puts a string behind a line.
+fn put_string(line: &mut Vec<u8>, text: &str) -> Result<(), AllocError>
+    ensures { OnOk result (line.new.items ≡ line.old.items ++ quoted text.now) }
+{
+    if !is_plain(text.as_bytes()) {
+        return put_escaped(line, text);
+    }
+    line.push(b'"')?;
+    line.extend_from_slice(text.as_bytes())?;
+    line.push(b'"')?;
+    Ok(())
+}
+
+/// Puts a cell behind what a line has of an object: a decimal as a number, and any other text as a string.
+fn put_cell(line: &mut Vec<u8>, kind: CellKind, text: &str) -> Result<(), CellFault>
+    ensures { OnOk result (line.new.items ≡ line.old.items ++ token_text (cell_token kind text.now)) }
 {
     match kind {
         CellKind::Number(_) => {
             if !is_number(text) {
                 return Err(CellFault::Unread);
             }
-            object.number(text)?;
+            line.extend_from_slice(text.as_bytes())?;
         }
-        _ => object.string(text)?,
+        _ => put_string(line, text)?,
     }
     Ok(())
 }
 
-/// Puts a member for each cell behind what an object has, called by its title.
-fn put_members(object: &mut Writer, table: &Table, cells: &StringRecord) -> Result<(), ExportFault>
-    ensures tokens { OnOk result (object.new.tokens ≡ object.old.tokens ++ members (titles_of table.now) (kinds_of table.now) (fields_of cells.now)) }
-    ensures before { object.new.before ≡ object.old.before }
+/// Puts the comma before the member at a place behind a line, where one is needed.
+fn push_comma(line: &mut Vec<u8>, place: usize) -> Result<(), AllocError>
+    ensures { OnOk result (line.new.items ≡ line.old.items ++ comma_at place) }
+{
+    if place > 0 {
+        line.push(b',')?;
+    }
+    Ok(())
+}
+
+/// Puts a member behind what a line has of an object, behind a comma where it is not the first.
+fn put_member(
+    line: &mut Vec<u8>,
+    place: usize,
+    key: &[u8],
+    kind: CellKind,
+    text: &str,
+) -> Result<(), CellFault>
+    ensures { OnOk result (line.new.items ≡ line.old.items ++ (comma_at place ++ (key.now ++ token_text (cell_token kind text.now)))) }
+{
+    push_comma(line, place)?;
+    line.extend_from_slice(key)?;
+    put_cell(line, kind, text)
+}
+
+/// Puts the member of a number behind what a line has of an object.
+fn put_number(
+    line: &mut Vec<u8>,
+    writer: &mut CellWriter,
+    place: usize,
+    key: &[u8],
+    kind: &CellKind,
+    names: &[String],
+    number: i128,
+) -> Result<(), CellFault>
+    ensures { OnOk result (HasMember place key.now kind.now (map string_bytes names.now) number line.old.items line.new.items) }
+{
+    let text = writer.write(*kind, names, number)?;
+    put_member(line, place, key, *kind, text)
+}
+
+/// Puts a member for each number of a row behind what a line has of an object, by the keys of their titles.
+fn put_members(
+    line: &mut Vec<u8>,
+    writer: &mut CellWriter,
+    table: &Table,
+    keys: &[Vec<u8>],
+    names: &[String],
+    row: &Row,
+) -> Result<(), ExportFault>
+    requires keys { map (λ key. key.items) keys.now ≡ map key_text (titles_of table.now) }
+    requires wide { length (numbers_in row.now) ≡ length (kinds_of table.now) }
+    ensures members { OnOk result (HasMembers (titles_of table.now) (kinds_of table.now) (map string_bytes names.now) (numbers_in row.now) line.old.items line.new.items) }
     ensures refused { IfErr result (IsTableFault (kinds_of table.now)) }
 {
     for (place, kind) in table.kinds.iter().enumerate() {
-        let (Some(title), Some(text)) = (table.names.get(place), cells.get(place)) else {
+        let (Some(key), Some(number)) = (keys.get(place), number_at(row, place)) else {
             return Err(ExportFault::Rows(RowsFault::Line));
         };
-        object.key(title.as_str())?;
-        match put_cell(object, *kind, text) {
+        match put_number(line, writer, place, key.as_slice(), kind, names, number) {
             Ok(()) => {}
             Err(CellFault::Memory) => return Err(ExportFault::Memory),
             Err(fault) => return Err(ExportFault::Cell(place, fault)),
@@ -56,20 +173,27 @@ fn put_members(object: &mut Writer, table: &Table, cells: &StringRecord) -> Resu
     Ok(())
 }
 
-/// The line of a row's object, for which a buffer is there.
-fn line_of(line: Vec<u8>, table: &Table, cells: &StringRecord) -> Result<Vec<u8>, ExportFault>
-    ensures text { IfOk result (λ line. line.items ≡ object_line (titles_of table.now) (kinds_of table.now) (fields_of cells.now)) }
+/// Makes the line of a row's object.
+fn fill_line(
+    line: &mut Vec<u8>,
+    writer: &mut CellWriter,
+    table: &Table,
+    keys: &[Vec<u8>],
+    names: &[String],
+    row: &Row,
+) -> Result<(), ExportFault>
+    requires { map (λ key. key.items) keys.now ≡ map key_text (titles_of table.now) }
+    ensures line { OnOk result (IsLine (titles_of table.now) (kinds_of table.now) (map string_bytes names.now) (numbers_in row.now) line.new.items) }
     ensures refused { IfErr result (IsTableFault (kinds_of table.now)) }
 {
-    let mut line = line;
+    if !has_width(&table.kinds, row) {
+        return Err(ExportFault::Rows(RowsFault::Line));
+    }
     line.clear();
-    let mut object = Writer::new(line);
-    object.begin_object()?;
-    put_members(&mut object, table, cells)?;
-    object.end_object()?;
-    let mut line = object.into_inner();
-    line.push(b'\n')?;
-    Ok(line)
+    line.push(b'{')?;
+    put_members(line, writer, table, keys, names, row)?;
+    line.extend_from_slice(b"}\n")?;
+    Ok(())
 }
 
 /// Writes the rows that are left as JSON objects, a line each.
@@ -84,14 +208,13 @@ fn put_rows<R: Read + Drop, W: Write>(
         (rows_left R.remaining rows.old) (W.contents out.old) (W.contents out.new)) }
     ensures refused { IfErr result (IsTableFault (kinds_of table.now)) }
 {
-    let mut cells = StringRecord::new(alloc);
-    let mut cell = String::new(alloc);
+    let keys = keys_of(alloc, &table.names)?;
+    let mut writer = CellWriter::new(alloc);
     let mut line = Vec::new(alloc);
     for _ in 0..u64::MAX {
         match rows.advance() {
             Ok(Some(row)) => {
-                fill_record(&mut cells, &mut cell, &table.kinds, names, &row)?;
-                line = line_of(line, table, &cells)?;
+                fill_line(&mut line, &mut writer, table, &keys, names, &row)?;
                 if out.write_all(line.as_slice()).is_err() {
                     return Err(ExportFault::Write);
                 }

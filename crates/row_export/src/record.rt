@@ -1,20 +1,21 @@
 //! A row as the record of its cells.
 
-ghost use Rattle.std.specs.Prelude.{◌≡◌, IfOk, IfErr, OnOk, map, slice_get, string_bytes};
+ghost use Rattle.std.specs.Prelude.{◌≡◌, IfOk, IfErr, IsTrue, OnOk, length, map, slice_get, string_bytes};
 ghost use Rattle.csv.specs.Records.{fields_of};
 ghost use Rattle.row_lines.specs.Rows.{numbers_in};
 ghost use Rattle.row_export.specs.Faults.{IsTableFault};
 ghost use Rattle.row_export.specs.Shown.{ShowsRow};
 
+use crate::cells::CellWriter;
 use crate::fault::ExportFault;
 use csv::StringRecord;
 use plan_model::Row;
 use row_lines::RowsFault;
-use row_tables::{CellFault, CellKind, write_cell};
+use row_tables::{CellFault, CellKind};
 use std::alloc::Global;
 
 /// The number at a place of a row, as its line has them.
-fn number_at(row: &Row, place: usize) -> Option<i128>
+pub(crate) fn number_at(row: &Row, place: usize) -> Option<i128>
     ensures { result ≡ slice_get (numbers_in row.now) place }
 {
     match place {
@@ -25,6 +26,13 @@ fn number_at(row: &Row, place: usize) -> Option<i128>
     }
 }
 
+/// Whether a row has as many numbers as are shown.
+pub(crate) fn has_width(kinds: &[CellKind], row: &Row) -> bool
+    ensures { IsTrue result → length (numbers_in row.now) ≡ length kinds.now }
+{
+    kinds.len() >= 3 && kinds.len() - 3 == row.values.len()
+}
+
 /// Makes the record of a row's cells.
 ///
 /// # Errors
@@ -32,7 +40,7 @@ fn number_at(row: &Row, place: usize) -> Option<i128>
 /// `Rows` where the row has other numbers than are shown; `Cell` of the first number that is shown as nothing; `Memory`.
 pub(crate) fn fill_record(
     cells: &mut StringRecord,
-    cell: &mut String,
+    writer: &mut CellWriter,
     kinds: &[CellKind],
     names: &[String],
     row: &Row,
@@ -41,15 +49,15 @@ pub(crate) fn fill_record(
     ensures refused { IfErr result (IsTableFault kinds.now) }
 {
     cells.clear();
-    if kinds.len() < 3 || kinds.len() - 3 != row.values.len() {
+    if !has_width(kinds, row) {
         return Err(ExportFault::Rows(RowsFault::Line));
     }
     for (place, kind) in kinds.iter().enumerate() {
         let Some(number) = number_at(row, place) else {
             return Err(ExportFault::Rows(RowsFault::Line));
         };
-        match write_cell(cell, *kind, names, number) {
-            Ok(()) => cells.push_field(cell.as_str())?,
+        match writer.write(*kind, names, number) {
+            Ok(cell) => cells.push_field(cell)?,
             Err(CellFault::Memory) => return Err(ExportFault::Memory),
             Err(fault) => return Err(ExportFault::Cell(place, fault)),
         }

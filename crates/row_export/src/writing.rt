@@ -10,6 +10,7 @@ ghost use Rattle.row_tables.specs.declared.kind.CellKind.{CellKind as Kind};
 ghost use Rattle.row_export.specs.Faults.{IsTableFault};
 ghost use Rattle.row_export.specs.Shown.{IsBetween, WritesTable, kinds_of, titles_of, header_shown, csv_line};
 
+use crate::cells::CellWriter;
 use crate::fault::ExportFault;
 use crate::record::{fill_record, header_of};
 use crate::table::Table;
@@ -54,11 +55,11 @@ fn put_rows<R: Read + Drop, W: Write + Drop>(
     ensures refused { IfErr result (IsTableFault (kinds_of table.now)) }
 {
     let mut cells = StringRecord::new(alloc);
-    let mut cell = String::new(alloc);
+    let mut writer = CellWriter::new(alloc);
     for _ in 0..u64::MAX {
         match rows.advance() {
             Ok(Some(row)) => {
-                fill_record(&mut cells, &mut cell, &table.kinds, names, &row)?;
+                fill_record(&mut cells, &mut writer, &table.kinds, names, &row)?;
                 put(out, &cells)?;
             }
             Ok(None) => return Ok(()),

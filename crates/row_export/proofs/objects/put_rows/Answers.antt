@@ -1,9 +1,8 @@
 use Rattle.std.proofs.Common.{rules, Ok, map, subst, string_bytes}
-use Rattle.csv.specs.Records.{fields_of}
-use Rattle.row_lines.specs.Rows.{numbers_in}
+use Rattle.std.specs.Io.KnownBytes.{Appends}
 use Rattle.row_lines.specs.Sequences.{IsNext, rows_left, width_of, last_of}
 use Rattle.row_export.specs.Objects.{object_line}
-use Rattle.row_export.specs.Shown.{ShowsRow, kinds_of, titles_of}
+use Rattle.row_export.specs.Shown.{kinds_of, titles_of}
 use Rattle.row_export.proofs.Tables.{begins, finished, goes_on}
 use Rattle.row_export.proofs.objects.put_rows.Goals as goal
 
@@ -21,8 +20,11 @@ returns-in-Ok-None-clause-table g c =
 pub loop-preserved : goal.loop-preserved
 loop-preserved g c =
     let line = object_line (titles_of c.args.table.now) (kinds_of c.args.table.now) in
-    goes_on g.R.Read.remaining line (kinds_of c.args.table.now) (map string_bytes c.args.names.now) c.args.rows.now (g.W.Write.contents c.args.out.now) c.loop.rows c.advance.new.self (g.W.Write.contents c.loop.out) (g.W.Write.contents c.write_all.new.self)
-    c.in-Ok-Some.row (fields_of c.fill_record.new.cells) c.loop.invariant
+    let is = c.in_ok-fill_line-in-Ok-Some.ensures.line in
+    let out = g.W.Write.contents c.loop.out in
+    let next = g.W.Write.contents c.write_all.new.self in
+    let wrote : Appends out next c.fill_line.new.line.items = search rules in
+    goes_on g.R.Read.remaining line (kinds_of c.args.table.now) (map string_bytes c.args.names.now) c.args.rows.now (g.W.Write.contents c.args.out.now) c.loop.rows c.advance.new.self out next
+    c.in-Ok-Some.row is.cells c.loop.invariant
     (subst (λ row. IsNext g.R.Read.remaining c.loop.rows c.advance.new.self (Ok row)) c.in-Ok-Some.field-0-is c.in-Ok-Some.ensures.next)
-    (subst (λ kinds. ShowsRow kinds (map string_bytes c.args.names.now) (numbers_in c.in-Ok-Some.row) (fields_of c.fill_record.new.cells)) c.deref.ensures.value c.in_ok-fill_record-in-Ok-Some.ensures.shows)
-    (search rules)
+    is.shown (subst (Appends out next) {y = line is.cells} is.text wrote)

@@ -12,7 +12,7 @@ loop-place-preserved c =
     let kinds = c.args.kinds.now in
     let names = map string_bytes c.args.names.now in
     let numbers = numbers_in c.args.row.now in
-    let text = string_bytes c.write_cell.new.cell in
+    let text = c.in-Ok.cell.now in
     let at_kind : slice_get kinds c.loop-place.place ≡ Some c.index-kinds-place.result =
     slice_get-get_or kinds c.loop-place.place c.index-kinds-place.result c.loop-place-test.true ∙ ap (λ x. Some x) (sym c.index-kinds-place.is) in
     let at_number : slice_get numbers c.loop-place.place ≡ Some c.in-Some.number = search rules in
