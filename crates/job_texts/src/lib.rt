@@ -19,6 +19,7 @@ pub use fault::JobFault;
 pub use group::{job_group, read_count, read_key};
 pub use layout_text::text_of_layout;
 pub use line::{fault_line, status_of};
+pub use narrow::put_number;
 pub use number::{push_decimal, push_number};
 pub use show_text::text_of_savepoint;
 pub use sorting::sort_rows;

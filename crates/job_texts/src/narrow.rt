@@ -1,6 +1,7 @@
 //! Lines of rows whose numbers have 64 bits, digit by digit from the last to the first.
 
-ghost use Rattle.std.specs.Prelude.{◌≡◌, ◌++◌, ◌*◌, ◌+◌, ◌≤◌, ◌<◌, length, drop, IsAscii};
+ghost use Rattle.std.specs.Prelude.{◌≡◌, ◌++◌, ◌∷◌, ◌*◌, ◌+◌, ◌≤◌, ◌<◌, length, drop, IsAscii};
+ghost use Rattle.std.specs.Fmt.{signed_decimal};
 ghost use Rattle.std.specs.List.{flat_map};
 ghost use Rattle.plan_model.specs.declared.limits.TheConstants.{MOST_AGGREGATES};
 ghost use Rattle.job_texts.specs.Text.{line_of, spaced};
@@ -11,26 +12,27 @@ use plan_model::Row;
 /// Room for the longest line: eleven numbers, each at most 20 bytes behind a space, and a line feed.
 pub(crate) const ROOM: usize = 256;
 
-/// Writes a space and the number in decimal so that they end at `end`, and answers where they start.
-fn put_number(line: &mut [u8], end: usize, number: i64) -> usize
+/// Writes a byte of ASCII and the number in decimal behind it so that they end at `end`, and answers where they start.
+pub fn put_number(line: &mut [u8], end: usize, before: u8, number: i64) -> usize
     requires room { 21 ≤ end }
     requires inside { end ≤ length line.old }
+    requires ascii { before < 128 }
     ensures short { end ≤ result + 21 }
     ensures below { result < end }
-    ensures written { drop result line.new ≡ spaced number ++ drop end line.old }
-    ensures ascii { IsAscii (spaced number) }
+    ensures written { drop result line.new ≡ (before ∷ signed_decimal number) ++ drop end line.old }
+    ensures ascii { IsAscii (before ∷ signed_decimal number) }
 {
     let start = write_digits(number.unsigned_abs(), line, end);
     if number >= 0 {
-        line[start - 1] = b' ';
+        line[start - 1] = before;
         return start - 1;
     }
     line[start - 1] = b'-';
-    line[start - 2] = b' ';
+    line[start - 2] = before;
     start - 2
 }
 
-/// The same of each number, in order.
+/// Writes a space and the number in decimal for each number, in order, so that they end at `end`, and answers where they start.
 fn put_numbers(line: &mut [u8], end: usize, numbers: &[i64]) -> usize
     requires room { 21 * length numbers.now ≤ end }
     requires inside { end ≤ length line.old }
@@ -43,7 +45,7 @@ fn put_numbers(line: &mut [u8], end: usize, numbers: &[i64]) -> usize
     let mut left = numbers.len();
     while left > 0 {
         left -= 1;
-        start = put_number(line, start, numbers[left]);
+        start = put_number(line, start, b' ', numbers[left]);
     }
     start
 }
@@ -58,8 +60,8 @@ pub(crate) fn put_line(line: &mut [u8; ROOM], row: &Row, numbers: &[i64]) -> usi
 {
     line[ROOM - 1] = b'\n';
     let start = put_numbers(line, ROOM - 1, numbers);
-    let start = put_number(line, start, row.key);
-    let start = put_number(line, start, row.end);
+    let start = put_number(line, start, b' ', row.key);
+    let start = put_number(line, start, b' ', row.end);
     // The first number has no space before it.
-    put_number(line, start, row.start) + 1
+    put_number(line, start, b' ', row.start) + 1
 }

@@ -1,17 +1,9 @@
 -- Parts that stand behind commas, and their bytes.
-use Rattle.std.proofs.Common.{◌≡◌, ℕ, ℤ, ◌<◌, ◌≤◌, ◌-◌, ◌+◌, ◌*◌, suc, List, [], ◌∷◌, ◌++◌, map, length, drop, drop-cons, get_or, ap, ◌∙◌, arith, FitsSigned}
-use Rattle.std.specs.Int.{w64}
-use Rattle.std.specs.Str.{IsAscii}
-use Rattle.std.specs.Fmt.{signed_decimal}
+use Rattle.std.proofs.Common.{◌≡◌, ℕ, ◌<◌, ◌≤◌, ◌-◌, ◌+◌, ◌*◌, suc, List, [], ◌∷◌, ◌++◌, map, length, drop, drop-cons, get_or, ap, ◌∙◌, arith}
 use Rattle.std.specs.List.{flat_map, join_with_byte}
 use Rattle.std.proofs.Math.Nat.{suc-mul}
 use Rattle.std.proofs.lemmas.List.{append-nil}
 use Rattle.std.proofs.lemmas.List.Concat.{flat_map-cons}
-use Rattle.std.proofs.lemmas.Str.Ascii.{IsAscii-cons}
-use Rattle.itoa.proofs.Decimal.{IsAscii-signed_decimal}
-
-pub ascii_comma : (z : ℤ) → FitsSigned w64 z → IsAscii (44 ∷ signed_decimal z)
-ascii_comma z h = IsAscii-cons 44 _ (omega arith) (IsAscii-signed_decimal z h)
 
 -- a comma before each part is one before the first, and one between each two
 pub commas : {X : Type 0} (f : X → List ℕ) (xs : List X) → 0 < length xs → flat_map (λ y. 44 ∷ f y) xs ≡ 44 ∷ join_with_byte 44 (map f xs)

@@ -10,6 +10,9 @@ use std::alloc::AllocError;
 use std::str::from_utf8_unchecked;
 use stream_model::Entry;
 
+/// The most room that is kept for the rows of the next entry.
+const MOST_KEPT: usize = 65536;
+
 /// The rows, with commas between them, by way of room for them.
 fn push_line(text: &mut String, line: &mut [u8], batch: &Batch) -> Result<(), AllocError>
     requires some { 0 < length batch.now.rows }
@@ -20,23 +23,34 @@ fn push_line(text: &mut String, line: &mut [u8], batch: &Batch) -> Result<(), Al
     text.push_str(unsafe { from_utf8_unchecked(&line[start..]) })
 }
 
-/// The rows, with commas between them.
-fn push_records(text: &mut String, batch: &Batch) -> Result<(), AllocError>
+/// The rows, with commas between them, by way of room that is kept, or of more where they need it.
+fn push_records(text: &mut String, line: &mut Vec<u8>, batch: &Batch) -> Result<(), AllocError>
     ensures { OnOk result (string_bytes text.new ≡ string_bytes text.old ++ records_text batch.now.width batch.now.rows) }
 {
     if batch.is_empty() {
         return Ok(());
     }
-    let mut line = vec![in *text.allocator(); 0u8; room_of(batch)]?;
-    push_line(text, &mut line, batch)
+    let room = room_of(batch);
+    if room > MOST_KEPT {
+        let mut line = vec![in *text.allocator(); 0u8; room]?;
+        return push_line(text, &mut line, batch);
+    }
+    if line.len() < room {
+        *line = vec![in *text.allocator(); 0u8; MOST_KEPT]?;
+    }
+    push_line(text, line, batch)
 }
 
 /// Puts the text of an entry of rows behind a text.
-pub(crate) fn push_rows(text: &mut String, batch: &Batch) -> Result<(), AllocError>
+pub(crate) fn push_rows(
+    text: &mut String,
+    line: &mut Vec<u8>,
+    batch: &Batch,
+) -> Result<(), AllocError>
     ensures { OnOk result (string_bytes text.new ≡ string_bytes text.old ++ rows_entry batch.now) }
 {
     text.push_str("{\"rows\":[")?;
-    push_records(text, batch)?;
+    push_records(text, line, batch)?;
     text.push_str("]}")
 }
 
@@ -65,7 +79,10 @@ pub fn push_entry(text: &mut String, entry: &Entry) -> Result<(), AllocError>
     ensures { OnOk result (string_bytes text.new ≡ string_bytes text.old ++ entry_text entry.now) }
 {
     match entry {
-        Entry::Rows(batch) => push_rows(text, batch),
+        Entry::Rows(batch) => {
+            let mut room = Vec::new(*text.allocator());
+            push_rows(text, &mut room, batch)
+        }
         Entry::Watermark(time) => push_mark(text, *time),
     }
 }

@@ -1,6 +1,6 @@
 //! The text of one part, as it grows.
 
-ghost use Rattle.std.specs.Prelude.{◌≡◌, ◌++◌, false, OnOk};
+ghost use Rattle.std.specs.Prelude.{◌≡◌, ◌++◌, false, IfOk, OnOk};
 ghost use Rattle.input_parts.specs.Parts.{entry_of_rows};
 ghost use Rattle.part_texts.specs.InputTexts.{mark_entry};
 ghost use Rattle.part_texts.specs.PartTexts.{growing, nothing, with_words, before_entry, with_text, with_entries};
@@ -14,6 +14,8 @@ use std::marker::Model;
 #[derive(Drop)]
 pub struct PartText {
     text: String,
+    /// Room for the rows of an entry, once there was one, which is kept for the next.
+    room: Vec<u8>,
     /// Whether no entry of the partition that is being written stands in it yet.
     is_first: bool,
 }
@@ -28,14 +30,15 @@ impl Model for PartText {
 }
 
 impl PartText {
-    /// One without a byte.
-    pub(crate) fn new(alloc: Global) -> PartText
-        ensures { result ≡ nothing }
+    /// One without a byte, with room for so many.
+    pub(crate) fn with_capacity(alloc: Global, bytes: usize) -> Result<PartText, AllocError>
+        ensures { IfOk result (λ part. part ≡ nothing) }
     {
-        PartText {
-            text: String::new(alloc),
+        Ok(PartText {
+            text: String::with_capacity(alloc, bytes)?,
+            room: Vec::new(alloc),
             is_first: true,
-        }
+        })
     }
 
     /// The text.
@@ -81,6 +84,6 @@ impl PartText {
             return Ok(());
         }
         self.separate()?;
-        push_rows(&mut self.text, batch)
+        push_rows(&mut self.text, &mut self.room, batch)
     }
 }

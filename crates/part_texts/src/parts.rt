@@ -23,13 +23,47 @@ fn groups_of(plan: &Plan) -> MaxParallelism
     MaxParallelism::new(plan.max()).unwrap()
 }
 
-/// So many texts without a byte.
-fn empty_texts(alloc: Global, parts: Parallelism) -> Result<Vec<PartText>, AllocError>
+/// About how many bytes an entry's text has: five for each number, with commas between, and brackets around those of a row.
+fn bytes_of_entry(entry: &Entry) -> usize {
+    match entry {
+        Entry::Rows(batch) => batch.len().saturating_mul(6 * batch.width() + 2),
+        Entry::Watermark(_) => 0,
+    }
+}
+
+fn bytes_of_entries(entries: &[Entry]) -> usize {
+    let mut bytes = 0usize;
+    for entry in entries {
+        bytes = bytes.saturating_add(bytes_of_entry(entry));
+    }
+    bytes
+}
+
+fn bytes_of_source(partitions: &[Partition]) -> usize {
+    let mut bytes = 0usize;
+    for entries in partitions {
+        bytes = bytes.saturating_add(bytes_of_entries(entries.as_slice()));
+    }
+    bytes
+}
+
+/// About how many bytes the text of an input has.
+fn bytes_of_input(input: &Input) -> usize {
+    let mut bytes = 0usize;
+    for partitions in input.sources() {
+        bytes = bytes.saturating_add(bytes_of_source(partitions.as_slice()));
+    }
+    bytes
+}
+
+/// So many texts without a byte, each with room for its share of these.
+fn empty_texts(alloc: Global, parts: Parallelism, bytes: usize) -> Result<Vec<PartText>, AllocError>
     ensures { IfOk result (λ texts. texts.items ≡ replicate parts nothing) }
 {
+    let share = bytes / parts.get() as usize;
     let mut texts = Vec::with_capacity(alloc, parts.get() as usize)?;
     for _place in 0..parts.get() {
-        texts.push(PartText::new(alloc))?;
+        texts.push(PartText::with_capacity(alloc, share)?)?;
     }
     Ok(texts)
 }
@@ -248,7 +282,7 @@ pub fn texts_of_parts(
     requires belongs { BelongsTo plan.now input.now }
     ensures { IfOk result (λ texts. map (λ part. part.text) texts.items ≡ map (λ place. input_text plan.now (part_of_input plan.now parts place input.now)) (range_with_len 0 parts)) }
 {
-    let mut texts = empty_texts(alloc, parts)?;
+    let mut texts = empty_texts(alloc, parts, bytes_of_input(input))?;
     push_input(alloc, plan, parts, &mut texts, input)?;
     Ok(texts)
 }

@@ -1,32 +1,12 @@
 //! The text of records, digit by digit from the last to the first.
 
 ghost use Rattle.std.specs.Prelude.{◌≡◌, ◌++◌, ◌∷◌, ◌*◌, ◌+◌, ◌≤◌, ◌<◌, [], length, drop, slice_index_or, IsAscii};
-ghost use Rattle.std.specs.Fmt.{signed_decimal};
 ghost use Rattle.part_texts.specs.InputTexts.{cells_text, record_text, records_text};
 
 use columns::Batch;
-use itoa::write_digits;
+use job_texts::put_number;
 
-/// Writes a comma and the number in decimal so that they end at `end`, and answers where they start.
-fn put_number(line: &mut [u8], end: usize, number: i64) -> usize
-    requires room { 21 ≤ end }
-    requires inside { end ≤ length line.old }
-    ensures short { end ≤ result + 21 }
-    ensures below { result < end }
-    ensures written { drop result line.new ≡ (44 ∷ signed_decimal number) ++ drop end line.old }
-    ensures ascii { IsAscii (44 ∷ signed_decimal number) }
-{
-    let start = write_digits(number.unsigned_abs(), line, end);
-    if number >= 0 {
-        line[start - 1] = b',';
-        return start - 1;
-    }
-    line[start - 1] = b'-';
-    line[start - 2] = b',';
-    start - 2
-}
-
-/// The same of a comma and the numbers of a row, with commas between them.
+/// Writes a comma and the numbers of a row, with commas between them, so that they end at `end`, and answers where they start.
 fn put_cells(line: &mut [u8], end: usize, batch: &Batch, row: usize) -> usize
     requires room { 21 * batch.now.width ≤ end }
     requires inside { end ≤ length line.old }
@@ -40,7 +20,7 @@ fn put_cells(line: &mut [u8], end: usize, batch: &Batch, row: usize) -> usize
     let mut left = batch.width();
     while left > 0 {
         left -= 1;
-        start = put_number(line, start, batch.value(row, left));
+        start = put_number(line, start, b',', batch.value(row, left));
     }
     start
 }

@@ -3,7 +3,7 @@ use Rattle.std.specs.Fmt.{decimal, signed_decimal}
 use Rattle.std.proofs.lemmas.Fmt.{length-decimal-le}
 use Rattle.std.proofs.lemmas.List.{drop-set}
 use Rattle.itoa.proofs.Decimal.{minus_first}
-use Rattle.job_texts.proofs.Ascii.{ascii_spaced}
+use Rattle.job_texts.proofs.Ascii.{ascii_behind}
 use Rattle.job_texts.proofs.narrow.put_number.Goals as goal
 
 plain : (z : ℤ) → int_le (pos 0) z ≡ true → decimal (unsigned_abs z) ≡ signed_decimal z
@@ -42,8 +42,8 @@ returns-then-number-ge0-clause-written c =
     let same : length w.new.buf ≡ length c.args.line.now = search rules in
     let inside : w.result - 1 < length w.new.buf = omega arith in
     let back = to_z-of_z c.ranges.number in
-    rw (drop-set w.new.buf (w.result - 1) 32 inside, e, w.ensures.written, c.unsigned_abs.ensures.value, back)
-    (ap (λ l. 32 ∷ (l ++ drop c.args.end c.args.line.now)) (plain c.args.number (rw back at c.if-number-ge0.true)))
+    rw (drop-set w.new.buf (w.result - 1) c.args.before inside, e, w.ensures.written, c.unsigned_abs.ensures.value, back)
+    (ap (λ l. c.args.before ∷ (l ++ drop c.args.end c.args.line.now)) (plain c.args.number (rw back at c.if-number-ge0.true)))
 
 pub returns-clause-written : goal.returns-clause-written
 returns-clause-written c =
@@ -55,11 +55,11 @@ returns-clause-written c =
     let inside : w.result - 1 < length w.new.buf = omega arith in
     let inside' : w.result - 2 < length (set w.new.buf (w.result - 1) 45) = omega (arith, length-set w.new.buf (w.result - 1) 45) in
     let back = to_z-of_z c.ranges.number in
-    rw (drop-set (set w.new.buf (w.result - 1) 45) (w.result - 2) 32 inside', e', drop-set w.new.buf (w.result - 1) 45 inside, e, w.ensures.written, c.unsigned_abs.ensures.value, back)
-    (ap (λ l. 32 ∷ (l ++ drop c.args.end c.args.line.now)) (minus_first c.args.number (rw back at c.if-number-ge0.false)))
+    rw (drop-set (set w.new.buf (w.result - 1) 45) (w.result - 2) c.args.before inside', e', drop-set w.new.buf (w.result - 1) 45 inside, e, w.ensures.written, c.unsigned_abs.ensures.value, back)
+    (ap (λ l. c.args.before ∷ (l ++ drop c.args.end c.args.line.now)) (minus_first c.args.number (rw back at c.if-number-ge0.false)))
 
 pub returns-then-number-ge0-clause-ascii : goal.returns-then-number-ge0-clause-ascii
-returns-then-number-ge0-clause-ascii c = ascii_spaced c.args.number c.ranges.number
+returns-then-number-ge0-clause-ascii c = ascii_behind c.args.before c.args.number c.requires.ascii c.ranges.number
 
 pub returns-clause-ascii : goal.returns-clause-ascii
-returns-clause-ascii c = ascii_spaced c.args.number c.ranges.number
+returns-clause-ascii c = ascii_behind c.args.before c.args.number c.requires.ascii c.ranges.number
