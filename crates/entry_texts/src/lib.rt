@@ -5,4 +5,4 @@ mod partition;
 mod writing;
 
 pub use partition::{PartitionText, PutFault};
-pub use writing::{end_partition, put_row};
+pub use writing::{end_partition, push_decimal, push_row, push_watermark_label, put_row};

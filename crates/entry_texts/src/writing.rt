@@ -9,7 +9,12 @@ use import_entries::Place;
 use itoa::Buffer;
 use std::alloc::AllocError;
 
-fn push_decimal(text: &mut String, number: i64) -> Result<(), AllocError>
+/// Puts a number behind a text.
+///
+/// # Errors
+///
+/// Only where memory runs out.
+pub fn push_decimal(text: &mut String, number: i64) -> Result<(), AllocError>
     ensures { OnOk result (string_bytes text.new ≡ string_bytes text.old ++ signed_decimal number) }
 {
     let mut buffer = Buffer::new();
@@ -33,7 +38,12 @@ fn push_others(text: &mut String, numbers: &[i64]) -> Result<(), AllocError>
     Ok(())
 }
 
-fn push_row(text: &mut String, first: i64, others: &[i64]) -> Result<(), AllocError>
+/// Puts a row behind a text: its first number and the others, as a list.
+///
+/// # Errors
+///
+/// Only where memory runs out.
+pub fn push_row(text: &mut String, first: i64, others: &[i64]) -> Result<(), AllocError>
     ensures { OnOk result (string_bytes text.new ≡ string_bytes text.old ++ row_text first others.now) }
 {
     text.push_str("[")?;
@@ -42,8 +52,13 @@ fn push_row(text: &mut String, first: i64, others: &[i64]) -> Result<(), AllocEr
     text.push_str("]")
 }
 
+/// Puts what stands before the time of a watermark behind a text.
+///
+/// # Errors
+///
+/// Only where memory runs out.
 #[tactic(auto, unfolding(crate::specs::EntryTexts::watermark_label))]
-fn push_watermark_label(text: &mut String) -> Result<(), AllocError>
+pub fn push_watermark_label(text: &mut String) -> Result<(), AllocError>
     ensures { OnOk result (string_bytes text.new ≡ string_bytes text.old ++ watermark_label) }
 {
     text.push_str("{\"watermark\":")

@@ -1,0 +1,4 @@
+mod Behind
+mod Entries
+mod OneByOne
+mod Putting
