@@ -53,7 +53,7 @@ HasImportWords words said =
     × (option_map (λ w. w.now) said.late ≡ first_value words (codes "late")) × (option_map (λ w. w.now) said.rows ≡ first_value words (codes "rows"))
     × (option_map (λ w. w.now) said.bad ≡ first_value words (codes "bad")) × (option_map (λ w. w.now) said.once ≡ first_value words (codes "once"))
     × (option_map (λ w. w.now) said.twice ≡ first_value words (codes "twice")) × (option_map (λ w. w.now) said.report ≡ first_value words (codes "report"))
-    × (option_map (λ w. w.now) said.zones ≡ first_value words (codes "zones"))
+    × (option_map (λ w. w.now) said.zones ≡ first_value words (codes "zones")) × (option_map (λ w. w.now) said.ranges ≡ first_value words (codes "ranges"))
     × (option_map (λ w. w.now) said.zone ≡ first_value words (codes "zone")) × (option_map (λ w. w.now) said.fold ≡ first_value words (codes "fold"))
     × (option_map (λ w. w.now) said.separator ≡ first_value words (codes "separator"))
     × (option_map (λ w. w.now) said.decimal ≡ first_value words (codes "decimal")) × IsFlag words (codes "align") said.is_aligned

@@ -76,8 +76,12 @@ import_aside_shape = record import_late_shape { rules = import_late_shape.rules 
 abbrev pub import_zone_shape : Shape
 import_zone_shape = record import_aside_shape { rules = import_aside_shape.rules ++ option_rule (codes "zone") ∷ option_rule (codes "fold") ∷ [] }
 
+-- and to how many parts the input is dealt out
+abbrev pub import_parts_shape : Shape
+import_parts_shape = record import_zone_shape { rules = import_zone_shape.rules ++ option_rule (codes "ranges") ∷ [] }
+
 abbrev pub import_shape : Shape
-import_shape = record import_zone_shape { rules = import_zone_shape.rules ++ option_rule (codes "report") ∷ option_rule (codes "zones") ∷ option_rule (codes "separator") ∷ option_rule (codes "decimal") ∷ [] }
+import_shape = record import_parts_shape { rules = import_parts_shape.rules ++ option_rule (codes "report") ∷ option_rule (codes "zones") ∷ option_rule (codes "separator") ∷ option_rule (codes "decimal") ∷ [] }
 
 -- the plan, the rows and the columns of an export, and its options
 abbrev pub export_files_shape : Shape

@@ -39,6 +39,7 @@ fn import_words<'m>(words: &'m ArgMatches<'_>) -> ImportWords<'m>
         decimal: words.get_str("decimal"),
         is_aligned: words.get_flag("align"),
         rows: words.get_str("rows"),
+        ranges: words.get_str("ranges"),
     }
 }
 

@@ -3,7 +3,7 @@
 ghost use Rattle.std.specs.Prelude.{◌≡◌, IfOk};
 ghost use Rattle.clap.specs.Words.{app_of, new_rule};
 ghost use Rattle.clap.specs.Simple.{new_shape};
-ghost use Rattle.command_line.specs.Words.{AddsRule, IsCommand, required_rule, option_rule, flag_rule, several_rule, run_shape, simulate_shape, leg_files_shape, leg_stops_shape, leg_shape, cuts_shape, layout_shape, check_files_shape, check_shape, import_files_shape, import_names_shape, import_late_shape, import_aside_shape, import_zone_shape, import_shape, show_shape, group_shape, explain_shape, version_shape, top, jobs, texts, tables, views, program};
+ghost use Rattle.command_line.specs.Words.{AddsRule, IsCommand, required_rule, option_rule, flag_rule, several_rule, run_shape, simulate_shape, leg_files_shape, leg_stops_shape, leg_shape, cuts_shape, layout_shape, check_files_shape, check_shape, import_files_shape, import_names_shape, import_late_shape, import_aside_shape, import_zone_shape, import_parts_shape, import_shape, show_shape, group_shape, explain_shape, version_shape, top, jobs, texts, tables, views, program};
 
 use crate::part_words::split_words;
 use crate::table_words::{diff_words, export_words, rows_words};
@@ -505,10 +505,24 @@ fn import_zone<'a>(alloc: Global) -> Result<Command<'a>, AllocError>
     )
 }
 
+/// The same with that of the parts of the input.
+fn import_parts<'a>(alloc: Global) -> Result<Command<'a>, AllocError>
+    ensures { IfOk result (λ c. IsCommand import_parts_shape c) }
+{
+    let command = import_zone(alloc)?;
+    option(
+        alloc,
+        command,
+        "ranges",
+        "N",
+        "Write N inputs INPUT.0, INPUT.1 .. in place of INPUT, as `split` deals it out",
+    )
+}
+
 fn import_words<'a>(alloc: Global) -> Result<Command<'a>, AllocError>
     ensures { IfOk result (λ c. IsCommand import_shape c) }
 {
-    let command = import_zone(alloc)?;
+    let command = import_parts(alloc)?;
     let command = option(
         alloc,
         command,

@@ -1,5 +1,5 @@
 -- A text that grows behind what was taken out of it.
-use Rattle.std.proofs.Common.{◌≡◌, ℕ, ◌==◌, Bool, true, false, List, [], ◌∷◌, ◌++◌, Option, Some, None, refl, sym, ap, ◌∙◌, append_assoc, if◌then◌else◌}
+use Rattle.std.proofs.Common.{◌≡◌, ℕ, Bool, true, false, List, [], ◌++◌, Option, Some, None, refl, sym, ap, ◌∙◌, append_assoc, if◌then◌else◌}
 use Rattle.std.specs.Prelude.{ℤ, codes}
 use Rattle.import_entries.specs.declared.place.Place.{Place}
 use Rattle.import_entries.specs.declared.place.Place.TheVariants.{Joins, Begins}

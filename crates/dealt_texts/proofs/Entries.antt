@@ -1,5 +1,5 @@
 -- The text of a part, entry by entry of the whole.
-use Rattle.std.proofs.Common.{◌≡◌, ℕ, ◌==◌, Bool, true, false, List, [], ◌∷◌, ◌++◌, map, Option, Some, None, refl, sym, ap, subst, ◌∙◌, append_assoc, append-nil, if◌then◌else◌}
+use Rattle.std.proofs.Common.{◌≡◌, ℕ, ◌==◌, Bool, true, false, List, [], ◌∷◌, ◌++◌, map, Some, None, refl, sym, ap, ◌∙◌, append_assoc, append-nil, if◌then◌else◌}
 use Rattle.std.specs.Prelude.{ℤ, codes}
 use Rattle.std.specs.List.{filter, fold, flat_map, join_with_byte}
 use Rattle.std.proofs.lemmas.List.Elements.{filter-append}
@@ -7,18 +7,17 @@ use Rattle.std.proofs.lemmas.List.Sums.{fold-append}
 use Rattle.plain_data.specs.Record.{Record, at}
 use Rattle.key_groups.specs.Groups.{key_group}
 use Rattle.key_groups.specs.Ranges.{group_owner}
-use Rattle.plan_model.specs.PlanData.{PlanData}
 use Rattle.stream_model.specs.declared.entry.Entry.{Entry}
 use Rattle.stream_model.specs.declared.entry.Entry.TheVariants.{Rows, Watermark}
 use Rattle.import_entries.specs.declared.place.Place.{Place}
 use Rattle.import_entries.specs.declared.place.Place.TheVariants.{Joins, Begins}
 use Rattle.import_entries.specs.declared.rule.EntryRule.{EntryRule}
 use Rattle.import_entries.specs.Entries.{place_said}
-use Rattle.input_parts.specs.Parts.{is_in_part, entry_of_rows, entry_kept, entries_kept}
+use Rattle.input_parts.specs.Parts.{entry_of_rows, entries_kept}
 use Rattle.entry_texts.specs.Partitions.{Row, times_of}
 use Rattle.dealt_texts.specs.Dealing.{owner_of, owner_of_key}
-use Rattle.dealt_texts.specs.Entries.{record_of, entry_of, with_record, entries_of, record_text, entry_text, entries_text, list_text, PartsHaveTheirEntries}
-use Rattle.dealt_texts.specs.Parts.{Growing, growing, nothing, closed, separated, with_mark, opened, with_row, ended}
+use Rattle.dealt_texts.specs.Entries.{record_of, with_record, entries_of, record_text, entry_text, entries_text, list_text, PartsHaveTheirEntries}
+use Rattle.dealt_texts.specs.Parts.{Growing, growing, nothing, closed, separated, with_mark, opened, ended}
 use Rattle.dealt_texts.specs.Steps.{placed, dealt}
 use Rattle.dealt_texts.specs.Texts.{part_of_rows}
 use Rattle.dealt_texts.specs.declared.dealing.Dealing.{Dealing}
@@ -35,9 +34,6 @@ grown keep (Rows batch ∷ before) = fold with_one (closed (grown keep before)) 
 
 same_text : (text more : List ℕ) (is_first is_open : Bool) → text ≡ more → growing text is_first is_open ≡ growing more is_first is_open
 same_text text more is_first is_open e = ap (λ t. growing t is_first is_open) e
-
-closed_twice : (p : Growing) → closed (closed p) ≡ closed p
-closed_twice p = same_text _ _ p.is_first false (append-nil (closed p).text)
 
 closed_mark : (mark : ℤ) (p : Growing) → closed (with_mark mark (closed p)) ≡ with_mark mark (closed p)
 closed_mark mark p = same_text _ _ false false (append-nil (with_mark mark (closed p)).text)
@@ -93,10 +89,6 @@ later text is_first [] = same_text _ _ is_first true (sym (append-nil text))
 later text is_first (r ∷ rs) =
     later ((text ++ codes ",") ++ record_text r) is_first rs
     ∙ same_text _ _ is_first true (append_assoc (text ++ codes ",") (record_text r) (commas rs) ∙ append_assoc text (codes ",") (record_text r ++ commas rs))
-
-begun_is : (before : List Entry) → growing (begun before).text (begun before).is_first false ≡ begun before
-begun_is [] = refl
-begun_is (entry ∷ before) = refl
 
 -- an entry of rows behind others, once it is closed
 rows_behind : (width : ℕ) (r : Record) (rs : List Record) (before : List Entry) → closed (fold with_one (begun before) (r ∷ rs)) ≡ begun (Rows (record { width = width; rows = r ∷ rs }) ∷ before)

@@ -1,12 +1,12 @@
 -- One more row of the whole.
-use Rattle.std.proofs.Common.{◌≡◌, ℕ, ◌<◌, ◌==◌, List, [], ◌∷◌, length, ap, ◌∙◌, arith}
+use Rattle.std.proofs.Common.{◌≡◌, ℕ, ◌<◌, ◌==◌, List, ◌∷◌, length, ap, ◌∙◌, arith}
 use Rattle.import_entries.specs.declared.place.Place.{Place}
 use Rattle.import_entries.specs.declared.rule.EntryRule.{EntryRule}
 use Rattle.import_entries.specs.Entries.{place_said}
 use Rattle.entry_texts.specs.Partitions.{Row, times_of}
 use Rattle.dealt_texts.specs.Dealing.{owner_of}
 use Rattle.dealt_texts.specs.declared.dealing.Dealing.{Dealing}
-use Rattle.dealt_texts.specs.Parts.{Growing, growing}
+use Rattle.dealt_texts.specs.Parts.{Growing}
 use Rattle.dealt_texts.specs.Steps.{Each, text_at, placed, dealt}
 use Rattle.dealt_texts.specs.Texts.{behind, part_of_rows}
 use Rattle.dealt_texts.proofs.Behind.{behind_placed, behind_dealt}

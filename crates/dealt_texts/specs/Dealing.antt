@@ -1,5 +1,5 @@
 -- To which part a row goes.
-use Rattle.std.specs.Prelude.{ℕ, ℤ, List, ◌∷◌, pos}
+use Rattle.std.specs.Prelude.{ℕ, ℤ, List, ◌∷◌}
 use Rattle.plain_data.specs.Record.{at}
 use Rattle.key_groups.specs.Groups.{key_group}
 use Rattle.key_groups.specs.Ranges.{group_owner}

@@ -1,5 +1,5 @@
 -- The texts of a partition of all parts, row by row of the whole. Rows are listed from the last one back.
-use Rattle.std.specs.Prelude.{◌≡◌, ℕ, ◌<◌, ◌==◌, List, [], ◌∷◌, ◌++◌, length, Option, Some, None, Result, Ok, Err, if◌then◌else◌}
+use Rattle.std.specs.Prelude.{◌≡◌, ℕ, ◌<◌, ◌==◌, List, [], ◌∷◌, ◌++◌, length, Some, Result, Ok, Err, if◌then◌else◌}
 use Rattle.import_entries.specs.declared.rule.EntryRule.{EntryRule}
 use Rattle.import_entries.specs.Entries.{progress_of, place_fault, place_said}
 use Rattle.entry_texts.specs.Partitions.{Row, AreTimely, times_of}

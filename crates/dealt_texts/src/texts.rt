@@ -88,7 +88,8 @@ impl PartTexts {
     pub fn grown(&self) -> (usize, usize)
         ensures { result ≡ grown_of self.now }
     {
-        self.grown
+        let (first, end) = self.grown;
+        (first, end)
     }
 
     /// The texts that were not taken out, each at its part's place.

@@ -30,14 +30,14 @@ Write it as `2,2/5`, for two partitions of the first source and one of the secon
 
 A word of `group` is no number in its range: KEY is a hyphen or none and 1 to 19 digits, of 64 bits; MAX has 1 to 5
 digits, from 1 to 32768; PAR has 1 to 5 digits, from 1 to 64 and at most MAX. A `+`, a space, a point or an empty word
-is none. `import` says it of `--bound`, digits alone, below 2^64, and of `--rows`, from 1 to 4096, with the word. `run`
-says it of `--parallelism` where it is not 1 to 5 digits, and beside a list of legs, each of which has its own scale;
-`cuts` of `--until` where it is neither a number as KEY is nor a time in ISO 8601, and beside `--open`; `check` of
-`--from` and `--stop` where no INPUT is named, and of `--scale` beside SCALE; `leg` of `--since` without `--from`, and
-where `--save` and `--receipt` name one file; `leg` and `run` of `--names` where no receipt is named; `run` of
-`--receipt` beside a list of legs; `export` of `--header` where it is neither `yes` nor `no`, or beside `--json`, and of
-`--json` where two numbers of a row would be called the same; `split` of N where it is not 1 to 5 digits, from 1 to 64
-and at most the plan's `maxParallelism`.
+is none. `import` says it of `--bound`, digits alone, below 2^64, of `--rows`, from 1 to 4096, and of `--ranges`, from 1
+to 64 and at most the plan's `maxParallelism`, with the word. `run` says it of `--parallelism` where it is not 1 to 5
+digits, and beside a list of legs, each of which has its own scale; `cuts` of `--until` where it is neither a number as
+KEY is nor a time in ISO 8601, and beside `--open`; `check` of `--from` and `--stop` where no INPUT is named, and of
+`--scale` beside SCALE; `leg` of `--since` without `--from`, and where `--save` and `--receipt` name one file; `leg` and
+`run` of `--names` where no receipt is named; `run` of `--receipt` beside a list of legs; `export` of `--header` where
+it is neither `yes` nor `no`, or beside `--json`, and of `--json` where two numbers of a row would be called the same;
+`split` of N where it is not 1 to 5 digits, from 1 to 64 and at most the plan's `maxParallelism`.
 
 ```console
 $ streamjob group 7 128 65
@@ -56,7 +56,8 @@ Take a number in the range. For `check` name the input, too. A receipt goes besi
         r#"C3 Options (status 2)
 
 Words of `import` do not go together: `--twice` has a file for records that are there twice, and none is without
-`--once`; `--fold` says which instant a time of `--zone` is that clocks show twice or never: `first` or `second`.
+`--once`; `--fold` says which instant a time of `--zone` is that clocks show twice or never: `first` or `second`;
+`--ranges` has parts written beside INPUT, which is then no device.
 
 ```console
 $ streamjob import plan.json new.json at,key calls=calls.csv --twice twice.csv
@@ -97,11 +98,11 @@ Standard output took no more: the disk is full, or the other end of a pipe is cl
 is not known. `leg --save` also says it where the file cannot be written: a folder stands there, its folder is missing
 or takes no files of yours, or the disk is full. Then no row was printed, and the file is as it was. So does `import`,
 of INPUT and of the files of `--names` and `--late`; and where one of them is named twice, or is a file of a source too,
-since one would be written over the other. `split` says it of a part's file that cannot be written, or is PLAN or INPUT.
-Two names of one file are not told apart there. `leg` and `run` say it, before anything is read, of a file of `--save`
-or `--receipt` that is PLAN, INPUT, SCALE or another file that they read; only the next savepoint may take the name of
-that of `--from`, and the next receipt that of `--since`. `leg --save FILE > FILE` is refused so before anything is
-written, by each name of the file but a hard link.
+since one would be written over the other; with `--ranges` of the parts' files. `split` says it of a part's file that
+cannot be written, or is PLAN or INPUT. Two names of one file are not told apart there. `leg` and `run` say it, before
+anything is read, of a file of `--save` or `--receipt` that is PLAN, INPUT, SCALE or another file that they read; only
+the next savepoint may take the name of that of `--from`, and the next receipt that of `--since`. `leg --save FILE >
+FILE` is refused so before anything is written, by each name of the file but a hard link.
 
 What is no regular file of a name of its own is written to as it stands, behind what it holds: a pipe, a device,
 `/dev/stdout`. Any other file is written beside, as `FILE.NUMBER.part`, and takes its name once it is on the disk. Where

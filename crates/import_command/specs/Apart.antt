@@ -44,3 +44,7 @@ are_apart words = may_write_behind words.sources.now [] (Some words.input)
     && may_write_behind words.sources.now (Some words.input ∷ words.late ∷ words.twice ∷ []) words.bad
     && may_write_behind words.sources.now (Some words.input ∷ words.late ∷ words.twice ∷ words.bad ∷ []) words.report
     && may_write_behind words.sources.now (Some words.input ∷ words.late ∷ words.twice ∷ words.bad ∷ words.report ∷ []) words.names
+
+-- the file of a part may be written, which none of the others is
+abbrev pub is_apart : ImportWords → List ℕ → Bool
+is_apart words path = may_write words.sources.now path (list_any (λ other. is_path other path) (words.late ∷ words.twice ∷ words.bad ∷ words.report ∷ words.names ∷ []))

@@ -3,14 +3,16 @@
 ghost use Rattle.std.specs.Prelude.{◌≡◌};
 ghost use Rattle.std.specs.List.{list_any};
 ghost use Rattle.import_words.specs.Judging.{IsRefusal, Judges};
-ghost use Rattle.import_command.specs.Apart.{is_device, has_file, names_file, is_read, may_write, is_path, may_write_behind, are_apart};
+ghost use Rattle.import_command.specs.Apart.{is_device, has_file, names_file, is_read, may_write, is_path, may_write_behind, are_apart, is_apart};
 
+use crate::input_files::path_of_part;
 use crate::words::ImportWords;
+use dealt_texts::Dealing;
 use import_words::{ImportCode, ImportFault, names_path, refused};
 use std::alloc::Global;
 
 /// Whether a path is one of a device.
-fn is_device(path: &str) -> bool
+pub(crate) fn is_device(path: &str) -> bool
     ensures { result ≡ is_device path.now }
 {
     path.as_bytes().starts_with(b"/dev/")
@@ -118,4 +120,38 @@ pub(crate) fn check_apart(alloc: Global, words: &ImportWords<'_>) -> Result<(), 
     check_behind(alloc, sources, &[input, late, twice, bad], words.report)?;
     let before = [input, late, twice, bad, words.report];
     check_behind(alloc, sources, &before, words.names)
+}
+
+/// Refuses to write the file of a part that words of sources name, or that is written for something else.
+fn check_part(alloc: Global, words: &ImportWords<'_>, path: &str) -> Result<(), ImportFault>
+    ensures { Judges (is_apart words.now path.now) ImportCode.Write result }
+{
+    let others = [
+        words.late,
+        words.twice,
+        words.bad,
+        words.report,
+        words.names,
+    ];
+    check_file(alloc, words.sources, path, is_one_of(&others, path))
+}
+
+/// The same of each part, if an input is dealt out to parts.
+///
+/// # Errors
+///
+/// `Write` with the first such file; `Memory`.
+pub(crate) fn check_parts_apart(
+    alloc: Global,
+    words: &ImportWords<'_>,
+    dealing: Option<Dealing>,
+) -> Result<(), ImportFault> {
+    let Some(dealing) = dealing else {
+        return Ok(());
+    };
+    for place in 0..dealing.parts() {
+        let path = path_of_part(alloc, words.input, place)?;
+        check_part(alloc, words, path.as_str())?;
+    }
+    Ok(())
 }

@@ -3,10 +3,11 @@
 ghost use Rattle.std.specs.Prelude.{◌≡◌, true, OnOk};
 ghost use Rattle.import_command.specs.Apart.{are_apart};
 
-use crate::apart::check_apart;
+use crate::apart::{check_apart, check_parts_apart};
+use crate::input_files::InputFiles;
 use crate::keeping::{BesideFiles, named, written};
 use crate::names::{NameFile, no_names, random_state};
-use crate::words::{ImportWords, entry_rule, once_columns, point_of, separator_of};
+use crate::words::{ImportWords, dealing_of, entry_rule, once_columns, point_of, separator_of};
 use crate::zoning::{clocks_of, placed_columns, zones_of};
 use column_files::columns_text;
 use import_columns::{Column, ColumnWord};
@@ -14,7 +15,7 @@ use import_copies::{ImportRule, Ledger, LedgerWants, OnceRule, import_files};
 use import_reports::ImportReport;
 use import_words::{ImportFault, check_columns, check_sources, read_columns};
 use name_table::NameTable;
-use new_files::{NewFile, NewStream, write_whole};
+use new_files::{NewStream, write_whole};
 use plan_model::Plan;
 use std::random::RandomSource;
 use std::rt::Files;
@@ -31,10 +32,12 @@ fn rule_of<'i, R: AllocGlobal>(
 {
     check_columns(rt.alloc(), said, plan.columns(), words.names.is_some())?;
     let entries = entry_rule(rt.alloc(), words, plan.window())?;
+    let dealing = dealing_of(rt.alloc(), words, plan)?;
     let separator = separator_of(rt.alloc(), words.separator)?;
     let point = point_of(rt.alloc(), words.decimal, separator)?;
     check_sources(rt.alloc(), words.sources, plan.sources())?;
     check_apart(rt.alloc(), words)?;
+    check_parts_apart(rt.alloc(), words, dealing)?;
     Ok(ImportRule {
         sources: plan.sources(),
         words: words.sources,
@@ -44,6 +47,7 @@ fn rule_of<'i, R: AllocGlobal>(
         point,
         entries,
         once: None,
+        dealing,
     })
 }
 
@@ -58,6 +62,7 @@ fn with_once<'i>(rule: ImportRule<'i>, once: OnceRule<'i>) -> ImportRule<'i> {
         point: rule.point,
         entries: rule.entries,
         once: Some(once),
+        dealing: rule.dealing,
     }
 }
 
@@ -79,51 +84,51 @@ fn write_report<R: Files + Print + RandomSource + AllocGlobal>(
     }
 }
 
-/// Writes the input to a new file, and what is no row of it to others, which take their names.
+/// Writes the input to a new file, or its parts to one each, and what is no row of it to others, which take their names.
 fn write_files<'r, R: Files + Print + RandomSource + AllocGlobal>(
     rt: &'r R,
     rule: ImportRule<'_>,
     words: &ImportWords<'_>,
-    new: &NewFile,
+    new: &InputFiles,
     beside: &BesideFiles<'_>,
     names: &mut NameTable,
-) -> Result<NewStream<'r, R>, ImportFault> {
+) -> Result<Vec<NewStream<'r, R>>, ImportFault> {
     let places = beside.open(rt, rule.columns)?;
     let wants = LedgerWants {
         once: rule.once.is_some(),
         report: words.report.is_some(),
     };
     let mut ledger = Ledger::new(rt.alloc(), places, rule.columns, wants)?;
-    let mut file = written(rt, words.input, new.open(rt))?;
+    let mut streams = new.open(rt)?;
     let old_names = names.names().len();
-    let answer = import_files(rt, rule, names, &mut ledger, &mut file);
-    named(rt, words, answer)?;
+    let answer = import_files(rt, rule, names, &mut ledger, &mut streams);
+    named(rt, words, rule.dealing, answer)?;
     let new_names = names.names().len().saturating_sub(old_names);
     let (places, report) = ledger.finish(rule.columns, new_names as u64)?;
     beside.keep(rt, places)?;
     write_report(rt, words.report, report)?;
-    Ok(file)
+    Ok(streams)
 }
 
-/// The same, and the table of names where there is a file of one. The input's file takes its name last.
+/// The same, and the table of names where there is a file of one. The input's file takes its name last, or those of its parts do.
 fn write_all<R: Files + Print + RandomSource + AllocGlobal>(
     rt: &R,
     rule: ImportRule<'_>,
     words: &ImportWords<'_>,
-    new: &NewFile,
+    new: &InputFiles,
     beside: &BesideFiles<'_>,
     table: Option<&NameFile<'_>>,
 ) -> Result<(), ImportFault> {
     let Some(table) = table else {
         let mut names = no_names(rt)?;
-        let file = write_files(rt, rule, words, new, beside, &mut names)?;
-        return written(rt, words.input, new.keep(rt, &file));
+        let streams = write_files(rt, rule, words, new, beside, &mut names)?;
+        return new.keep(rt, &streams);
     };
     let bytes = table.read(rt)?;
     let mut names = table.table(rt, &bytes)?;
-    let file = write_files(rt, rule, words, new, beside, &mut names)?;
+    let streams = write_files(rt, rule, words, new, beside, &mut names)?;
     table.keep(rt, &bytes, &names)?;
-    written(rt, words.input, new.keep(rt, &file))
+    new.keep(rt, &streams)
 }
 
 /// The same, and leaves no new file behind where it fails.
@@ -133,11 +138,11 @@ fn import_by<R: Files + Print + RandomSource + AllocGlobal>(
     words: &ImportWords<'_>,
     table: Option<&NameFile<'_>>,
 ) -> Result<(), ImportFault> {
-    let new = written(rt, words.input, NewFile::at(rt, words.input))?;
+    let new = InputFiles::at(rt, words.input, rule.dealing)?;
     let beside = BesideFiles::at(rt, words)?;
     let answer = write_all(rt, rule, words, &new, &beside, table);
     if answer.is_err() {
-        let _ = new.remove(rt);
+        new.remove(rt);
         beside.remove(rt);
     }
     answer
@@ -176,14 +181,15 @@ fn import_once<R: Files + Print + RandomSource + AllocGlobal>(
     import_alone(rt, with_once(rule, once), words)
 }
 
-/// Writes an input of a plan from the files that words name, and with it the table of names, the records that are late, there twice or
-/// bad, and what is told of the import, where words ask for these. Each file that is written holds what it held or all that is
-/// written.
+/// Writes an input of a plan from the files that words name, or the parts of one, as many as words say, each to a file of its name with
+/// a point and the place of the part from 0 behind it; and with it the table of names, the records that are late, there twice or bad,
+/// and what is told of the import, where words ask for these. Each file that is written holds what it held or all that is written.
 ///
 /// # Errors
 ///
 /// What is refused first, the words before the files; `Names` also where another import uses the table, or has changed it;
-/// `Write` where a file cannot be written, is read too or would be written twice; `Memory`. The input's file then holds what it held.
+/// `Write` where a file cannot be written, is read too or would be written twice; `Memory`. The input's file then holds what it held,
+/// and that of a part what it held or its part.
 pub fn import<R: Files + Print + RandomSource + AllocGlobal>(
     rt: &R,
     plan: &Plan,

@@ -1,6 +1,7 @@
 //! The files that an import writes.
 
 use crate::words::ImportWords;
+use dealt_texts::Dealing;
 use import_asides::{BadRecords, SetAside};
 use import_columns::Column;
 use import_copies::Places;
@@ -57,9 +58,28 @@ fn push_path(paths: &mut String, path: Option<&str>) -> Result<(), AllocError> {
     }
 }
 
+/// The files of the input: its own, or those of its parts.
+fn paths_of_input(
+    alloc: Global,
+    input: &str,
+    dealing: Option<Dealing>,
+) -> Result<String, AllocError> {
+    match dealing {
+        Some(dealing) => {
+            let parts = dealing.parts();
+            format!(in alloc; "{input}.N, of {parts} parts")
+        }
+        None => String::from_str(alloc, input),
+    }
+}
+
 /// The files that are written as the records come, of which one could not be.
-fn paths_of(alloc: Global, words: &ImportWords<'_>) -> Result<String, AllocError> {
-    let mut paths = String::from_str(alloc, words.input)?;
+fn paths_of(
+    alloc: Global,
+    words: &ImportWords<'_>,
+    dealing: Option<Dealing>,
+) -> Result<String, AllocError> {
+    let mut paths = paths_of_input(alloc, words.input, dealing)?;
     push_path(&mut paths, words.late)?;
     push_path(&mut paths, words.twice)?;
     push_path(&mut paths, words.bad)?;
@@ -70,12 +90,13 @@ fn paths_of(alloc: Global, words: &ImportWords<'_>) -> Result<String, AllocError
 pub(crate) fn named<R: AllocGlobal>(
     rt: &R,
     words: &ImportWords<'_>,
+    dealing: Option<Dealing>,
     answer: Result<(), ImportFault>,
 ) -> Result<(), ImportFault> {
     let Err(ImportFault::Write) = &answer else {
         return answer;
     };
-    Err(refused(ImportCode::Write, paths_of(rt.alloc(), words)))
+    Err(refused(ImportCode::Write, paths_of(rt.alloc(), words, dealing)))
 }
 
 /// A file beside the input, at the path that words say for it.

@@ -3,6 +3,7 @@
 
 mod apart;
 mod importing;
+mod input_files;
 mod keeping;
 mod names;
 mod words;

@@ -1,19 +1,23 @@
 //! The words of an import.
 
-ghost use Rattle.std.specs.Prelude.{◌≡◌};
+ghost use Rattle.std.specs.Prelude.{◌≡◌, IfSome};
 ghost use Rattle.import_words.specs.Files.{parts};
 ghost use Rattle.import_words.specs.Judging.{IsRefusal};
+ghost use Rattle.import_command.specs.Dealing.{IsByPlan, GivesDealing};
 ghost use Rattle.import_command.specs.Once.{column_of, GivesPlaces, GivesOnce};
 ghost use Rattle.import_command.specs.Separating.{GivesSeparator, GivesPoint};
 
+use crate::apart::is_device;
 use columns::MOST_ROWS;
+use dealt_texts::Dealing;
 use decimal_texts::DecimalPoint;
 use field_values::are_digits;
 use import_columns::Column;
 use import_entries::{EntryRule, WindowEnds};
 use import_words::{ImportCode, ImportFault, refused};
 use imports::Separator;
-use plan_model::WindowSpec;
+use key_groups::{MOST_SUBTASKS, MaxParallelism, Parallelism};
+use plan_model::{Plan, WindowSpec};
 use std::alloc::Global;
 
 /// The words of an import, behind that of its plan.
@@ -53,6 +57,8 @@ pub struct ImportWords<'a> {
     pub is_aligned: bool,
     /// The most rows of an entry: as many as there can be, where no word says so.
     pub rows: Option<&'a str>,
+    /// To how many parts the input is dealt out, each with a file of its own: it is written whole, where no word says so.
+    pub ranges: Option<&'a str>,
 }
 
 /// The number that digits write, if it has 64 bits.
@@ -63,7 +69,9 @@ fn number_of(word: &str) -> Option<u64> {
     word.parse().ok()
 }
 
-fn refused_number(alloc: Global, option: &str, word: &str, range: &str) -> ImportFault {
+fn refused_number(alloc: Global, option: &str, word: &str, range: &str) -> ImportFault
+    ensures { IsRefusal ImportCode.Number result }
+{
     refused(
         ImportCode::Number,
         format!(in alloc; "{option}: {word:?} is no whole number from {range}"),
@@ -116,6 +124,54 @@ pub(crate) fn entry_rule(
         Some(rule) => Ok(rule_at_ends(rule, words, window)),
         None => Err(refused_number(alloc, "--rows", words.rows.unwrap_or(""), "1 to 4096")),
     }
+}
+
+fn refused_device(alloc: Global, path: &str) -> ImportFault
+    ensures { IsRefusal ImportCode.Options result }
+{
+    refused(
+        ImportCode::Options,
+        format!(in alloc; "--ranges: {path:?} is a device, beside which parts have no files"),
+    )
+}
+
+/// To so many parts of a plan's input as a word says, if it can be dealt out so.
+fn dealing_by(plan: &Plan, word: &str) -> Option<Dealing>
+    ensures { IfSome result (IsByPlan plan.now) }
+{
+    let max = MaxParallelism::new(plan.max())?;
+    let count = u32::try_from(number_of(word)?).ok()?;
+    Dealing::new(
+        max,
+        Parallelism::new(count, max)?,
+        plan.window().key as usize,
+    )
+}
+
+/// How an input is dealt out to parts, if it is.
+///
+/// # Errors
+///
+/// `Number` where a word does not say 1 to the lesser of 64 and the plan's key groups; `Options` where the input is a device;
+/// `Memory`.
+pub(crate) fn dealing_of(
+    alloc: Global,
+    words: &ImportWords<'_>,
+    plan: &Plan,
+) -> Result<Option<Dealing>, ImportFault>
+    ensures { GivesDealing words.now.ranges plan.now result }
+{
+    let Some(word) = words.ranges else {
+        return Ok(None);
+    };
+    let Some(dealing) = dealing_by(plan, word) else {
+        let range = format!(in alloc; "1 to {}", plan.max().min(MOST_SUBTASKS))?;
+        return Err(refused_number(alloc, "--ranges", word, range.as_str()));
+    };
+    if is_device(words.input) {
+        return Err(refused_device(alloc, words.input));
+    }
+    Ok(Some(dealing))
 }
 
 fn refused_separator(alloc: Global, word: &str) -> ImportFault

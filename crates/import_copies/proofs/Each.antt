@@ -3,7 +3,7 @@ use Rattle.std.proofs.Common.{◌≡◌, ◌⊎◌, inl, inr, false, ℕ, List, 
 use Rattle.asked_fields.specs.declared.asked.AskedField.{AskedField}
 use Rattle.csv.specs.Records.{fields_of}
 use Rattle.entry_texts.specs.Partitions.{Row}
-use Rattle.entry_texts.specs.declared.partition.PartitionText.{PartitionText}
+use Rattle.import_copies.specs.declared.row_texts.RowTexts.{RowTexts}
 use Rattle.import_entries.specs.declared.rule.EntryRule.{EntryRule}
 use Rattle.import_fates.specs.declared.counts.FateCounts.{FateCounts}
 use Rattle.import_fates.specs.Fates.{faulty}
@@ -37,7 +37,7 @@ faulty_taken remaining source known rest new fault final (inr both) =
     (both.0.more, (both.0.text, both.0.next, record { fields = fields_of (record_in new); fault = fault; of_record = final; why = inr (both.0.gives, both.1) }), both.0.stands)
 
 -- a file is copied whole where all behind its header is
-pub whole : {R : Type 0} (remaining : R → Option (List ℕ)) (asks : ImportRule) (asked : Asked) (columns : Option (List ℕ)) (old mid : Records R) (rule : EntryRule) (keys : List (List ℕ)) (rows : List Row) (start now : Option (List ℕ)) (known : Option KnownRecords) (partition : PartitionText) (answer : Result FateCounts RowFault)
+pub whole : {R : Type 0} (remaining : R → Option (List ℕ)) (asks : ImportRule) (asked : Asked) (columns : Option (List ℕ)) (old mid : Records R) (rule : EntryRule) (keys : List (List ℕ)) (rows : List Row) (start now : List (Option (List ℕ))) (known : Option KnownRecords) (partition : RowTexts) (answer : Result FateCounts RowFault)
     → Asks asks old columns asked
     → ((rest : Rest) → StandsAt remaining old rest → IsPlaced rest asked.fields asked.rule.places.now asked.picks)
     → ((rest more : Rest) → StandsAt remaining old rest → IsBegun rest more → StandsAt remaining mid more)

@@ -2,14 +2,15 @@
 use Rattle.std.proofs.Common.{◌≡◌, ℕ, List, [], ◌∷◌, ◌++◌, Option, Result, Ok, Err, IfOk, false, ap, subst, sym, ◌∙◌}
 use Rattle.import_entries.specs.declared.rule.EntryRule.{EntryRule}
 use Rattle.import_entries.specs.Entries.{place_fault}
-use Rattle.entry_texts.specs.Partitions.{Row, rule_of, times_of}
-use Rattle.entry_texts.specs.declared.partition.PartitionText.{PartitionText}
+use Rattle.entry_texts.specs.Partitions.{Row, times_of}
+use Rattle.import_copies.specs.declared.row_texts.RowTexts.{RowTexts}
 use Rattle.import_fates.specs.Counts.{counts_of}
 use Rattle.import_fates.specs.Fates.{Taken, is_known, fate_by_place, fate_said, fates, keys_seen, keys_with, keys_after, rows_put, rows_with, rows_after}
 use Rattle.import_fates.specs.declared.counts.FateCounts.{FateCounts}
 use Rattle.import_fates.specs.declared.fate.Fate.{Fate}
 use Rattle.import_fates.proofs.Behind.{keys_behind, rows_behind}
-use Rattle.import_copies.specs.Copies.{WritesRows, Takes, Sorts, CopiesAll, CopiesRows}
+use Rattle.import_copies.specs.Copies.{Takes, Sorts, CopiesAll, CopiesRows}
+use Rattle.import_copies.specs.Streams.{WritesRows, rule_of}
 use Rattle.import_copies.specs.Known.{keys_in, key_in}
 use Rattle.import_copies.specs.Outcomes.{fate_of}
 use Rattle.import_copies.specs.Rows.{said_of, good_of}
@@ -19,7 +20,7 @@ use Rattle.import_copies.specs.declared.known.KnownRecords.{KnownRecords}
 use Rattle.import_copies.specs.declared.outcome.Outcome.{Outcome}
 
 -- one more record
-pub one_more : (rule : EntryRule) (keys : List (List ℕ)) (before : List Row) (start now : Option (List ℕ)) (k1 k2 : Option KnownRecords) (p1 p2 : PartitionText) (c1 c2 : FateCounts) (outcome : Outcome) (records : List Taken) (taken : Taken)
+pub one_more : (rule : EntryRule) (keys : List (List ℕ)) (before : List Row) (start now : List (Option (List ℕ))) (k1 k2 : Option KnownRecords) (p1 p2 : RowTexts) (c1 c2 : FateCounts) (outcome : Outcome) (records : List Taken) (taken : Taken)
     → Sorts rule keys before start now k1 p1 c1 records
     → Takes (keys_in k1) (rows_after rule keys before records) start now k2 p2 outcome taken
     → rule_of p2 ≡ rule_of p1
@@ -37,14 +38,14 @@ one_more rule keys before start now k1 k2 p1 p2 c1 c2 outcome records taken s ta
     }
 
 -- and the text is written
-pub written_on : (rule : EntryRule) (keys : List (List ℕ)) (before : List Row) (start mid now : Option (List ℕ)) (k : Option KnownRecords) (p q : PartitionText) (c : FateCounts) (records : List Taken)
+pub written_on : (rule : EntryRule) (keys : List (List ℕ)) (before : List Row) (start mid now : List (Option (List ℕ))) (k : Option KnownRecords) (p q : RowTexts) (c : FateCounts) (records : List Taken)
     → Sorts rule keys before start mid k p c records → rule_of q ≡ rule_of p
     → WritesRows (rows_after rule keys before records) start now q
     → Sorts rule keys before start now k q c records
 written_on rule keys before start mid now k p q c records s e writes = record { ruled = e ∙ s.ruled; seen = s.seen; counted = s.counted; written = writes }
 
 -- no further record
-pub no_more : (rule : EntryRule) (keys : List (List ℕ)) (before : List Row) (start now : Option (List ℕ)) (k1 k2 : Option KnownRecords) (p1 p2 : PartitionText) (c : FateCounts) (records : List Taken)
+pub no_more : (rule : EntryRule) (keys : List (List ℕ)) (before : List Row) (start now : List (Option (List ℕ))) (k1 k2 : Option KnownRecords) (p1 p2 : RowTexts) (c : FateCounts) (records : List Taken)
     → Sorts rule keys before start now k1 p1 c records
     → (keys_in k2 ≡ keys_in k1) × WritesRows (rows_after rule keys before records) start now p2
     → rule_of p2 ≡ rule_of p1
@@ -52,10 +53,10 @@ pub no_more : (rule : EntryRule) (keys : List (List ℕ)) (before : List Row) (s
 no_more rule keys before start now k1 k2 p1 p2 c records s same e = record { ruled = e ∙ s.ruled; seen = same.0 ∙ s.seen; counted = s.counted; written = same.1 }
 
 -- one more file
-pub one_more_file : (rule : EntryRule) (keys : List (List ℕ)) (start mid now : Option (List ℕ)) (k1 k2 : Option KnownRecords) (p1 p2 : PartitionText) (counts : FateCounts)
+pub one_more_file : (rule : EntryRule) (keys : List (List ℕ)) (start mid now : List (Option (List ℕ))) (k1 k2 : Option KnownRecords) (p1 p2 : RowTexts) (counts : FateCounts)
     → rule_of p1 ≡ rule
     → CopiesRows rule keys start mid k1 p1
-    → ((before : List Row) (from : Option (List ℕ)) → WritesRows before from mid p1 → CopiesAll (rule_of p1) (keys_in k1) before from now k2 p2 counts)
+    → ((before : List Row) (from : List (Option (List ℕ))) → WritesRows before from mid p1 → CopiesAll (rule_of p1) (keys_in k1) before from now k2 p2 counts)
     → CopiesRows rule keys start now k2 p2
 one_more_file rule keys start mid now k1 k2 p1 p2 counts e h step =
     let rows = rows_after rule keys [] h.0 in
@@ -65,7 +66,7 @@ one_more_file rule keys start mid now k1 k2 p1 p2 counts e h step =
     (m.0 ++ h.0, s.seen ∙ keys_behind keys m.0 h.0, subst (λ (rs : List Row). WritesRows rs start now p2) (rows_behind rule keys [] m.0 h.0) s.written)
 
 -- a row that is no other's goes where its time has it
-pub placed : (k1 k2 : Option KnownRecords) (places : List ℕ) (fields : List (List ℕ)) (row : GoodRow) (rows : List Row) (start now : Option (List ℕ)) (p1 p2 : PartitionText) (answer : Result Outcome RowFault)
+pub placed : (k1 k2 : Option KnownRecords) (places : List ℕ) (fields : List (List ℕ)) (row : GoodRow) (rows : List Row) (start now : List (Option (List ℕ))) (p1 p2 : RowTexts) (answer : Result Outcome RowFault)
     → is_known (keys_in k1) (key_in k1 places fields) ≡ false
     → keys_in k2 ≡ keys_seen (keys_in k1) (key_in k1 places fields)
     → rule_of p2 ≡ rule_of p1

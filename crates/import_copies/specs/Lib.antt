@@ -6,4 +6,5 @@ pub mod Known
 pub mod Outcomes
 pub mod Refused
 pub mod Rows
+pub mod Streams
 pub mod Told

@@ -1,8 +1,9 @@
-//! From the records of a file to the text of a partition, and to where those go that are no rows of it.
+//! From the records of a file to the text of a partition, or to those of its parts, and to where those go that are no rows of it.
 
-ghost use Rattle.std.specs.Prelude.{◌≡◌, ℕ, List, Option, IfOk};
-ghost use Rattle.entry_texts.specs.Partitions.{Row, rule_of};
-ghost use Rattle.import_copies.specs.Copies.{WritesRows, CopiesFile};
+ghost use Rattle.std.specs.Prelude.{◌≡◌, ℕ, List, Option, IfOk, map};
+ghost use Rattle.entry_texts.specs.Partitions.{Row};
+ghost use Rattle.import_copies.specs.Copies.{CopiesFile};
+ghost use Rattle.import_copies.specs.Streams.{WritesRows, rule_of, dealing_of};
 ghost use Rattle.import_copies.specs.Asking.{asked_of};
 ghost use Rattle.import_copies.specs.Known.{keys_in};
 
@@ -10,8 +11,8 @@ use crate::known::KnownRecords;
 use crate::ledger::Ledger;
 use crate::outcome::fate_of;
 use crate::partition::write_much;
+use crate::row_texts::RowTexts;
 use crate::taking::{Source, take_record};
-use entry_texts::PartitionText;
 use import_fates::FateCounts;
 use imports::{Records, RowFault, RowNumbers};
 use name_table::NameTable;
@@ -30,13 +31,14 @@ pub(crate) fn copy_records<R: Read + Drop, W: Write, L: Write + Drop>(
     source: Source<'_>,
     names: &mut NameTable,
     known: &mut Option<KnownRecords>,
-    partition: &mut PartitionText,
+    partition: &mut RowTexts,
     ledger: &mut Ledger<L>,
-    out: &mut W,
+    outs: &mut [W],
 ) -> Result<FateCounts, RowFault>
     ensures rule { rule_of partition.new ≡ rule_of partition.old }
-    ensures sorts { (before : List Row) (start : Option (List ℕ)) → WritesRows before start (W.contents out.old) partition.old
-        → IfOk result (λ counts. CopiesFile R.remaining (asked_of source.entry known.old) rows.old (rule_of partition.old) (keys_in known.old) before start (W.contents out.new) known.new partition.new counts) }
+    ensures dealing { dealing_of partition.new ≡ dealing_of partition.old }
+    ensures sorts { (before : List Row) (start : List (Option (List ℕ))) → WritesRows before start (map W.contents outs.old) partition.old
+        → IfOk result (λ counts. CopiesFile R.remaining (asked_of source.entry known.old) rows.old (rule_of partition.old) (keys_in known.old) before start (map W.contents outs.new) known.new partition.new counts) }
 {
     let mut numbers = RowNumbers::new(alloc);
     let mut counts = FateCounts::new();
@@ -47,7 +49,7 @@ pub(crate) fn copy_records<R: Read + Drop, W: Write, L: Write + Drop>(
         };
         counts.add(fate_of(outcome));
         ledger.take(source, rows, numbers.numbers(), outcome)?;
-        write_much(partition, out)?;
+        write_much(partition, outs)?;
     }
     Err(RowFault::Read)
 }

@@ -1,17 +1,19 @@
 //! An import of files.
 
-ghost use Rattle.std.specs.Prelude.{◌≡◌, ◌<◌, ℕ, List, Option, [], IfOk, OnOk};
-ghost use Rattle.entry_texts.specs.Partitions.{Row, rule_of};
-ghost use Rattle.import_copies.specs.Copies.{WritesRows, CopiesAll, CopiesWhole, WritesSorted};
+ghost use Rattle.std.specs.Prelude.{◌≡◌, ◌<◌, ℕ, List, Option, [], IfOk, OnOk, map};
+ghost use Rattle.entry_texts.specs.Partitions.{Row};
+ghost use Rattle.import_copies.specs.Copies.{CopiesAll, CopiesWhole, WritesSorted};
 ghost use Rattle.import_copies.specs.Known.{keys_in, columns_in};
+ghost use Rattle.import_copies.specs.Streams.{WritesRows, rule_of, dealing_of};
 
 use crate::copying::copy_records;
 use crate::known::KnownRecords;
 use crate::ledger::Ledger;
 use crate::partition::write_end;
+use crate::row_texts::RowTexts;
 use crate::taking::Source;
+use dealt_texts::Dealing;
 use decimal_texts::DecimalPoint;
-use entry_texts::PartitionText;
 use import_columns::Column;
 use import_entries::EntryRule;
 use import_fates::FateCounts;
@@ -55,6 +57,8 @@ pub struct ImportRule<'i> {
     pub entries: EntryRule,
     /// What tells records from one another, if anything does: of those that are the same the first is a row.
     pub once: Option<OnceRule<'i>>,
+    /// How the rows are dealt out to the parts of the input, if they are: then there is a stream for each part, and else one.
+    pub dealing: Option<Dealing>,
 }
 
 fn open_fault(alloc: Global, path: &str, error: &io::Error) -> ImportFault {
@@ -64,11 +68,14 @@ fn open_fault(alloc: Global, path: &str, error: &io::Error) -> ImportFault {
     }
 }
 
-fn put<W: Write>(out: &mut W, text: &str) -> Result<(), ImportFault> {
-    match out.write_all(text.as_bytes()) {
-        Ok(()) => Ok(()),
-        Err(_) => Err(ImportFault::Write),
+/// Writes the same to each stream.
+fn put<W: Write>(outs: &mut [W], text: &str) -> Result<(), ImportFault> {
+    for place in 0..outs.len() {
+        if outs[place].write_all(text.as_bytes()).is_err() {
+            return Err(ImportFault::Write);
+        }
     }
+    Ok(())
 }
 
 /// How many entries of so many rows at most begin with rows that come behind others.
@@ -87,15 +94,16 @@ fn copy_rows<'f, R: Read + Drop, W: Write, L: Write + Drop>(
     file: &'f str,
     rows: &mut Records<R>,
     first: &mut Option<FirstHeader<'f>>,
-    partition: &mut PartitionText,
+    partition: &mut RowTexts,
     known: &mut Option<KnownRecords>,
     names: &mut NameTable,
     ledger: &mut Ledger<L>,
-    out: &mut W,
+    outs: &mut [W],
 ) -> Result<FateCounts, RowFault>
     ensures rule { rule_of partition.new ≡ rule_of partition.old }
-    ensures sorts { (before : List Row) (start : Option (List ℕ)) → WritesRows before start (W.contents out.old) partition.old
-        → IfOk result (λ counts. CopiesWhole R.remaining rule.entry (columns_in known.old) rows.old (rule_of partition.old) (keys_in known.old) before start (W.contents out.new) known.new partition.new counts) }
+    ensures dealing { dealing_of partition.new ≡ dealing_of partition.old }
+    ensures sorts { (before : List Row) (start : List (Option (List ℕ))) → WritesRows before start (map W.contents outs.old) partition.old
+        → IfOk result (λ counts. CopiesWhole R.remaining rule.entry (columns_in known.old) rows.old (rule_of partition.old) (keys_in known.old) before start (map W.contents outs.new) known.new partition.new counts) }
 {
     let point = rows.point_by(rule.point);
     let fields = fields_of(alloc, rule.columns)?;
@@ -109,7 +117,7 @@ fn copy_rows<'f, R: Read + Drop, W: Write, L: Write + Drop>(
         point,
         time: rule.time,
     };
-    copy_records(alloc, rows, source, names, known, partition, ledger, out)
+    copy_records(alloc, rows, source, names, known, partition, ledger, outs)
 }
 
 /// How many records of a file went where, and how many lines it has.
@@ -125,15 +133,16 @@ fn copy_file<'f, R: Files + AllocGlobal, W: Write, L: Write + Drop>(
     rule: ImportRule<'_>,
     file: &'f str,
     first: &mut Option<FirstHeader<'f>>,
-    partition: &mut PartitionText,
+    partition: &mut RowTexts,
     known: &mut Option<KnownRecords>,
     names: &mut NameTable,
     ledger: &mut Ledger<L>,
-    out: &mut W,
+    outs: &mut [W],
 ) -> Result<FileCounts, ImportFault>
     ensures rule { rule_of partition.new ≡ rule_of partition.old }
-    ensures sorts { (before : List Row) (start : Option (List ℕ)) → WritesRows before start (W.contents out.old) partition.old
-        → IfOk result (λ told. CopiesAll (rule_of partition.old) (keys_in known.old) before start (W.contents out.new) known.new partition.new told.counts) }
+    ensures dealing { dealing_of partition.new ≡ dealing_of partition.old }
+    ensures sorts { (before : List Row) (start : List (Option (List ℕ))) → WritesRows before start (map W.contents outs.old) partition.old
+        → IfOk result (λ told. CopiesAll (rule_of partition.old) (keys_in known.old) before start (map W.contents outs.new) known.new partition.new told.counts) }
 {
     let opened = match File::open(rt, file) {
         Ok(opened) => opened,
@@ -152,7 +161,7 @@ fn copy_file<'f, R: Files + AllocGlobal, W: Write, L: Write + Drop>(
         known,
         names,
         ledger,
-        out,
+        outs,
     ) {
         Ok(counts) => Ok(FileCounts {
             counts,
@@ -170,8 +179,8 @@ fn copy_file<'f, R: Files + AllocGlobal, W: Write, L: Write + Drop>(
     }
 }
 
-/// Writes the records of files, behind one another, as a partition: those that are rows, in order. Each file is open only while it is
-/// read.
+/// Writes the records of files, behind one another, as a partition: those that are rows, in order, each to the stream of the part that
+/// it goes to, or all to the one stream. Each file is open only while it is read.
 ///
 /// # Errors
 ///
@@ -183,11 +192,11 @@ pub fn import_partition<R: Files + AllocGlobal, W: Write, L: Write + Drop>(
     known: &mut Option<KnownRecords>,
     names: &mut NameTable,
     ledger: &mut Ledger<L>,
-    out: &mut W,
+    outs: &mut [W],
 ) -> Result<(), ImportFault>
-    ensures { OnOk result (WritesSorted rule.entry.entries (keys_in known.old) (W.contents out.old) (W.contents out.new) known.new) }
+    ensures { OnOk result (WritesSorted rule.entry.entries rule.entry.dealing (keys_in known.old) (map W.contents outs.old) (map W.contents outs.new) known.new) }
 {
-    let mut partition = PartitionText::new(rt.alloc(), rule.entries);
+    let mut partition = RowTexts::new(rt.alloc(), rule.entries, rule.dealing)?;
     let mut first = None;
     let mut before = 0u64;
     for file in files {
@@ -202,14 +211,14 @@ pub fn import_partition<R: Files + AllocGlobal, W: Write, L: Write + Drop>(
             known,
             names,
             ledger,
-            out,
+            outs,
         )?;
         let rows = told.counts.written;
         let entries = entries_begun(before, rows, rule.entries.most_rows);
         ledger.end_file(file, told.lines, told.counts, entries)?;
         before = before.saturating_add(rows);
     }
-    match write_end(&mut partition, out) {
+    match write_end(&mut partition, outs) {
         Ok(()) => Ok(()),
         Err(RowFault::Memory) => Err(ImportFault::Memory),
         Err(_) => Err(ImportFault::Write),
@@ -237,18 +246,18 @@ fn import_source<R: Files + AllocGlobal, W: Write, L: Write + Drop>(
     source: &SourceSpec,
     names: &mut NameTable,
     ledger: &mut Ledger<L>,
-    out: &mut W,
+    outs: &mut [W],
 ) -> Result<(), ImportFault> {
     let partitions = files_of(rt.alloc(), rule.words, source)?;
     let mut known = known_records(rt.alloc(), rule.once)?;
     ledger.begin_source();
     let mut is_first = true;
     for files in &partitions {
-        put(out, if is_first { "[" } else { "," })?;
-        import_partition(rt, rule, files, &mut known, names, ledger, out)?;
+        put(outs, if is_first { "[" } else { "," })?;
+        import_partition(rt, rule, files, &mut known, names, ledger, outs)?;
         is_first = false;
     }
-    put(out, "]")
+    put(outs, "]")
 }
 
 /// Writes the sources of an input.
@@ -257,21 +266,22 @@ fn import_sources<R: Files + AllocGlobal, W: Write, L: Write + Drop>(
     rule: ImportRule<'_>,
     names: &mut NameTable,
     ledger: &mut Ledger<L>,
-    out: &mut W,
+    outs: &mut [W],
 ) -> Result<(), ImportFault> {
     let mut is_first = true;
     for source in rule.sources {
-        put(out, if is_first { "{\"" } else { ",\"" })?;
-        put(out, source.uid.as_str())?;
-        put(out, "\":")?;
-        import_source(rt, rule, source, names, ledger, out)?;
+        put(outs, if is_first { "{\"" } else { ",\"" })?;
+        put(outs, source.uid.as_str())?;
+        put(outs, "\":")?;
+        import_source(rt, rule, source, names, ledger, outs)?;
         is_first = false;
     }
-    put(out, "}\n")
+    put(outs, "}\n")
 }
 
 /// Writes an input of files: for each source of a plan its partitions, as words that [`check_sources`](import_words::check_sources) takes name them.
-/// Records that are no rows go where the ledger has a place for them.
+/// Records that are no rows go where the ledger has a place for them. Where rows are dealt out, there is a stream for each part, and
+/// each gets the text of its part; else there is one stream.
 ///
 /// # Errors
 ///
@@ -282,8 +292,8 @@ pub fn import_files<R: Files + AllocGlobal, W: Write, L: Write + Drop>(
     rule: ImportRule<'_>,
     names: &mut NameTable,
     ledger: &mut Ledger<L>,
-    out: &mut W,
+    outs: &mut [W],
 ) -> Result<(), ImportFault> {
-    let end = import_sources(rt, rule, names, ledger, out);
+    let end = import_sources(rt, rule, names, ledger, outs);
     ledger.answer(end)
 }

@@ -14,6 +14,7 @@ mod outcome;
 mod partition;
 mod refusals;
 mod row;
+mod row_texts;
 mod taking;
 
 pub use files::{ImportRule, OnceRule, import_files, import_partition};

@@ -1,23 +1,24 @@
 //! A record, from the file to where it goes.
 
 ghost use Rattle.std.specs.Prelude.{◌≡◌, ℕ, List, Option, IfOk};
-ghost use Rattle.entry_texts.specs.Partitions.{Row, rule_of};
-ghost use Rattle.import_copies.specs.Copies.{WritesRows, Takes, TakesNext};
+ghost use Rattle.entry_texts.specs.Partitions.{Row};
+ghost use Rattle.import_copies.specs.Copies.{Takes, TakesNext};
 ghost use Rattle.imports.specs.Reading.{Rest, StandsAt};
 ghost use Rattle.import_copies.specs.Asking.{asked_of};
 ghost use Rattle.import_copies.specs.Files.{ReadsRow};
 ghost use Rattle.import_copies.specs.Known.{keys_in, columns_in};
 ghost use Rattle.csv.specs.Records.{fields_of};
 ghost use Rattle.import_copies.specs.Rows.{good_of, rule_in, MakesRow};
+ghost use Rattle.import_copies.specs.Streams.{WritesRows, rule_of, dealing_of};
 
 use crate::known::{KnownRecords, known_before};
 use crate::outcome::{Outcome, is_final};
 use crate::partition::put;
 use crate::row::{GoodRow, good_row};
+use crate::row_texts::RowTexts;
 use asked_fields::AskedField;
 use csv::ByteRecord;
 use decimal_texts::DecimalPoint;
-use entry_texts::PartitionText;
 use import_columns::Column;
 use imports::{Pick, Records, RowFault, RowNumbers, RowRule, fill_row};
 use name_table::NameTable;
@@ -102,11 +103,12 @@ fn place_row(
     fields: &ByteRecord,
     places: &[usize],
     known: &mut Option<KnownRecords>,
-    partition: &mut PartitionText,
+    partition: &mut RowTexts,
 ) -> Result<Outcome, RowFault>
     ensures rule { rule_of partition.new ≡ rule_of partition.old }
+    ensures dealing { dealing_of partition.new ≡ dealing_of partition.old }
     ensures columns { columns_in known.new ≡ columns_in known.old }
-    ensures takes { (rows : List Row) (start : Option (List ℕ)) (now : Option (List ℕ)) → WritesRows rows start now partition.old
+    ensures takes { (rows : List Row) (start : List (Option (List ℕ))) (now : List (Option (List ℕ))) → WritesRows rows start now partition.old
         → IfOk result (λ outcome. Takes (keys_in known.old) rows start now known.new partition.new outcome (good_of known.old places.now (fields_of fields.now) row.entry)) }
 {
     match known_before(known, places, fields)? {
@@ -126,11 +128,12 @@ pub(crate) fn take_record<R: Read + Drop>(
     names: &mut NameTable,
     numbers: &mut RowNumbers,
     known: &mut Option<KnownRecords>,
-    partition: &mut PartitionText,
+    partition: &mut RowTexts,
 ) -> Result<Option<Outcome>, RowFault>
     ensures rule { rule_of partition.new ≡ rule_of partition.old }
+    ensures dealing { dealing_of partition.new ≡ dealing_of partition.old }
     ensures columns { columns_in known.new ≡ columns_in known.old }
-    ensures takes { (before : List Row) (start : Option (List ℕ)) (now : Option (List ℕ)) → WritesRows before start now partition.old
+    ensures takes { (before : List Row) (start : List (Option (List ℕ))) (now : List (Option (List ℕ))) → WritesRows before start now partition.old
         → IfOk result (λ outcome. TakesNext R.remaining (asked_of source.entry known.old) rows.old rows.new (keys_in known.old) before start now known.new partition.new outcome) }
 {
     match next_row(rows, source, names, numbers) {

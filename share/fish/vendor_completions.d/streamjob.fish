@@ -42,6 +42,7 @@ complete -c streamjob -n '__fish_seen_subcommand_from import' -l once -r -d 'Fie
 complete -c streamjob -n '__fish_seen_subcommand_from import' -l twice -r -d 'File to write the others of those to; without it the first is refused' -F
 complete -c streamjob -n '__fish_seen_subcommand_from import' -l zone -r -d 'Zone of the times that have none, as Europe/Berlin' -f
 complete -c streamjob -n '__fish_seen_subcommand_from import' -l fold -r -d 'Which instant of a time that its clocks show twice or never: first or second; without it the record is bad' -f
+complete -c streamjob -n '__fish_seen_subcommand_from import' -l ranges -r -d 'Write N inputs INPUT.0, INPUT.1 .. in place of INPUT, as `split` deals it out' -f
 complete -c streamjob -n '__fish_seen_subcommand_from import' -l report -r -d 'File to write to how many records of each file went where' -F
 complete -c streamjob -n '__fish_seen_subcommand_from import' -l zones -r -d 'Folder of the time zones (/usr/share/zoneinfo)' -F
 complete -c streamjob -n '__fish_seen_subcommand_from import' -l separator -r -d 'What stands between the fields of CSV: one character, or `tab` (,)' -f

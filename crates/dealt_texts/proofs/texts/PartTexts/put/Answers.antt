@@ -1,4 +1,4 @@
-use Rattle.std.proofs.Common.{◌≡◌, ℕ, ◌<◌, ◌==◌, List, [], ◌∷◌, ◌++◌, None, length, ap, subst, sym, refl, ◌∙◌, arith}
+use Rattle.std.proofs.Common.{◌≡◌, ℕ, ◌<◌, ◌==◌, [], ◌∷◌, ◌++◌, None, length, ap, subst, sym, refl, ◌∙◌, arith}
 use Rattle.std.specs.Int.{w64}
 use Rattle.std.proofs.lemmas.Int.{to_z-of_z}
 use Rattle.std.proofs.lemmas.List.{with_items_is}
@@ -6,7 +6,6 @@ use Rattle.std.specs.Vec.{with_items}
 use Rattle.import_entries.specs.Entries.{place_fault, progress_of}
 use Rattle.entry_texts.specs.Partitions.{Row, times_of}
 use Rattle.dealt_texts.specs.Dealing.{owner_of}
-use Rattle.dealt_texts.specs.Parts.{Growing}
 use Rattle.dealt_texts.specs.Steps.{Each, text_at, placed, dealt}
 use Rattle.dealt_texts.specs.Texts.{behind, part_of_rows}
 use Rattle.dealt_texts.proofs.Putting.{texts_put}

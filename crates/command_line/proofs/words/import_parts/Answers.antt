@@ -1,0 +1,5 @@
+use Rattle.command_line.proofs.Shapes.{last}
+use Rattle.command_line.proofs.words.import_parts.Goals as goal
+
+pub returns : goal.returns
+returns c = last _ _ _ _ c.option.ensures c.in_ok-command.ensures
