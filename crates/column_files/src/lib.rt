@@ -5,4 +5,4 @@ mod lines;
 mod text;
 
 pub use lines::columns_of_lines;
-pub use text::columns_text;
+pub use text::{columns_text, names_file};

@@ -15,7 +15,7 @@ use std::rt::Files;
 const MOST_BYTES: u64 = 1 << 20;
 
 /// Whether a word names a file: it begins with `@`, and is not a list of columns of which the first does so.
-fn names_file(word: &str) -> bool
+pub fn names_file(word: &str) -> bool
     ensures { result ≡ names_file word.now }
 {
     let bytes = word.as_bytes();

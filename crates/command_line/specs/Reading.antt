@@ -25,7 +25,7 @@ name_of (Leg _) = codes "leg"
 name_of (Cuts _ _ _ _) = codes "cuts"
 name_of (Layout _ _) = codes "layout"
 name_of (Check _) = codes "check"
-name_of (Import _ _) = codes "import"
+name_of (Import _) = codes "import"
 name_of (Split _) = codes "split"
 name_of (Export _ _) = codes "export"
 name_of (Diff _) = codes "diff"
@@ -45,10 +45,10 @@ pub record IsFlag (words : Found) (name : List ℕ) (is_there : Bool) : Type 0 w
   pub given : one_text words name ≡ Some (codes "true") → is_there ≡ true
   pub other : one_text words name ≡ Some (codes "false") → is_there ≡ false
 
--- the words of an import behind its plan's, each by its name
+-- the words of an import, each by its name
 abbrev pub HasImportWords : Found → ImportWords → Type 0
 HasImportWords words said =
-    (said.input.now ≡ word words (codes "INPUT")) × (said.columns.now ≡ word words (codes "COLUMNS")) × (map (λ w. w.now) said.sources.now ≡ words_under words (codes "SOURCE"))
+    (said.plan.now ≡ word words (codes "PLAN")) × (said.input.now ≡ word words (codes "INPUT")) × (said.columns.now ≡ word words (codes "COLUMNS")) × (map (λ w. w.now) said.sources.now ≡ words_under words (codes "SOURCE"))
     × (option_map (λ w. w.now) said.names ≡ first_value words (codes "names")) × (option_map (λ w. w.now) said.bound ≡ first_value words (codes "bound"))
     × (option_map (λ w. w.now) said.late ≡ first_value words (codes "late")) × (option_map (λ w. w.now) said.rows ≡ first_value words (codes "rows"))
     × (option_map (λ w. w.now) said.bad ≡ first_value words (codes "bad")) × (option_map (λ w. w.now) said.once ≡ first_value words (codes "once"))
@@ -108,7 +108,7 @@ HasWords words (Cuts plan input until stays_open) =
     (plan.now ≡ word words (codes "PLAN")) × (input.now ≡ word words (codes "INPUT")) × (option_map (λ w. w.now) until ≡ first_value words (codes "until")) × IsFlag words (codes "open") stays_open
 HasWords words (Layout plan scale) = (plan.now ≡ word words (codes "PLAN")) × (scale.now ≡ word words (codes "SCALE"))
 HasWords words (Check said) = HasCheckWords words said
-HasWords words (Import plan said) = (plan.now ≡ word words (codes "PLAN")) × HasImportWords words said
+HasWords words (Import said) = HasImportWords words said
 HasWords words (Split said) = HasSplitWords words said
 HasWords words (Export plan said) = (plan.now ≡ word words (codes "PLAN")) × HasExportWords words said
 HasWords words (Diff said) = (said.old.now ≡ word words (codes "OLD")) × (said.new.now ≡ word words (codes "NEW"))

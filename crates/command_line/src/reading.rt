@@ -17,11 +17,12 @@ fn named<'a>(words: &ArgMatches<'a>, name: &str) -> &'a str
     words.get_str(name).unwrap_or("")
 }
 
-/// The words of an import behind its plan's.
+/// The words of an import.
 fn import_words<'m>(words: &'m ArgMatches<'_>) -> ImportWords<'m>
     ensures { HasImportWords (found_of words.now) result }
 {
     ImportWords {
+        plan: named(words, "PLAN"),
         input: named(words, "INPUT"),
         columns: named(words, "COLUMNS"),
         sources: words.get_strs("SOURCE").unwrap_or(&[]),
@@ -131,7 +132,6 @@ fn command_in<'m>(name: &str, words: &'m ArgMatches<'_>) -> Option<Command<'m>>
 {
     if name == "import" {
         return Some(Command::Import {
-            plan: named(words, "PLAN"),
             words: import_words(words),
         });
     }

@@ -43,7 +43,6 @@ pub enum Command<'a> {
     },
     /// Write an input of a plan from CSV or NDJSON files.
     Import {
-        plan: &'a str,
         words: ImportWords<'a>,
     },
     /// Write the parts of an input, so that several jobs come to the rows of one.

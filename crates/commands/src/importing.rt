@@ -49,12 +49,11 @@ fn after_import(answer: Result<(), ImportFault>) -> Result<(), CommandFault>
 /// `Read` where the plan's file cannot be read, else the fault of the plan, else that of the import.
 pub fn import<R: Files + Print + RandomSource + AllocGlobal>(
     rt: &R,
-    plan: &str,
     words: &ImportWords<'_>,
 ) -> Result<(), CommandFault>
     ensures { AnswersImport result }
 {
-    match plan_at(rt, plan) {
+    match plan_at(rt, words.plan) {
         Ok(plan) => after_import(import_command::import(rt, &plan, words)),
         Err(fault) => Err(CommandFault::Job(fault)),
     }

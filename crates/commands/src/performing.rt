@@ -50,7 +50,7 @@ pub fn performed<
         } => after_job(cuts(rt, plan, input, *until, *stays_open)),
         Command::Layout { plan, scale } => after_job(layout(rt, plan, scale)),
         Command::Check { words } => after_job(check(rt, words)),
-        Command::Import { plan, words } => import(rt, plan, words),
+        Command::Import { words } => import(rt, words),
         Command::Split { words } => after_job(split(rt, words)),
         Command::Export { plan, words } => export(rt, plan, words),
         Command::Diff { words } => diff(rt, words),

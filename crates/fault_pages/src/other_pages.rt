@@ -97,17 +97,18 @@ F1 Read no-such-file.csv
 Standard output took no more: the disk is full, or the other end of a pipe is closed. How much of the answer was taken
 is not known. `leg --save` also says it where the file cannot be written: a folder stands there, its folder is missing
 or takes no files of yours, or the disk is full. Then no row was printed, and the file is as it was. So does `import`,
-of INPUT and of the files of `--names` and `--late`; and where one of them is named twice, or is a file of a source too,
-since one would be written over the other; with `--ranges` of the parts' files. `split` says it of a part's file that
-cannot be written, or is PLAN or INPUT. Two names of one file are not told apart there. `leg` and `run` say it, before
-anything is read, of a file of `--save` or `--receipt` that is PLAN, INPUT, SCALE or another file that they read; only
-the next savepoint may take the name of that of `--from`, and the next receipt that of `--since`. `leg --save FILE >
-FILE` is refused so before anything is written, by each name of the file but a hard link.
+of INPUT, with `--ranges` of the parts' files, and of those of `--names`, `--late`, `--twice`, `--bad` and `--report`;
+and where one of them is named twice, or is PLAN, the file of the columns or one of a source, since it would be written
+over. `split` says it of a part's file that cannot be written, or is PLAN or INPUT. Two names of one file are not told
+apart there. `leg` and `run` say it, before anything is read, of a file of `--save` or `--receipt` that is PLAN, INPUT,
+SCALE or another file that they read; only the next savepoint may take the name of that of `--from`, and the next
+receipt that of `--since`. `leg --save FILE > FILE` is refused so before anything is written, by each name of the file
+but a hard link.
 
 What is no regular file of a name of its own is written to as it stands, behind what it holds: a pipe, a device,
 `/dev/stdout`. Any other file is written beside, as `FILE.NUMBER.part`, and takes its name once it is on the disk. Where
 a limit of the size of files (`ulimit -f`) is met, the system ends the program by the signal SIGXFSZ: nothing is told,
-the file is as it was, and the part stays beside it, as it does after `kill -9`. Remove it.
+the file is as it was, and the part stays beside it, as it does after `kill -9` and other signals. Remove it.
 
 ```console
 $ streamjob import plan.json no-such-folder/new.json at,key calls=calls.csv

@@ -3,7 +3,7 @@
 ghost use Rattle.std.specs.Prelude.{◌≡◌};
 ghost use Rattle.std.specs.List.{list_any};
 ghost use Rattle.import_words.specs.Judging.{IsRefusal, Judges};
-ghost use Rattle.import_command.specs.Apart.{is_device, has_file, names_file, is_read, may_write, is_path, may_write_behind, are_apart, is_apart};
+ghost use Rattle.import_command.specs.Apart.{is_device, has_file, names_file, is_source, has_columns, is_read, may_write, is_path, may_write_behind, are_apart, is_apart};
 
 use crate::input_files::path_of_part;
 use crate::words::ImportWords;
@@ -36,10 +36,27 @@ fn names_file(word: &str, path: &str) -> bool
 }
 
 /// Whether words of sources name a file.
-fn is_read(sources: &[&str], path: &str) -> bool
-    ensures { result ≡ is_read sources.now path.now }
+fn is_source(sources: &[&str], path: &str) -> bool
+    ensures { result ≡ is_source sources.now path.now }
 {
     sources.iter().any(|word| names_file(word, path))
+}
+
+/// Whether the columns stand in a file.
+fn has_columns(columns: &str, path: &str) -> bool
+    ensures { result ≡ has_columns columns.now path.now }
+{
+    match columns.strip_prefix("@") {
+        Some(file) => column_files::names_file(columns) && file == path,
+        None => false,
+    }
+}
+
+/// Whether words name a file that is read: the plan's, that of the columns, or one of a source.
+fn is_read(words: &ImportWords<'_>, path: &str) -> bool
+    ensures { result ≡ is_read words.now path.now }
+{
+    words.plan == path || has_columns(words.columns, path) || is_source(words.sources, path)
 }
 
 fn refused_file(alloc: Global, path: &str, why: &str) -> ImportFault
@@ -48,20 +65,20 @@ fn refused_file(alloc: Global, path: &str, why: &str) -> ImportFault
     refused(ImportCode::Write, format!(in alloc; "{path}: {why}"))
 }
 
-/// Refuses to write a file that words of sources name, or that is written already. What a device takes, as `/dev/null`, is lost
+/// Refuses to write a file that is read, or that is written already. What a device takes, as `/dev/null`, is lost
 /// in no file.
 fn check_file(
     alloc: Global,
-    sources: &[&str],
+    words: &ImportWords<'_>,
     path: &str,
     is_written: bool,
 ) -> Result<(), ImportFault>
-    ensures { Judges (may_write sources.now path.now is_written) ImportCode.Write result }
+    ensures { Judges (may_write words.now path.now is_written) ImportCode.Write result }
 {
     if is_device(path) {
         return Ok(());
     }
-    if is_read(sources, path) {
+    if is_read(words, path) {
         return Err(refused_file(alloc, path, "the import reads it too"));
     }
     if is_written {
@@ -87,17 +104,17 @@ fn is_one_of(before: &[Option<&str>], path: &str) -> bool
     before.iter().any(|other| is_path(*other, path))
 }
 
-/// Refuses to write a file, if there is one, that words of sources name, or that is one of those before.
+/// Refuses to write a file, if there is one, that is read, or that is one of those before.
 fn check_behind(
     alloc: Global,
-    sources: &[&str],
+    words: &ImportWords<'_>,
     before: &[Option<&str>],
     path: Option<&str>,
 ) -> Result<(), ImportFault>
-    ensures { Judges (may_write_behind sources.now before.now path.entry) ImportCode.Write result }
+    ensures { Judges (may_write_behind words.now before.now path.entry) ImportCode.Write result }
 {
     match path {
-        Some(path) => check_file(alloc, sources, path, is_one_of(before, path)),
+        Some(path) => check_file(alloc, words, path, is_one_of(before, path)),
         None => Ok(()),
     }
 }
@@ -110,19 +127,18 @@ fn check_behind(
 pub(crate) fn check_apart(alloc: Global, words: &ImportWords<'_>) -> Result<(), ImportFault>
     ensures { Judges (are_apart words.now) ImportCode.Write result }
 {
-    let sources = words.sources;
     let input = Some(words.input);
     let (late, twice, bad) = (words.late, words.twice, words.bad);
-    check_behind(alloc, sources, &[], input)?;
-    check_behind(alloc, sources, &[input], late)?;
-    check_behind(alloc, sources, &[input, late], twice)?;
-    check_behind(alloc, sources, &[input, late, twice], bad)?;
-    check_behind(alloc, sources, &[input, late, twice, bad], words.report)?;
+    check_behind(alloc, words, &[], input)?;
+    check_behind(alloc, words, &[input], late)?;
+    check_behind(alloc, words, &[input, late], twice)?;
+    check_behind(alloc, words, &[input, late, twice], bad)?;
+    check_behind(alloc, words, &[input, late, twice, bad], words.report)?;
     let before = [input, late, twice, bad, words.report];
-    check_behind(alloc, sources, &before, words.names)
+    check_behind(alloc, words, &before, words.names)
 }
 
-/// Refuses to write the file of a part that words of sources name, or that is written for something else.
+/// Refuses to write the file of a part that is read, or that is written for something else.
 fn check_part(alloc: Global, words: &ImportWords<'_>, path: &str) -> Result<(), ImportFault>
     ensures { Judges (is_apart words.now path.now) ImportCode.Write result }
 {
@@ -133,7 +149,7 @@ fn check_part(alloc: Global, words: &ImportWords<'_>, path: &str) -> Result<(), 
         words.report,
         words.names,
     ];
-    check_file(alloc, words.sources, path, is_one_of(&others, path))
+    check_file(alloc, words, path, is_one_of(&others, path))
 }
 
 /// The same of each part, if an input is dealt out to parts.

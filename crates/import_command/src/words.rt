@@ -20,9 +20,11 @@ use key_groups::{MOST_SUBTASKS, MaxParallelism, Parallelism};
 use plan_model::{Plan, WindowSpec};
 use std::alloc::Global;
 
-/// The words of an import, behind that of its plan.
+/// The words of an import.
 #[derive(Clone, Copy)]
 pub struct ImportWords<'a> {
+    /// The file of the plan.
+    pub plan: &'a str,
     /// The file of the input that is written.
     pub input: &'a str,
     /// What each number of a record is.
