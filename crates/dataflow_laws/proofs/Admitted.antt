@@ -5,13 +5,13 @@ use Rattle.std.proofs.lemmas.Bool.{cases_Bool}
 use Rattle.std.proofs.lemmas.List.{length-append, take_all}
 use Rattle.std.proofs.lemmas.List.Elements.{All-weaker}
 use Rattle.plain_data.specs.Record.{Record, at}
-use Rattle.plain_data.specs.Times.{lowest}
 use Rattle.plan_model.specs.PlanData.{PlanData}
 use Rattle.plan_model.specs.Windows.{IsTime}
 use Rattle.plan_model.specs.declared.limits.TheConstants.{MOST_RECORDS}
 use Rattle.stream_model.specs.declared.entry.Entry.{Entry}
+use Rattle.stream_model.specs.declared.entry.Marked.{Marked}
 use Rattle.stream_model.specs.declared.entry.Entry.TheVariants as entry
-use Rattle.stream_model.specs.InputData.{InputData, IsEntry, IsInput, BelongsTo, partition_at, records_of_entry, records_in, records_in_source, all_records}
+use Rattle.stream_model.specs.InputData.{InputData, IsEntry, IsEntryOf, IsInput, BelongsTo, partition_at, no_entry, records_of_entry, records_in, records_in_source, all_records}
 use Rattle.stream_model.specs.Watermarks.{IsCut, records_before, records_before_in, full_cut}
 use Rattle.dataflow_model.specs.declared.role.Role.{Role}
 use Rattle.dataflow_model.specs.declared.role.Role.TheVariants.{Source, Chain, Window, Sink}
@@ -30,16 +30,16 @@ use Rattle.input_flow.specs.InputEntries.{message_of, entry_at, input_of, counts
 use Rattle.dataflow_laws.specs.Inputs.{InputIsAdmitted}
 use Rattle.input_flow.proofs.Facts.{at_or, partition_has, records_dealt, full_is_cut, full_counts}
 
-admitted : (p : PlanData) (i : InputData) → BelongsTo p i → (e : Entry) → IsEntry i.columns i.time e → FitsPlan p (message_of e)
+admitted : (p : PlanData) (i : InputData) → BelongsTo p i → (e : Entry) → IsEntryOf i.columns i.time e → FitsPlan p (message_of e)
 admitted p i belongs (entry.Rows t) h = (h.0 ∙ belongs.columns, subst (λ c. All (λ r. IsTime (at c r)) t.rows) belongs.time h.1)
 admitted p i belongs (entry.Watermark t) h = tt
 
-each_admitted : (p : PlanData) (i : InputData) → IsInput i → BelongsTo p i → (x k n : ℕ) → FitsPlan p (message_of (entry_at i x k n))
+each_admitted : (p : PlanData) (i : InputData) → IsInput i → BelongsTo p i → (x k n : ℕ) → FitsPlan p (message_of (entry_at i x k n).entry)
 each_admitted p i input belongs x k n =
-    let P : Entry → Type 0 = λ e. FitsPlan p (message_of e) in
-    let Q : Entry → Type 0 = IsEntry i.columns i.time in
-    at_or P (partition_at i.sources x k) n (entry.Watermark lowest) tt
-    (All-weaker Q P (admitted p i belongs) (partition_at i.sources x k) (partition_has i Q input.entries x k))
+    let P : Marked → Type 0 = λ m. FitsPlan p (message_of m.entry) in
+    let Q : Marked → Type 0 = IsEntry i.columns i.time in
+    at_or P (partition_at i.sources x k) n no_entry tt
+    (All-weaker Q P (λ m h. admitted p i belongs m.entry h.0) (partition_at i.sources x k) (partition_has i Q input.entries x k))
 
 -- ---- how many records
 
@@ -51,11 +51,11 @@ all_kept : (rs : List Record) → filter (λ r. true) rs ≡ rs
 all_kept [] = refl
 all_kept (r ∷ rs) = ap (λ l. r ∷ l) (all_kept rs)
 
-whole_source : (ps : List (List Entry)) → records_before_in ps (map (λ p. length p) ps) ≡ records_in_source ps
+whole_source : (ps : List (List Marked)) → records_before_in ps (map (λ p. length p) ps) ≡ records_in_source ps
 whole_source [] = refl
 whole_source (p ∷ ps) = λ j. records_in (take_all (length p) p (omega arith) j) ++ whole_source ps j
 
-whole : (ss : List (List (List Entry))) → records_before ss (full_cut ss) ≡ all_records ss
+whole : (ss : List (List (List Marked))) → records_before ss (full_cut ss) ≡ all_records ss
 whole [] = refl
 whole (s ∷ ss) = λ j. whole_source s j ++ whole ss j
 
@@ -82,7 +82,7 @@ partitions_have p i belongs =
     ∙ ap (length {A = Record}) (whole i.sources)
 
 -- before a cut there are no more records than in all
-few_taken : (n : ℕ) (es : List Entry) → length (records_in (take n es)) ≤ length (records_in es)
+few_taken : (n : ℕ) (es : List Marked) → length (records_in (take n es)) ≤ length (records_in es)
 few_taken zero es = omega arith
 few_taken (suc n) [] = omega arith
 few_taken (suc n) (e ∷ es) =
@@ -91,7 +91,7 @@ few_taken (suc n) (e ∷ es) =
     let b = length-append (records_of_entry e) (records_in es) in
     omega (arith, h, a, b)
 
-few_in : (ps : List (List Entry)) (ns : List ℕ) → length (records_before_in ps ns) ≤ length (records_in_source ps)
+few_in : (ps : List (List Marked)) (ns : List ℕ) → length (records_before_in ps ns) ≤ length (records_in_source ps)
 few_in [] ns = omega arith
 few_in (p ∷ ps) [] = omega arith
 few_in (p ∷ ps) (n ∷ ns) =
@@ -101,7 +101,7 @@ few_in (p ∷ ps) (n ∷ ns) =
     let b = length-append (records_in p) (records_in_source ps) in
     omega (arith, h, t, a, b)
 
-few_of : (ss : List (List (List Entry))) (cut : List (List ℕ)) → length (records_before ss cut) ≤ length (all_records ss)
+few_of : (ss : List (List (List Marked))) (cut : List (List ℕ)) → length (records_before ss cut) ≤ length (all_records ss)
 few_of [] cut = omega arith
 few_of (s ∷ ss) [] = omega arith
 few_of (s ∷ ss) (c ∷ cs) =

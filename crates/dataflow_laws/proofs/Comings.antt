@@ -4,7 +4,7 @@ use Rattle.std.specs.Prelude.{nat_lt}
 use Rattle.std.specs.List.{AllZip}
 use Rattle.std.proofs.lemmas.Bool.{cases_Bool, ltb-true, ltb-false, false≢true}
 use Rattle.plan_model.specs.PlanData.{PlanData, IsPlan}
-use Rattle.stream_model.specs.declared.entry.Entry.{Entry}
+use Rattle.stream_model.specs.declared.entry.Marked.{Marked}
 use Rattle.stream_model.specs.InputData.{InputData, IsInput, BelongsTo}
 use Rattle.stream_model.specs.Watermarks.{IsOrderly, IsCut, IsBefore, full_cut}
 use Rattle.dataflow_model.specs.declared.ending.Ending.TheVariants.{AtCut}
@@ -35,7 +35,7 @@ use Rattle.dataflow_laws.proofs.Halting.{sink_tells_stops}
 
 -- ---- cuts of one input, by their counts
 
-same_counts : (ps : List (List Entry)) (ms ns : List ℕ) → AllZip (λ p n. n ≤ length p) ps ms → AllZip (λ p n. n ≤ length p) ps ns → ((k : ℕ) → k < length ps → slice_index ms k ≡ slice_index ns k) → ms ≡ ns
+same_counts : (ps : List (List Marked)) (ms ns : List ℕ) → AllZip (λ p n. n ≤ length p) ps ms → AllZip (λ p n. n ≤ length p) ps ns → ((k : ℕ) → k < length ps → slice_index ms k ≡ slice_index ns k) → ms ≡ ns
 same_counts [] [] [] a b h = refl
 same_counts [] [] (n ∷ ns) a b h = absurd b
 same_counts [] (m ∷ ms) ns a b h = absurd a
@@ -43,7 +43,7 @@ same_counts (p ∷ ps) [] ns a b h = absurd a
 same_counts (p ∷ ps) (m ∷ ms) [] a b h = absurd b
 same_counts (p ∷ ps) (m ∷ ms) (n ∷ ns) a b h = λ i. h 0 (omega arith) i ∷ same_counts ps ms ns a.1 b.1 (λ k l. h (suc k) (omega (arith, l))) i
 
-same_cut : (ss : List (List (List Entry))) (c d : List (List ℕ)) → IsCut ss c → IsCut ss d → ((x k : ℕ) → x < length ss → k < length (get_or ss x []) → count_at c x k ≡ count_at d x k) → c ≡ d
+same_cut : (ss : List (List (List Marked))) (c d : List (List ℕ)) → IsCut ss c → IsCut ss d → ((x k : ℕ) → x < length ss → k < length (get_or ss x []) → count_at c x k ≡ count_at d x k) → c ≡ d
 same_cut [] [] [] a b h = refl
 same_cut [] [] (n ∷ ns) a b h = absurd b
 same_cut [] (m ∷ ms) ns a b h = absurd a
@@ -51,7 +51,7 @@ same_cut (s ∷ ss) [] d a b h = absurd a
 same_cut (s ∷ ss) (m ∷ c) [] a b h = absurd b
 same_cut (s ∷ ss) (m ∷ c) (n ∷ d) a b h = λ i. same_counts s m n a.0 b.0 (λ k l. h 0 k (omega arith) l) i ∷ same_cut ss c d a.1 b.1 (λ x k l q. h (suc x) k (omega (arith, l)) q) i
 
-counts_up : (ps : List (List Entry)) (ms ns : List ℕ) → AllZip (λ p n. n ≤ length p) ps ms → AllZip (λ p n. n ≤ length p) ps ns → ((k : ℕ) → k < length ps → slice_index ms k ≤ slice_index ns k) → AllZip (λ m n. m ≤ n) ms ns
+counts_up : (ps : List (List Marked)) (ms ns : List ℕ) → AllZip (λ p n. n ≤ length p) ps ms → AllZip (λ p n. n ≤ length p) ps ns → ((k : ℕ) → k < length ps → slice_index ms k ≤ slice_index ns k) → AllZip (λ m n. m ≤ n) ms ns
 counts_up [] [] [] a b h = tt
 counts_up [] [] (n ∷ ns) a b h = absurd b
 counts_up [] (m ∷ ms) ns a b h = absurd a
@@ -59,7 +59,7 @@ counts_up (p ∷ ps) [] ns a b h = absurd a
 counts_up (p ∷ ps) (m ∷ ms) [] a b h = absurd b
 counts_up (p ∷ ps) (m ∷ ms) (n ∷ ns) a b h = (h 0 (omega arith), counts_up ps ms ns a.1 b.1 (λ k l. h (suc k) (omega (arith, l))))
 
-before_by : (ss : List (List (List Entry))) (c d : List (List ℕ)) → IsCut ss c → IsCut ss d → ((x k : ℕ) → x < length ss → k < length (get_or ss x []) → count_at c x k ≤ count_at d x k) → IsBefore c d
+before_by : (ss : List (List (List Marked))) (c d : List (List ℕ)) → IsCut ss c → IsCut ss d → ((x k : ℕ) → x < length ss → k < length (get_or ss x []) → count_at c x k ≤ count_at d x k) → IsBefore c d
 before_by [] [] [] a b h = tt
 before_by [] [] (n ∷ ns) a b h = absurd b
 before_by [] (m ∷ ms) ns a b h = absurd a

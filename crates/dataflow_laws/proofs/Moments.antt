@@ -5,7 +5,7 @@ use Rattle.plan_model.specs.declared.spec.Pane.{Pane}
 use Rattle.plan_model.specs.PlanData.{PlanData, IsPlan}
 use Rattle.plan_model.specs.Windows.{passes}
 use Rattle.plan_model.specs.Rows.{aggregate_at, row_is_at}
-use Rattle.stream_model.specs.declared.entry.Entry.{Entry}
+use Rattle.stream_model.specs.declared.entry.Marked.{Marked}
 use Rattle.stream_model.specs.InputData.{InputData, IsInput, BelongsTo}
 use Rattle.stream_model.specs.Watermarks.{IsOrderly, IsCut, full_cut, records_before, merged_watermark}
 use Rattle.stream_model.specs.PlanRows.{plan_aggregate}
@@ -40,29 +40,29 @@ use Rattle.dataflow_laws.proofs.Delivered.{had}
 
 -- ---- a cut with the counts that a function gives
 
-abbrev counts_from : (ℕ → ℕ) → List (List Entry) → List ℕ
+abbrev counts_from : (ℕ → ℕ) → List (List Marked) → List ℕ
 counts_from f [] = []
 counts_from f (p ∷ ps) = f 0 ∷ counts_from (λ k. f (suc k)) ps
 
-abbrev cut_from : (ℕ → ℕ → ℕ) → List (List (List Entry)) → List (List ℕ)
+abbrev cut_from : (ℕ → ℕ → ℕ) → List (List (List Marked)) → List (List ℕ)
 cut_from f [] = []
 cut_from f (s ∷ ss) = counts_from (f 0) s ∷ cut_from (λ x. f (suc x)) ss
 
-count_is : (f : ℕ → ℕ) (ps : List (List Entry)) (k : ℕ) → k < length ps → slice_index (counts_from f ps) k ≡ f k
+count_is : (f : ℕ → ℕ) (ps : List (List Marked)) (k : ℕ) → k < length ps → slice_index (counts_from f ps) k ≡ f k
 count_is f [] k l = absurd (omega (arith, l))
 count_is f (p ∷ ps) zero l = refl
 count_is f (p ∷ ps) (suc k) l = count_is (λ n. f (suc n)) ps k (omega (arith, l))
 
-cut_is : (f : ℕ → ℕ → ℕ) (ss : List (List (List Entry))) (x k : ℕ) → x < length ss → k < length (get_or ss x []) → count_at (cut_from f ss) x k ≡ f x k
+cut_is : (f : ℕ → ℕ → ℕ) (ss : List (List (List Marked))) (x k : ℕ) → x < length ss → k < length (get_or ss x []) → count_at (cut_from f ss) x k ≡ f x k
 cut_is f [] x k l m = absurd (omega (arith, l))
 cut_is f (s ∷ ss) zero k l m = count_is (f 0) s k m
 cut_is f (s ∷ ss) (suc x) k l m = cut_is (λ y. f (suc y)) ss x k (omega (arith, l)) m
 
-counts_within : (f : ℕ → ℕ) (ps : List (List Entry)) → ((k : ℕ) → k < length ps → f k ≤ length (get_or ps k [])) → AllZip (λ p n. n ≤ length p) ps (counts_from f ps)
+counts_within : (f : ℕ → ℕ) (ps : List (List Marked)) → ((k : ℕ) → k < length ps → f k ≤ length (get_or ps k [])) → AllZip (λ p n. n ≤ length p) ps (counts_from f ps)
 counts_within f [] h = tt
 counts_within f (p ∷ ps) h = (h 0 (omega arith), counts_within (λ k. f (suc k)) ps (λ k l. h (suc k) (omega (arith, l))))
 
-cut_within : (f : ℕ → ℕ → ℕ) (ss : List (List (List Entry))) → ((x k : ℕ) → x < length ss → k < length (get_or ss x []) → f x k ≤ length (get_or (get_or ss x []) k [])) → IsCut ss (cut_from f ss)
+cut_within : (f : ℕ → ℕ → ℕ) (ss : List (List (List Marked))) → ((x k : ℕ) → x < length ss → k < length (get_or ss x []) → f x k ≤ length (get_or (get_or ss x []) k [])) → IsCut ss (cut_from f ss)
 cut_within f [] h = tt
 cut_within f (s ∷ ss) h = (counts_within (f 0) s (λ k m. h 0 k (omega arith) m), cut_within (λ x. f (suc x)) ss (λ x k l m. h (suc x) k (omega (arith, l)) m))
 

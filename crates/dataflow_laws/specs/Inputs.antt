@@ -4,7 +4,7 @@ use Rattle.plan_model.specs.PlanData.{PlanData, IsPlan}
 use Rattle.plan_model.specs.declared.spec.Pane.{Pane}
 use Rattle.plan_model.specs.declared.spec.Row.{Row}
 use Rattle.plan_model.specs.Rows.{AreRowsOf, is_due, row_is_at}
-use Rattle.stream_model.specs.declared.entry.Entry.{Entry}
+use Rattle.stream_model.specs.declared.entry.Marked.{Marked}
 use Rattle.stream_model.specs.InputData.{InputData, IsInput, BelongsTo}
 use Rattle.stream_model.specs.Watermarks.{IsOrderly, IsCut, full_cut, merged_watermark}
 use Rattle.stream_model.specs.PlanRows.{plan_rows, due_rows, snapshot}
@@ -26,7 +26,7 @@ abbrev pub InputIsAdmitted : Type 0
 InputIsAdmitted = (p : PlanData) (i : InputData) (leg : Leg) (l : AbstractLayout) → IsInput i → BelongsTo p i → Deals (input_of p i) leg l → IsAdmittedInput p l
 
 -- the rows that are due at the later of two cuts and were not at the earlier
-abbrev pub due_between : PlanData → List (List (List Entry)) → List (List ℕ) → List (List ℕ) → Pane → Option Row
+abbrev pub due_between : PlanData → List (List (List Marked)) → List (List ℕ) → List (List ℕ) → Pane → Option Row
 due_between p sources b c q = if is_due p.window (merged_watermark sources b) q.start then None else due_rows p sources c q
 
 -- tasks have read the input up to a cut, and what stands in their windows is the snapshot of that cut, each pane at the window task that owns its key

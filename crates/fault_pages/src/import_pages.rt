@@ -177,7 +177,8 @@ Count times in a greater unit, or from another moment on.
         "D7",
         r#"D7 LateRow (status 3)
 
-With `--bound` a record is late: its time is not above the watermark before its entry.
+By `--bound`, or by the bound of a source that makes its own watermarks, a record is late: its time is not above the
+watermark before its entry.
 
 ```csv calls.csv
 at,key

@@ -57,7 +57,8 @@ Take a number in the range. For `check` name the input, too. A receipt goes besi
 
 Words of `import` do not go together: `--twice` has a file for records that are there twice, and none is without
 `--once`; `--fold` says which instant a time of `--zone` is that clocks show twice or never: `first` or `second`;
-`--ranges` has parts written beside INPUT, which is then no device.
+`--ranges` has parts written beside INPUT, which is then no device; `--bound` makes watermarks, and each source of the
+plan makes its own, by the bound there.
 
 ```console
 $ streamjob import plan.json new.json at,key calls=calls.csv --twice twice.csv

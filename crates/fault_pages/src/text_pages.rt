@@ -3,7 +3,7 @@
 use crate::page::FaultPage;
 
 /// The pages of the faults of a plan, of an input and of a scale, in the order of docs/FAULTS.md.
-pub const TEXT_PAGES: [FaultPage<'static>; 32] = [
+pub const TEXT_PAGES: [FaultPage<'static>; 34] = [
     (
         "P1",
         r#"P1 NotJson (status 3)
@@ -229,6 +229,22 @@ Places count from 0. More than 8 numbers take two plans, run on the same input.
 "#,
     ),
     (
+        "P17",
+        r#"P17 Bound (status 3)
+
+The `bound` of a source's `watermarks` is not from 0 to 2^40 = 1099511627776.
+
+```json plan.json
+{"columns": 2, "maxParallelism": 128, "time": 0, "key": 1,
+ "sources": [{"uid": "calls", "partitions": 1, "watermarks": {"bound": -1}}],
+ "window": {"uid": "usage", "size": 10, "aggregates": [{"fn": "count"}]}}
+```
+
+A bound is in the unit of the times: how far behind the latest record of its partition a record may come. With 0 none
+may, but for those of one entry.
+"#,
+    ),
+    (
         "I1",
         r#"I1 NotJson (status 3)
 
@@ -362,7 +378,8 @@ I9 LateRecord 0 0 1
 ```
 
 A watermark of 5 says that no time of 5 or less comes after it. Lower the watermarks or leave them out (`run` prints the
-same rows without), or take the record out.
+same rows without), or take the record out. Where the source makes its own watermarks, an entry is late that is behind
+the greatest time of those before it by more than the bound: take a greater one.
 "#,
     ),
     (
@@ -373,6 +390,26 @@ The input has over 2^40 records, all sources together. Such a text has more than
 `memory` first.
 
 Split the input by keys, as under `memory`.
+"#,
+    ),
+    (
+        "I12",
+        r#"I12 Kind (status 3)
+
+A watermark stands in a partition of a source that makes its own: in the plan it has `watermarks`. This is looked for
+before `I9`.
+
+```json plan.json
+{"columns": 2, "maxParallelism": 128, "time": 0, "key": 1,
+ "sources": [{"uid": "calls", "partitions": 1, "watermarks": {"bound": 5}}],
+ "window": {"uid": "usage", "size": 10, "aggregates": [{"fn": "count"}]}}
+```
+
+```json input.json
+{"calls": [[{"rows": [[1, 7]]}, {"watermark": 5}]]}
+```
+
+Take it out, or `watermarks` out of the plan's source.
 "#,
     ),
     (

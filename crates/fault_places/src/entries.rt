@@ -19,8 +19,11 @@ pub(crate) enum Test {
     Rows,
     /// Times and watermarks in range. The times stand in this column.
     TimeRange(usize),
-    /// No row whose time is at or below a watermark before it. The times stand in this column.
-    Late(usize),
+    /// No watermark, where the source makes its own.
+    Kind(bool),
+    /// No row whose time is at or below a watermark before it. The times stand in this column, and a source with a bound
+    /// makes its own watermarks.
+    Late { time: usize, bound: Option<i64> },
 }
 
 /// What an entry is.
@@ -194,7 +197,7 @@ fn check_row(
         ),
         Test::Number => check_numbers(notes, &cells),
         Test::TimeRange(time) => check_row_time(notes, &cells, time),
-        Test::Late(time) => check_late(notes, row.offset, cell_of(&cells, time), before),
+        Test::Late { time, .. } => check_late(notes, row.offset, cell_of(&cells, time), before),
         _ => Ok(()),
     }
 }
@@ -235,19 +238,57 @@ fn check_rows(
     }
 }
 
+/// Tells of a watermark in a source that makes its own.
+fn tell_kind(notes: &mut Notes, value: &Placed<'_>) -> Result<(), AllocError> {
+    let sentence = format!(in notes.alloc();
+        "a watermark stands here, and the plan lets this source make its own"
+    )?;
+    notes.tell(value.offset, sentence)
+}
+
 fn check_watermark(notes: &mut Notes, value: &Placed<'_>, test: Test) -> Result<(), AllocError> {
     match test {
         Test::Number => check_number(notes, Owner::One("a watermark"), value),
         Test::TimeRange(_) => check_time(notes, "watermark", value),
+        Test::Kind(true) => tell_kind(notes, value),
         _ => Ok(()),
     }
 }
 
+/// The greatest time of rows.
+fn greatest_time(alloc: Global, rows: &Placed<'_>, time: usize) -> Result<Option<i64>, AllocError> {
+    let parts = rows.parts(alloc)?;
+    let mut greatest = None;
+    for row in &parts {
+        let cells = row.value.parts(alloc)?;
+        greatest = greatest.max(cell_of(&cells, time));
+    }
+    Ok(greatest)
+}
+
+/// The watermark that a source with this bound makes behind a time.
+fn made(time: Option<i64>, bound: i64) -> Option<i64> {
+    let time = time?;
+    Some(time.saturating_sub(bound).saturating_sub(1))
+}
+
 /// The greatest watermark once an entry has been read.
-fn watermark_after(before: Option<i64>, entry: Entry<'_>) -> Option<i64> {
-    match entry {
-        Entry::Watermark(value) => before.max(whole_of(&value)),
-        _ => before,
+fn watermark_after(
+    alloc: Global,
+    before: Option<i64>,
+    entry: Entry<'_>,
+    test: Test,
+) -> Result<Option<i64>, AllocError> {
+    match (entry, test) {
+        (
+            Entry::Rows(rows),
+            Test::Late {
+                time,
+                bound: Some(bound),
+            },
+        ) => Ok(before.max(made(greatest_time(alloc, &rows, time)?, bound))),
+        (Entry::Watermark(value), _) => Ok(before.max(whole_of(&value))),
+        _ => Ok(before),
     }
 }
 
@@ -281,7 +322,7 @@ fn check_partition(
     for part in &entries {
         let entry = entry_at(notes.alloc(), part)?;
         check_entry(notes, entry, test, before)?;
-        before = watermark_after(before, entry);
+        before = watermark_after(notes.alloc(), before, entry, test)?;
     }
     Ok(())
 }

@@ -95,31 +95,35 @@ fn check_counts(
 fn check_all_entries(
     notes: &mut Notes,
     parts: &[Part<'_>],
-    sources: &[SourceSpec],
-    test: Test,
+    plan: &Plan,
+    fault: InputFault,
 ) -> Result<(), AllocError> {
-    for source in sources {
+    for source in plan.sources() {
         if let Some(part) = part_named(parts, source.uid.as_str()) {
-            check_entries(notes, &part.value, test)?;
+            check_entries(notes, &part.value, test_of(plan, source, fault))?;
         }
     }
     Ok(())
 }
 
-/// What entries have to pass so that the requirement of a fault is met.
-fn test_of(plan: &Plan, fault: InputFault) -> Test {
+/// What the entries of a source have to pass so that the requirement of a fault is met.
+fn test_of(plan: &Plan, source: &SourceSpec, fault: InputFault) -> Test {
     let time = plan.window().time as usize;
     match fault {
         InputFault::Width => Test::Width(plan.columns() as usize),
         InputFault::Number => Test::Number,
         InputFault::Rows => Test::Rows,
         InputFault::TimeRange => Test::TimeRange(time),
-        _ => Test::Late(time),
+        InputFault::Kind => Test::Kind(source.bound.is_some()),
+        _ => Test::Late {
+            time,
+            bound: source.bound,
+        },
     }
 }
 
 /// The faults of an input that is JSON, in the order of their requirements, but for the last: a record is late where all else is met.
-const FAULTS: [InputFault; 7] = [
+const FAULTS: [InputFault; 8] = [
     InputFault::Member,
     InputFault::Source,
     InputFault::Partitions,
@@ -127,6 +131,7 @@ const FAULTS: [InputFault; 7] = [
     InputFault::Number,
     InputFault::Rows,
     InputFault::TimeRange,
+    InputFault::Kind,
 ];
 
 /// Tells of the places at which an input, which is JSON, does not meet the requirement of a fault, the first that it does not meet,
@@ -165,6 +170,6 @@ fn check_one(
     match fault {
         InputFault::Source => check_names(notes, input, &parts, plan.sources()),
         InputFault::Partitions => check_counts(notes, &parts, plan.sources()),
-        _ => check_all_entries(notes, &parts, plan.sources(), test_of(plan, fault)),
+        _ => check_all_entries(notes, &parts, plan, fault),
     }
 }

@@ -1,5 +1,5 @@
 -- A plan's record is short.
-use Rattle.std.proofs.Common.{◌≡◌, ℕ, ℤ, ◌+◌, ◌*◌, ◌<◌, ◌≤◌, true, List, [], ◌∷◌, ◌++◌, length, map, arith}
+use Rattle.std.proofs.Common.{◌≡◌, ℕ, suc, ℤ, ◌+◌, ◌*◌, ◌<◌, ◌≤◌, true, List, [], ◌∷◌, ◌++◌, length, map, Option, Some, None, arith}
 use Rattle.std.specs.List.{AllByRecursion, flat_map}
 use Rattle.std.specs.Ordering.{nat_cmp}
 use Rattle.std.specs.Cmp.Lexicographic.{slice_cmp}
@@ -17,7 +17,7 @@ use Rattle.plan_model.specs.PlanData.{PlanData, IsPlan}
 use Rattle.plan_model.specs.Uids.{is_uid, is_uid_byte, is_nat_within, uid_field}
 use Rattle.plan_model.specs.declared.limits.TheConstants.{LONGEST_UID}
 use Rattle.plan_record.specs.declared.record.Condition.{Condition}
-use Rattle.plan_record.specs.PlanRecord.{ascending, filter_condition, having_condition, condition_cmp, condition_field, aggregate_code, aggregate_field, head_of, head_field, span_of, span_field, record_field, plan_record}
+use Rattle.plan_record.specs.PlanRecord.{ascending, filter_condition, having_condition, condition_cmp, condition_field, aggregate_code, aggregate_field, head_of, head_field, span_of, span_field, bound_of, placed, bound_field, bounds_bytes, record_field, plan_record}
 use Rattle.plan_record.proofs.Facts.{length-ascending}
 
 byte_long : (n : ℕ) → length (u8_field.spell n) ≡ 1
@@ -86,6 +86,19 @@ span_long p =
     let d = i64_field.spell x.1.1 in
     omega (arith, length-append (i64_field.spell x.0) (b ++ d), length-append b d, signed_long x.0, signed_long x.1.0, signed_long x.1.1)
 
+bound_long : (b : ℕ × ℤ) → length (bound_field.spell b) ≤ 9
+unfolding bound_field
+bound_long b = omega (arith, length-append (u8_field.spell b.0) (i64_field.spell b.1), byte_long b.0, signed_long b.1)
+
+bounds_long : (bs : List (ℕ × ℤ)) → length bs ≤ 8 → length (bounds_bytes bs) ≤ 73
+bounds_long [] few = omega arith
+bounds_long (b ∷ bs) few = listed_long bound_field 9 8 (b ∷ bs) few (each (λ x. length (bound_field.spell x) ≤ 9) (b ∷ bs) bound_long)
+
+placed_few : (i : ℕ) (bounds : List (Option ℤ)) → length (placed i bounds) ≤ length bounds
+placed_few i [] = omega arith
+placed_few i (None ∷ bounds) = omega (arith, placed_few (suc i) bounds)
+placed_few i (Some b ∷ bounds) = omega (arith, placed_few (suc i) bounds)
+
 pub record_short : (p : PlanData) → IsPlan p → AllByRecursion (λ u. is_uid u ≡ true) (ascending (slice_cmp nat_cmp) (map (λ s. s.uid) p.sources)) → length (plan_record p) < 65536
 unfolding plan_record record_field
 record_short p ip named =
@@ -106,4 +119,6 @@ record_short p ip named =
     let e_long = listed_long condition_field 10 32 fs fs_few (each (λ c. length (condition_field.spell c) ≤ 10) fs condition_long) in
     let f_long = listed_long aggregate_field 2 8 gs ip.aggregates_few (each (λ c. length (aggregate_field.spell c) ≤ 2) gs aggregate_long) in
     let g_long = listed_long condition_field 10 32 hs hs_few (each (λ c. length (condition_field.spell c) ≤ 10) hs condition_long) in
-    omega (arith, length-append a (b ++ (d ++ (e ++ (f ++ g)))), length-append b (d ++ (e ++ (f ++ g))), length-append d (e ++ (f ++ g)), length-append e (f ++ g), length-append f g, head_long p, span_long p, d_long, e_long, f_long, g_long)
+    let bounds = placed 0 (map (bound_of p.sources) us) in
+    let bounds_few : length bounds ≤ 8 = omega (arith, placed_few 0 (map (bound_of p.sources) us), length-map us (bound_of p.sources), us_few) in
+    omega (arith, length-append (a ++ (b ++ (d ++ (e ++ (f ++ g))))) (bounds_bytes bounds), bounds_long bounds bounds_few, length-append a (b ++ (d ++ (e ++ (f ++ g)))), length-append b (d ++ (e ++ (f ++ g))), length-append d (e ++ (f ++ g)), length-append e (f ++ g), length-append f g, head_long p, span_long p, d_long, e_long, f_long, g_long)

@@ -82,7 +82,7 @@ position_in t fs bs h =
     ap (λ b. cond b (Some n) None) (lt-ltb n (length (fs ++ bs)) (omega (arith, lt, length-append fs bs)))
 
 abbrev no_source : SourceSpec
-no_source = record { uid = []; partitions = 0 }
+no_source = record { uid = []; partitions = 0; bound = None }
 
 pub under_fits : (p : PlanData) (sources : List (List SavedPartition)) (uid : List ℕ) → IsPlan p → map (λ ps. length ps) sources ≡ partition_counts p → All AreTyped sources → list_any (bytes_eq uid) (map (λ s. s.uid) p.sources) ≡ true
     → partitions_field.fits (partitions_under p sources uid) ≡ true

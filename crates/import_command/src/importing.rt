@@ -31,7 +31,7 @@ fn rule_of<'i, R: AllocGlobal>(
     ensures { OnOk result (are_apart words.now ≡ true) }
 {
     check_columns(rt.alloc(), said, plan.columns(), words.names.is_some())?;
-    let entries = entry_rule(rt.alloc(), words, plan.window())?;
+    let entries = entry_rule(rt.alloc(), words, plan)?;
     let dealing = dealing_of(rt.alloc(), words, plan)?;
     let separator = separator_of(rt.alloc(), words.separator)?;
     let point = point_of(rt.alloc(), words.decimal, separator)?;

@@ -1,6 +1,7 @@
 //! The words of an import.
 
-ghost use Rattle.std.specs.Prelude.{◌≡◌, IfSome};
+ghost use Rattle.std.specs.Prelude.{◌≡◌, IfSome, is_some};
+ghost use Rattle.std.specs.List.{list_all};
 ghost use Rattle.import_words.specs.Files.{parts};
 ghost use Rattle.import_words.specs.Judging.{IsRefusal};
 ghost use Rattle.import_command.specs.Dealing.{IsByPlan, GivesDealing};
@@ -17,7 +18,7 @@ use import_entries::{EntryRule, WindowEnds};
 use import_words::{ImportCode, ImportFault, refused};
 use imports::Separator;
 use key_groups::{MOST_SUBTASKS, MaxParallelism, Parallelism};
-use plan_model::{Plan, WindowSpec};
+use plan_model::{Plan, SourceSpec, WindowSpec};
 use std::alloc::Global;
 
 /// The words of an import.
@@ -107,23 +108,42 @@ fn rule_at_ends(rule: EntryRule, words: &ImportWords<'_>, window: &WindowSpec) -
     }
 }
 
+fn refused_bound(alloc: Global) -> ImportFault
+    ensures { IsRefusal ImportCode.Options result }
+{
+    refused(
+        ImportCode::Options,
+        format!(in alloc; "--bound: each source of the plan makes its own watermarks"),
+    )
+}
+
+/// Whether each source makes its own watermarks.
+fn make_all(sources: &[SourceSpec]) -> bool
+    ensures { result ≡ list_all (λ s. is_some s.bound) sources.now }
+{
+    sources.iter().all(|source| source.bound.is_some())
+}
+
 /// What is asked of the entries.
 ///
 /// # Errors
 ///
-/// `Number` where a word is no number in its range; `Memory`.
+/// `Number` where a word is no number in its range; `Options` where there is a bound, and each source has its own; `Memory`.
 pub(crate) fn entry_rule(
     alloc: Global,
     words: &ImportWords<'_>,
-    window: &WindowSpec,
+    plan: &Plan,
 ) -> Result<EntryRule, ImportFault> {
     let bound = bound_of(alloc, words.bound)?;
+    if bound.is_some() && make_all(plan.sources()) {
+        return Err(refused_bound(alloc));
+    }
     let rows = match words.rows {
         Some(word) => number_of(word).unwrap_or(0),
         None => MOST_ROWS as u64,
     };
     match rule_with(rows, bound) {
-        Some(rule) => Ok(rule_at_ends(rule, words, window)),
+        Some(rule) => Ok(rule_at_ends(rule, words, plan.window())),
         None => Err(refused_number(alloc, "--rows", words.rows.unwrap_or(""), "1 to 4096")),
     }
 }

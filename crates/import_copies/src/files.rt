@@ -61,6 +61,23 @@ pub struct ImportRule<'i> {
     pub dealing: Option<Dealing>,
 }
 
+impl<'i> ImportRule<'i> {
+    /// The rule for a source: one that makes its own watermarks has them by its bound.
+    fn of_source(self, source: &SourceSpec) -> ImportRule<'i> {
+        ImportRule {
+            sources: self.sources,
+            words: self.words,
+            columns: self.columns,
+            time: self.time,
+            separator: self.separator,
+            point: self.point,
+            entries: self.entries.of_source(source.bound),
+            once: self.once,
+            dealing: self.dealing,
+        }
+    }
+}
+
 fn open_fault(alloc: Global, path: &str, error: &io::Error) -> ImportFault {
     match error.kind() {
         ErrorKind::OutOfMemory => ImportFault::Memory,
@@ -273,7 +290,7 @@ fn import_sources<R: Files + AllocGlobal, W: Write, L: Write + Drop>(
         put(outs, if is_first { "{\"" } else { ",\"" })?;
         put(outs, source.uid.as_str())?;
         put(outs, "\":")?;
-        import_source(rt, rule, source, names, ledger, outs)?;
+        import_source(rt, rule.of_source(source), source, names, ledger, outs)?;
         is_first = false;
     }
     put(outs, "}\n")

@@ -9,7 +9,7 @@ use Rattle.plan_model.specs.Windows.{is_time}
 use Rattle.import_entries.specs.declared.place.Place.TheVariants.{Joins, Begins}
 use Rattle.import_entries.specs.declared.progress.Progress.{Progress}
 use Rattle.import_entries.specs.declared.rule.Bound.{Bound}
-use Rattle.import_entries.specs.Entries.{open_rows, closed_times, settled_times, begins, progress_of, place_fault, place_said, late_said, mark_said}
+use Rattle.import_entries.specs.Entries.{open_rows, closed_times, settled_times, begins, progress_of, place_fault, place_said, late_said, mark_said, standing_said}
 
 mod_next : (m n : ℕ) → m % n + 1 < n → (m + 1) % n ≡ m % n + 1
 mod_next m n h =
@@ -142,7 +142,7 @@ fault_begun n marks times time old e some full ok =
     let r = rows_of n times old e in
     rw (ok, begun n times (full_or_none n times some (moved n times old r.0 full)), r.1) refl
 
-pub place_begun : (n : ℕ) (marks : Option Bound) (times : List ℤ) (old : Progress) → old ≡ progress_of n times → 0 < n → (old.rows ≡ 0) ⊎ (n ≤ old.rows) → Begins (mark_said marks old.latest) ≡ place_said n marks times
+pub place_begun : (n : ℕ) (marks : Option Bound) (times : List ℤ) (old : Progress) → old ≡ progress_of n times → 0 < n → (old.rows ≡ 0) ⊎ (n ≤ old.rows) → Begins (standing_said marks (mark_said marks old.latest)) ≡ place_said n marks times
 unfolding place_said
 place_begun n marks times old e some full =
     let r = rows_of n times old e in

@@ -46,6 +46,11 @@ abbrev pub mark_said : Option Bound → Option ℤ → Option ℤ
 mark_said (Some rule) (Some latest) = timely (reached rule.ends ((latest -ℤ pos rule.behind) -ℤ pos 1))
 mark_said marks latest = None
 
+-- the watermark that stands before the next entry: none does where a source makes its own
+abbrev pub standing_said : Option Bound → Option ℤ → Option ℤ
+standing_said None mark = None
+standing_said (Some rule) mark = if rule.stand then mark else None
+
 -- why a row with this time goes nowhere behind such a watermark, if it is late
 abbrev pub late_said : Option ℤ → ℤ → Option PlaceFault
 late_said None time = None
@@ -57,7 +62,7 @@ place_fault n marks times time = if not (is_time time) then Some Range else late
 
 -- where the next row goes
 unfoldable pub place_said : ℕ → Option Bound → List ℤ → Place
-place_said n marks times = if begins n times then Begins (mark_said marks (greatest_of times)) else Joins
+place_said n marks times = if begins n times then Begins (standing_said marks (mark_said marks (greatest_of times))) else Joins
 
 -- the next row goes where it is said, and is then one of the rows; or it is refused, and nothing changes
 abbrev pub IsPlaced : ℕ → Option Bound → List ℤ → ℤ → Progress → Progress → Result Place PlaceFault → Type 0

@@ -3,7 +3,7 @@
 ghost use Rattle.std.specs.Prelude.{◌≡◌, ◌<◌, ◌≤◌, ◌^◌, ◌-ℤ◌, ◌≤ℤ◌, ◌⊎◌, pos, neg_ℤ, IsTrue, SomeIff, ◌∷◌, ◌++◌, [], ℤ, List, ℕ, Some};
 ghost use Rattle.lane_kernels.specs.Compare.{greatest_of};
 ghost use Rattle.plan_model.specs.Windows.{is_time};
-ghost use Rattle.import_entries.specs.Entries.{progress_of, reached, timely, mark_said, late_said, IsPlaced};
+ghost use Rattle.import_entries.specs.Entries.{progress_of, reached, timely, mark_said, standing_said, late_said, IsPlaced};
 
 use crate::ends::WindowEnds;
 use crate::place::{Place, PlaceFault};
@@ -66,6 +66,13 @@ fn mark(marks: Option<Bound>, greatest: Option<i64>) -> Option<i64>
     ensures { result ≡ mark_said marks greatest }
 {
     mark_by(marks?, greatest?)
+}
+
+/// The watermark that stands before the next entry, by a rule.
+fn standing(marks: Option<Bound>, mark: Option<i64>) -> Option<i64>
+    ensures { result ≡ standing_said marks mark }
+{
+    if marks?.stand { mark } else { None }
 }
 
 /// The greatest time with one more.
@@ -134,7 +141,7 @@ impl Progress {
             latest: Some(greater(self.latest, time)),
             closed: self.latest,
         };
-        Ok(Place::Begins(mark))
+        Ok(Place::Begins(standing(rule.bound, mark)))
     }
 
     /// Where the next row goes, by its time. It is then one of the rows.

@@ -2,7 +2,7 @@
 
 ghost use Rattle.std.specs.Prelude.{◌≡◌, ◌<◌, ◌≤◌, ◌⊎◌, MatchOption, Some};
 ghost use Rattle.columns.specs.declared.TheConstants.{MOST_ROWS};
-ghost use Rattle.import_entries.specs.Rules.{marks_of, aligned_marks};
+ghost use Rattle.import_entries.specs.Rules.{marks_of, aligned_marks, source_marks};
 
 use crate::ends::WindowEnds;
 use columns::MOST_ROWS;
@@ -15,6 +15,8 @@ pub struct Bound {
     pub behind: u64,
     /// The windows, where watermarks are rounded down to their ends.
     pub ends: Option<WindowEnds>,
+    /// Whether the watermarks stand between the entries: none does where a source makes its own.
+    pub stand: bool,
 }
 
 /// How many rows an entry has at most, and which watermarks there are.
@@ -35,6 +37,7 @@ fn marks_of(bound: Option<u64>) -> Option<Bound>
         Some(bound) => Some(Bound {
             behind: bound,
             ends: None,
+            stand: true,
         }),
         None => None,
     }
@@ -48,8 +51,23 @@ fn aligned_marks(marks: Option<Bound>, ends: WindowEnds) -> Option<Bound>
         Some(marks) => Some(Bound {
             behind: marks.behind,
             ends: Some(ends),
+            stand: marks.stand,
         }),
         None => None,
+    }
+}
+
+/// The watermarks of a source with this bound, or those that are asked for where it has none.
+fn source_marks(bound: Option<i64>, marks: Option<Bound>) -> Option<Bound>
+    ensures { result ≡ source_marks bound marks }
+{
+    match bound {
+        Some(bound) => Some(Bound {
+            behind: bound.unsigned_abs(),
+            ends: None,
+            stand: false,
+        }),
+        None => marks,
     }
 }
 
@@ -75,6 +93,17 @@ impl EntryRule {
         EntryRule {
             most_rows: self.most_rows,
             bound: aligned_marks(self.bound, ends),
+        }
+    }
+
+    /// The rule for a source with this bound: where it has one it makes its own watermarks, by that and no other.
+    pub fn of_source(self, bound: Option<i64>) -> EntryRule
+        ensures rows { result.most_rows ≡ self.most_rows }
+        ensures marks { result.bound ≡ source_marks bound self.bound }
+    {
+        EntryRule {
+            most_rows: self.most_rows,
+            bound: source_marks(bound, self.bound),
         }
     }
 }

@@ -3,7 +3,7 @@ use Rattle.std.proofs.Common.{◌≡◌, ◌∙◌, ℕ, ◌≤◌, ◌<◌, ◌
 use Rattle.std.specs.List.{AllZip}
 use Rattle.std.proofs.lemmas.Bool.{cases_lt, ne_eqb}
 use Rattle.std.proofs.lemmas.List.{length-append, length-take, length-take-le, take-append-drop, take-append-le, take_all}
-use Rattle.stream_model.specs.declared.entry.Entry.{Entry}
+use Rattle.stream_model.specs.declared.entry.Marked.{Marked}
 use Rattle.stream_model.specs.Watermarks.{IsBefore, IsCut, partition_watermark}
 use Rattle.input_changes.specs.Agreement.{GoOn, GoOnIn, MayBecome, entries_before, entries_before_in, watermarks_at, watermarks_at_in}
 use Rattle.input_changes.specs.Laws.{AgreeEarlier, AgreeThemselves, EntriesKeepTheCut, GoingOnAgrees}
@@ -11,26 +11,26 @@ use Rattle.input_changes.specs.Laws.{AgreeEarlier, AgreeThemselves, EntriesKeepT
 -- ---- one partition
 
 -- so many entries of a partition are known by those of a longer part
-part_of : (m n : ℕ) (p : List Entry) → m ≤ n → n ≤ length p → take m p ≡ take m (take n p)
+part_of : (m n : ℕ) (p : List Marked) → m ≤ n → n ≤ length p → take m p ≡ take m (take n p)
 part_of m n p l short =
     let all : m ≤ length (take n p) = omega (arith, length-take-le n p short) in
     ap (take m) (sym (take-append-drop n p)) ∙ take-append-le m (take n p) (drop n p) all
 
 -- two partitions of which so many entries were read have the same of them, and the same watermark there
-record Agree (n : ℕ) (p r : List Entry) : Type 0 where
+record Agree (n : ℕ) (p r : List Marked) : Type 0 where
   of_old : n ≤ length p
   of_new : n ≤ length r
   entries : take n p ≡ take n r
   watermark : partition_watermark p n ≡ partition_watermark r n
 
 -- short of both ends the entries say the watermark
-watermark_said : (n : ℕ) (p r : List Entry) → n < length p → n < length r → take n p ≡ take n r → partition_watermark p n ≡ partition_watermark r n
+watermark_said : (n : ℕ) (p r : List Marked) → n < length p → n < length r → take n p ≡ take n r → partition_watermark p n ≡ partition_watermark r n
 watermark_said n p r here there same =
     let left : (n == length p) ≡ false = ne_eqb n (length p) (λ e. omega arith) in
     let right : (n == length r) ≡ false = ne_eqb n (length r) (λ e. omega arith) in
     rw (left, right, same) refl
 
-earlier : (m n : ℕ) (p r : List Entry) → m ≤ n → Agree n p r → Agree m p r
+earlier : (m n : ℕ) (p r : List Marked) → m ≤ n → Agree n p r → Agree m p r
 earlier m n p r l a =
     let of_old : m ≤ length p = omega (arith, a.of_old) in
     let of_new : m ≤ length r = omega (arith, a.of_new) in
@@ -45,7 +45,7 @@ earlier m n p r l a =
       ];
     }
 
-becomes : (n : ℕ) (p r : List Entry) → MayBecome n p r → Agree n p r
+becomes : (n : ℕ) (p r : List Marked) → MayBecome n p r → Agree n p r
 becomes n p r (inl (short, (e, rest, is))) =
     let kept : length (take n p) ≡ n = length-take-le n p (omega arith) in
     let long : n < length r = omega (arith, ap length is, length-append (take n p) (e ∷ rest)) in
@@ -58,13 +58,13 @@ becomes n p r (inr (whole, is)) =
 -- ---- all of them
 
 -- agreement of the partitions of a source, and of sources, part by part
-record InSource (ps rs : List (List Entry)) (ns : List ℕ) : Type 0 where
+record InSource (ps rs : List (List Marked)) (ns : List ℕ) : Type 0 where
   of_old : AllZip (λ p n. n ≤ length p) ps ns
   of_new : AllZip (λ p n. n ≤ length p) rs ns
   entries : entries_before_in ps ns ≡ entries_before_in rs ns
   watermarks : watermarks_at_in ps ns ≡ watermarks_at_in rs ns
 
-record InSources (ss rs : List (List (List Entry))) (cs : List (List ℕ)) : Type 0 where
+record InSources (ss rs : List (List (List Marked))) (cs : List (List ℕ)) : Type 0 where
   of_old : IsCut ss cs
   of_new : IsCut rs cs
   entries : entries_before ss cs ≡ entries_before rs cs
@@ -76,7 +76,7 @@ no_partition = record { of_old = tt; of_new = tt; entries = refl; watermarks = r
 no_source : InSources [] [] []
 no_source = record { of_old = tt; of_new = tt; entries = refl; watermarks = refl }
 
-first_partition : (p r : List Entry) (ps rs : List (List Entry)) (n : ℕ) (ns : List ℕ) → InSource (p ∷ ps) (r ∷ rs) (n ∷ ns) → Agree n p r
+first_partition : (p r : List Marked) (ps rs : List (List Marked)) (n : ℕ) (ns : List ℕ) → InSource (p ∷ ps) (r ∷ rs) (n ∷ ns) → Agree n p r
 first_partition p r ps rs n ns a = record {
   of_old = a.of_old.0;
   of_new = a.of_new.0;
@@ -84,7 +84,7 @@ first_partition p r ps rs n ns a = record {
   watermark = (let e = a.watermarks in cc);
 }
 
-other_partitions : (p r : List Entry) (ps rs : List (List Entry)) (n : ℕ) (ns : List ℕ) → InSource (p ∷ ps) (r ∷ rs) (n ∷ ns) → InSource ps rs ns
+other_partitions : (p r : List Marked) (ps rs : List (List Marked)) (n : ℕ) (ns : List ℕ) → InSource (p ∷ ps) (r ∷ rs) (n ∷ ns) → InSource ps rs ns
 other_partitions p r ps rs n ns a = record {
   of_old = a.of_old.1;
   of_new = a.of_new.1;
@@ -92,7 +92,7 @@ other_partitions p r ps rs n ns a = record {
   watermarks = (let e = a.watermarks in cc);
 }
 
-one_partition_more : (p r : List Entry) (ps rs : List (List Entry)) (n : ℕ) (ns : List ℕ) → Agree n p r → InSource ps rs ns → InSource (p ∷ ps) (r ∷ rs) (n ∷ ns)
+one_partition_more : (p r : List Marked) (ps rs : List (List Marked)) (n : ℕ) (ns : List ℕ) → Agree n p r → InSource ps rs ns → InSource (p ∷ ps) (r ∷ rs) (n ∷ ns)
 one_partition_more p r ps rs n ns a b = record {
   of_old = (a.of_old, b.of_old);
   of_new = (a.of_new, b.of_new);
@@ -100,7 +100,7 @@ one_partition_more p r ps rs n ns a b = record {
   watermarks = λ k. a.watermark k ∷ b.watermarks k;
 }
 
-first_source : (s r : List (List Entry)) (ss rs : List (List (List Entry))) (c : List ℕ) (cs : List (List ℕ)) → InSources (s ∷ ss) (r ∷ rs) (c ∷ cs) → InSource s r c
+first_source : (s r : List (List Marked)) (ss rs : List (List (List Marked))) (c : List ℕ) (cs : List (List ℕ)) → InSources (s ∷ ss) (r ∷ rs) (c ∷ cs) → InSource s r c
 first_source s r ss rs c cs a = record {
   of_old = a.of_old.0;
   of_new = a.of_new.0;
@@ -108,7 +108,7 @@ first_source s r ss rs c cs a = record {
   watermarks = (let e = a.watermarks in cc);
 }
 
-other_sources : (s r : List (List Entry)) (ss rs : List (List (List Entry))) (c : List ℕ) (cs : List (List ℕ)) → InSources (s ∷ ss) (r ∷ rs) (c ∷ cs) → InSources ss rs cs
+other_sources : (s r : List (List Marked)) (ss rs : List (List (List Marked))) (c : List ℕ) (cs : List (List ℕ)) → InSources (s ∷ ss) (r ∷ rs) (c ∷ cs) → InSources ss rs cs
 other_sources s r ss rs c cs a = record {
   of_old = a.of_old.1;
   of_new = a.of_new.1;
@@ -116,7 +116,7 @@ other_sources s r ss rs c cs a = record {
   watermarks = (let e = a.watermarks in cc);
 }
 
-one_source_more : (s r : List (List Entry)) (ss rs : List (List (List Entry))) (c : List ℕ) (cs : List (List ℕ)) → InSource s r c → InSources ss rs cs → InSources (s ∷ ss) (r ∷ rs) (c ∷ cs)
+one_source_more : (s r : List (List Marked)) (ss rs : List (List (List Marked))) (c : List ℕ) (cs : List (List ℕ)) → InSource s r c → InSources ss rs cs → InSources (s ∷ ss) (r ∷ rs) (c ∷ cs)
 one_source_more s r ss rs c cs a b = record {
   of_old = (a.of_old, b.of_old);
   of_new = (a.of_new, b.of_new);
@@ -126,7 +126,7 @@ one_source_more s r ss rs c cs a b = record {
 
 -- ---- before an earlier cut
 
-earlier_in : (ps rs : List (List Entry)) (ms ns : List ℕ) → AllZip (λ m n. m ≤ n) ms ns → InSource ps rs ns → InSource ps rs ms
+earlier_in : (ps rs : List (List Marked)) (ms ns : List ℕ) → AllZip (λ m n. m ≤ n) ms ns → InSource ps rs ns → InSource ps rs ms
 earlier_in [] [] [] [] h a = no_partition
 earlier_in (p ∷ ps) (r ∷ rs) (m ∷ ms) (n ∷ ns) h a =
     one_partition_more p r ps rs m ms (earlier m n p r h.0 (first_partition p r ps rs n ns a)) (earlier_in ps rs ms ns h.1 (other_partitions p r ps rs n ns a))
@@ -137,7 +137,7 @@ earlier_in (p ∷ ps) [] (m ∷ ms) (n ∷ ns) h a = absurd a.of_new
 earlier_in (p ∷ ps) rs [] [] h a = absurd a.of_old
 earlier_in [] (r ∷ rs) [] [] h a = absurd a.of_new
 
-earlier_all : (ss rs : List (List (List Entry))) (bs cs : List (List ℕ)) → IsBefore bs cs → InSources ss rs cs → InSources ss rs bs
+earlier_all : (ss rs : List (List (List Marked))) (bs cs : List (List ℕ)) → IsBefore bs cs → InSources ss rs cs → InSources ss rs bs
 earlier_all [] [] [] [] h a = no_source
 earlier_all (s ∷ ss) (r ∷ rs) (b ∷ bs) (c ∷ cs) h a =
     one_source_more s r ss rs b bs (earlier_in s r b c h.0 (first_source s r ss rs c cs a)) (earlier_all ss rs bs cs h.1 (other_sources s r ss rs c cs a))
@@ -158,7 +158,7 @@ agree_earlier old new b c before agree =
 pub agree_themselves : AgreeThemselves
 agree_themselves i cut is = record { columns = refl; time = refl; of_old = is; of_new = is; entries = refl; watermarks = refl }
 
-going_on_in : (ps rs : List (List Entry)) (ns : List ℕ) → GoOnIn ps rs ns → InSource ps rs ns
+going_on_in : (ps rs : List (List Marked)) (ns : List ℕ) → GoOnIn ps rs ns → InSource ps rs ns
 going_on_in [] [] [] h = no_partition
 going_on_in (p ∷ ps) (r ∷ rs) (n ∷ ns) h = one_partition_more p r ps rs n ns (becomes n p r h.0) (going_on_in ps rs ns h.1)
 going_on_in [] [] (n ∷ ns) h = absurd h
@@ -166,7 +166,7 @@ going_on_in [] (r ∷ rs) ns h = absurd h
 going_on_in (p ∷ ps) [] ns h = absurd h
 going_on_in (p ∷ ps) (r ∷ rs) [] h = absurd h
 
-going_on : (ss rs : List (List (List Entry))) (cs : List (List ℕ)) → GoOn ss rs cs → InSources ss rs cs
+going_on : (ss rs : List (List (List Marked))) (cs : List (List ℕ)) → GoOn ss rs cs → InSources ss rs cs
 going_on [] [] [] h = no_source
 going_on (s ∷ ss) (r ∷ rs) (c ∷ cs) h = one_source_more s r ss rs c cs (going_on_in s r c h.0) (going_on ss rs cs h.1)
 going_on [] [] (c ∷ cs) h = absurd h
@@ -181,7 +181,7 @@ going_on_agrees old new cut columns time h =
 
 -- ---- a cut of both
 
-kept_in : (ps rs : List (List Entry)) (ns : List ℕ) → length ps ≡ length rs → AllZip (λ p n. n ≤ length p) ps ns → entries_before_in ps ns ≡ entries_before_in rs ns → AllZip (λ p n. n ≤ length p) rs ns
+kept_in : (ps rs : List (List Marked)) (ns : List ℕ) → length ps ≡ length rs → AllZip (λ p n. n ≤ length p) ps ns → entries_before_in ps ns ≡ entries_before_in rs ns → AllZip (λ p n. n ≤ length p) rs ns
 kept_in [] [] [] many is same = tt
 kept_in (p ∷ ps) (r ∷ rs) (n ∷ ns) many is same =
     let here : take n p ≡ take n r = cc in
@@ -191,7 +191,7 @@ kept_in (p ∷ ps) [] ns many is same = absurd (omega (arith, many))
 kept_in [] [] (n ∷ ns) many is same = absurd is
 kept_in (p ∷ ps) (r ∷ rs) [] many is same = absurd is
 
-kept : (ss rs : List (List (List Entry))) (cs : List (List ℕ)) → map (λ s. length s) ss ≡ map (λ s. length s) rs → IsCut ss cs → entries_before ss cs ≡ entries_before rs cs → IsCut rs cs
+kept : (ss rs : List (List (List Marked))) (cs : List (List ℕ)) → map (λ s. length s) ss ≡ map (λ s. length s) rs → IsCut ss cs → entries_before ss cs ≡ entries_before rs cs → IsCut rs cs
 kept [] [] [] many is same = tt
 kept (s ∷ ss) (r ∷ rs) (c ∷ cs) many is same =
     (kept_in s r c (let e : length s ≡ length r = cc in e) is.0 (let e : entries_before_in s c ≡ entries_before_in r c = cc in e), kept ss rs cs (let e : map (λ x. length x) ss ≡ map (λ x. length x) rs = cc in e) is.1 (let e : entries_before ss cs ≡ entries_before rs cs = cc in e))

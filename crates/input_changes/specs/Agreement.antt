@@ -2,29 +2,29 @@
 use Rattle.std.specs.Prelude.{◌≡◌, ◌⊎◌, ℕ, ◌<◌, ℤ, List, [], ◌∷◌, ◌++◌, take, length}
 use Rattle.plan_model.specs.PlanData.{PlanData}
 use Rattle.plan_model.specs.declared.spec.Pane.{Pane}
-use Rattle.stream_model.specs.declared.entry.Entry.{Entry}
+use Rattle.stream_model.specs.declared.entry.Marked.{Marked}
 use Rattle.stream_model.specs.InputData.{InputData}
 use Rattle.stream_model.specs.Watermarks.{IsCut, merged_watermark, partition_watermark, records_before}
 use Rattle.stream_model.specs.PlanRows.{due_rows, snapshot}
 
 -- the first entries of each partition of a source, and of every source, as many as the cut says
-abbrev pub entries_before_in : List (List Entry) → List ℕ → List (List Entry)
+abbrev pub entries_before_in : List (List Marked) → List ℕ → List (List Marked)
 entries_before_in [] counts = []
 entries_before_in (p ∷ ps) [] = []
 entries_before_in (p ∷ ps) (n ∷ ns) = take n p ∷ entries_before_in ps ns
 
-abbrev pub entries_before : List (List (List Entry)) → List (List ℕ) → List (List (List Entry))
+abbrev pub entries_before : List (List (List Marked)) → List (List ℕ) → List (List (List Marked))
 entries_before [] cut = []
 entries_before (s ∷ ss) [] = []
 entries_before (s ∷ ss) (c ∷ cs) = entries_before_in s c ∷ entries_before ss cs
 
 -- the watermark of each partition of a source, and of every source, at the cut
-abbrev pub watermarks_at_in : List (List Entry) → List ℕ → List ℤ
+abbrev pub watermarks_at_in : List (List Marked) → List ℕ → List ℤ
 watermarks_at_in [] counts = []
 watermarks_at_in (p ∷ ps) [] = []
 watermarks_at_in (p ∷ ps) (n ∷ ns) = partition_watermark p n ∷ watermarks_at_in ps ns
 
-abbrev pub watermarks_at : List (List (List Entry)) → List (List ℕ) → List (List ℤ)
+abbrev pub watermarks_at : List (List (List Marked)) → List (List ℕ) → List (List ℤ)
 watermarks_at [] cut = []
 watermarks_at (s ∷ ss) [] = []
 watermarks_at (s ∷ ss) (c ∷ cs) = watermarks_at_in s c ∷ watermarks_at ss cs
@@ -54,16 +54,16 @@ pub record AreSameAt (plan : PlanData) (old new : InputData) (cut : List (List �
   pub snapshot : (q : Pane) → snapshot plan old.sources cut q ≡ snapshot plan new.sources cut q
 
 -- what may become of a partition of which the first n entries are kept: one that has more goes on with any others, one at least, and one that ends there stays as it is
-abbrev pub MayBecome : ℕ → List Entry → List Entry → Type 0
-MayBecome n before after = ((n < length before) × ((e : Entry) × (rest : List Entry) × (after ≡ take n before ++ (e ∷ rest)))) ⊎ ((n ≡ length before) × (after ≡ before))
+abbrev pub MayBecome : ℕ → List Marked → List Marked → Type 0
+MayBecome n before after = ((n < length before) × ((e : Marked) × (rest : List Marked) × (after ≡ take n before ++ (e ∷ rest)))) ⊎ ((n ≡ length before) × (after ≡ before))
 
 -- so it is of each partition of a source, and of every source, by a cut
-abbrev pub GoOnIn : List (List Entry) → List (List Entry) → List ℕ → Type 0
+abbrev pub GoOnIn : List (List Marked) → List (List Marked) → List ℕ → Type 0
 GoOnIn [] [] [] = Unit {0}
 GoOnIn (p ∷ ps) (r ∷ rs) (n ∷ ns) = MayBecome n p r × GoOnIn ps rs ns
 GoOnIn ps rs ns = ⊥
 
-abbrev pub GoOn : List (List (List Entry)) → List (List (List Entry)) → List (List ℕ) → Type 0
+abbrev pub GoOn : List (List (List Marked)) → List (List (List Marked)) → List (List ℕ) → Type 0
 GoOn [] [] [] = Unit {0}
 GoOn (s ∷ ss) (r ∷ rs) (c ∷ cs) = GoOnIn s r c × GoOn ss rs cs
 GoOn ss rs cs = ⊥

@@ -5,7 +5,7 @@ use Rattle.std.proofs.lemmas.Bool.{cases_lt}
 use Rattle.std.specs.Int.{int_min}
 use Rattle.std.specs.List.{AllZip}
 use Rattle.plain_data.specs.Times.{highest}
-use Rattle.stream_model.specs.declared.entry.Entry.{Entry}
+use Rattle.stream_model.specs.declared.entry.Marked.{Marked}
 use Rattle.stream_model.specs.Watermarks.{partition_watermark, source_watermark, merged_watermark, IsCut, IsBefore}
 use Rattle.input_cuts.specs.Cuts.{first_count, first_cut}
 use Rattle.input_cuts.specs.Laws.{FirstCutIsFirst, FirstCutIsDue}
@@ -25,29 +25,29 @@ module _ (w : ℤ) (low : w ≤ℤ highest) where
   not_reached a h k = omega (arith, ints)
 
   -- no count at which the watermark is reached is below the first
-  no_later : (p : List Entry) (n : ℕ) → w ≤ℤ partition_watermark p n → first_count w p ≤ n
+  no_later : (p : List Marked) (n : ℕ) → w ≤ℤ partition_watermark p n → first_count w p ≤ n
   no_later p n reached = elim (cases_lt n (first_count w p)) [
     | inl l ↦ absurd (not_reached (partition_watermark p n) ((is_first w p low).first n l) reached)
     | inr past ↦ omega arith
   ]
 
-  cut_in : (ps : List (List Entry)) → AllZip (λ p n. n ≤ length p) ps (map (first_count w) ps)
+  cut_in : (ps : List (List Marked)) → AllZip (λ p n. n ≤ length p) ps (map (first_count w) ps)
   cut_in [] = tt
   cut_in (p ∷ ps) = ((is_first w p low).within, cut_in ps)
 
-  cut : (ss : List (List (List Entry))) → IsCut ss (first_cut w ss)
+  cut : (ss : List (List (List Marked))) → IsCut ss (first_cut w ss)
   cut [] = tt
   cut (s ∷ ss) = (cut_in s, cut ss)
 
-  reached_in : (ps : List (List Entry)) → w ≤ℤ source_watermark ps (map (first_count w) ps)
+  reached_in : (ps : List (List Marked)) → w ≤ℤ source_watermark ps (map (first_count w) ps)
   reached_in [] = low
   reached_in (p ∷ ps) = both (partition_watermark p (first_count w p)) (source_watermark ps (map (first_count w) ps)) (is_first w p low).reached (reached_in ps)
 
-  reached : (ss : List (List (List Entry))) → w ≤ℤ merged_watermark ss (first_cut w ss)
+  reached : (ss : List (List (List Marked))) → w ≤ℤ merged_watermark ss (first_cut w ss)
   reached [] = low
   reached (s ∷ ss) = both (source_watermark s (map (first_count w) s)) (merged_watermark ss (first_cut w ss)) (reached_in s) (reached ss)
 
-  first_in : (ps : List (List Entry)) (ns : List ℕ) → AllZip (λ p n. n ≤ length p) ps ns → w ≤ℤ source_watermark ps ns → AllZip (λ m n. m ≤ n) (map (first_count w) ps) ns
+  first_in : (ps : List (List Marked)) (ns : List ℕ) → AllZip (λ p n. n ≤ length p) ps ns → w ≤ℤ source_watermark ps ns → AllZip (λ m n. m ≤ n) (map (first_count w) ps) ns
   first_in [] [] is h = tt
   first_in [] (n ∷ ns) is h = absurd is
   first_in (p ∷ ps) [] is h = absurd is
@@ -56,7 +56,7 @@ module _ (w : ℤ) (low : w ≤ℤ highest) where
       let b = source_watermark ps ns in
       (no_later p n (one a b h), first_in ps ns is.1 (other a b h))
 
-  first : (ss : List (List (List Entry))) (b : List (List ℕ)) → IsCut ss b → w ≤ℤ merged_watermark ss b → IsBefore (first_cut w ss) b
+  first : (ss : List (List (List Marked))) (b : List (List ℕ)) → IsCut ss b → w ≤ℤ merged_watermark ss b → IsBefore (first_cut w ss) b
   first [] [] is h = tt
   first [] (c ∷ cs) is h = absurd is
   first (s ∷ ss) [] is h = absurd is

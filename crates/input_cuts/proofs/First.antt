@@ -6,7 +6,7 @@ use Rattle.std.specs.Prelude.{int_le}
 use Rattle.std.specs.List.{find, range_with_len}
 use Rattle.std.specs.Option.{option_map_or}
 use Rattle.plain_data.specs.Times.{highest}
-use Rattle.stream_model.specs.declared.entry.Entry.{Entry}
+use Rattle.stream_model.specs.declared.entry.Marked.{Marked}
 use Rattle.stream_model.specs.Watermarks.{partition_watermark}
 use Rattle.input_cuts.specs.Cuts.{first_count}
 use Rattle.stream_model.proofs.Facts.{above}
@@ -33,13 +33,13 @@ not_found test from zero none = refl
 not_found test from (suc len) none = let here = none from (omega arith) in rw here (not_found test (from + 1) len (λ m l. none m (omega arith)))
 
 -- the count at which the watermark is reached first
-pub count_at : (w : ℤ) (entries : List Entry) (n : ℕ) → n < length entries → w ≤ℤ partition_watermark entries n → ((m : ℕ) → m < n → partition_watermark entries m <ℤ w) → n ≡ first_count w entries
+pub count_at : (w : ℤ) (entries : List Marked) (n : ℕ) → n < length entries → w ≤ℤ partition_watermark entries n → ((m : ℕ) → m < n → partition_watermark entries m <ℤ w) → n ≡ first_count w entries
 count_at w entries n short reached before =
     let test = λ (k : ℕ). int_le w (partition_watermark entries k) in
     let is = found test 0 (length entries) n (omega arith) (omega arith) (is_at w (partition_watermark entries n) reached) (λ m l. is_below w (partition_watermark entries m) (before m l)) in
     rw is refl
 
-pub count_past : (w : ℤ) (entries : List Entry) → ((m : ℕ) → m < length entries → partition_watermark entries m <ℤ w) → length entries ≡ first_count w entries
+pub count_past : (w : ℤ) (entries : List Marked) → ((m : ℕ) → m < length entries → partition_watermark entries m <ℤ w) → length entries ≡ first_count w entries
 count_past w entries before =
     let test = λ (k : ℕ). int_le w (partition_watermark entries k) in
     let is = not_found test 0 (length entries) (λ m l. is_below w (partition_watermark entries m) (before m (omega arith))) in
@@ -67,7 +67,7 @@ is_found test from (suc len) = elim (cases_Bool (test from)) [
     later (Some n) e h = ((let l = h.0 in omega (arith, l)), h.1, λ m low high. past m low e (λ up. h.2 m up high))
 
 -- the first count is one of the partition, its watermark is reached there, and at none before
-pub record IsFirst (w : ℤ) (entries : List Entry) (n : ℕ) : Type 0 where
+pub record IsFirst (w : ℤ) (entries : List Marked) (n : ℕ) : Type 0 where
   pub within : n ≤ length entries
   pub reached : w ≤ℤ partition_watermark entries n
   pub first : (m : ℕ) → m < n → partition_watermark entries m <ℤ w
@@ -75,13 +75,13 @@ pub record IsFirst (w : ℤ) (entries : List Entry) (n : ℕ) : Type 0 where
 n_eqb : (n : ℕ) → (n == n) ≡ true
 n_eqb n = grind arith
 
-at_end : (entries : List Entry) → partition_watermark entries (length entries) ≡ highest
+at_end : (entries : List Marked) → partition_watermark entries (length entries) ≡ highest
 at_end entries = let h = n_eqb (length entries) in rw h refl
 
-abbrev reaches : ℤ → List Entry → ℕ → Bool
+abbrev reaches : ℤ → List Marked → ℕ → Bool
 reaches w entries n = int_le w (partition_watermark entries n)
 
-of_found : (w : ℤ) (entries : List Entry) → w ≤ℤ highest → (o : Option ℕ) → Found (reaches w entries) 0 (length entries) o → IsFirst w entries (option_map_or (λ n. n) o (length entries))
+of_found : (w : ℤ) (entries : List Marked) → w ≤ℤ highest → (o : Option ℕ) → Found (reaches w entries) 0 (length entries) o → IsFirst w entries (option_map_or (λ n. n) o (length entries))
 of_found w entries low None h = record {
   within = omega arith;
   reached = rw (at_end entries) low;
@@ -93,5 +93,5 @@ of_found w entries low (Some n) h = record {
   first = λ m l. above w (partition_watermark entries m) (h.2 m (omega arith) l);
 }
 
-pub is_first : (w : ℤ) (entries : List Entry) → w ≤ℤ highest → IsFirst w entries (first_count w entries)
+pub is_first : (w : ℤ) (entries : List Marked) → w ≤ℤ highest → IsFirst w entries (first_count w entries)
 is_first w entries low = of_found w entries low (find (reaches w entries) (range_with_len 0 (length entries))) (is_found (reaches w entries) 0 (length entries))

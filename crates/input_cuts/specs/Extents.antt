@@ -4,7 +4,7 @@ use Rattle.std.specs.Int.{int_min, int_max}
 use Rattle.std.specs.List.{fold}
 use Rattle.plain_data.specs.Record.{column_of}
 use Rattle.plain_data.specs.Times.{lowest}
-use Rattle.stream_model.specs.declared.entry.Entry.{Entry}
+use Rattle.stream_model.specs.declared.entry.Marked.{Marked}
 use Rattle.stream_model.specs.InputData.{records_in}
 use Rattle.stream_model.specs.Watermarks.{watermark_of_entry}
 use Rattle.input_cuts.specs.declared.extent.Extent.{Extent}
@@ -20,7 +20,7 @@ abbrev pub times_of : List ℤ → Option Times
 times_of ts = fold with_time None ts
 
 -- how many entries and records a partition has, the times of its records, and the greatest of its watermarks
-abbrev pub extent_of : ℕ → List Entry → Extent
+abbrev pub extent_of : ℕ → List Marked → Extent
 extent_of time entries = record {
   entries = length entries;
   records = length (records_in entries);

@@ -10,7 +10,7 @@ ghost use Rattle.input_cuts.specs.Extents as said;
 use plain_data::Items;
 use plan_model::Plan;
 use std::alloc::{AllocError, Global};
-use stream_model::{Entry, Input, Partition, Source, greatest_watermark};
+use stream_model::{Entry, Input, Marked, Partition, Source, greatest_watermark};
 
 /// The least and the greatest time of records.
 #[derive(Clone, Copy, Debug, PartialEq, Eq)]
@@ -56,18 +56,18 @@ fn with_times(times: Option<Times>, more: &[i64]) -> Option<Times>
 }
 
 /// The times with those of an entry's records.
-fn with_entry(times: Option<Times>, columns: usize, time: usize, entry: &Entry) -> Option<Times>
+fn with_entry(times: Option<Times>, columns: usize, time: usize, marked: &Marked) -> Option<Times>
     requires time_in { time < columns }
-    requires sound { IsEntry columns time entry.now }
-    ensures { result ≡ fold said.with_time times (column_of time (records_of_entry entry.now)) }
+    requires sound { IsEntry columns time marked.now }
+    ensures { result ≡ fold said.with_time times (column_of time (records_of_entry marked.now)) }
 {
-    match entry {
+    match &marked.entry {
         Entry::Rows(batch) => with_times(times, batch.column(time)),
         Entry::Watermark(_) => times,
     }
 }
 
-fn times_of(columns: usize, time: usize, entries: &[Entry]) -> Option<Times>
+fn times_of(columns: usize, time: usize, entries: &[Marked]) -> Option<Times>
     requires time_in { time < columns }
     requires sound { All (IsEntry columns time) entries.now }
     ensures { result ≡ said.times_of (column_of time (records_in entries.now)) }
@@ -79,16 +79,16 @@ fn times_of(columns: usize, time: usize, entries: &[Entry]) -> Option<Times>
     times
 }
 
-fn records_of(entry: &Entry) -> u64
-    ensures { result ≡ length (records_of_entry entry.now) }
+fn records_of(marked: &Marked) -> u64
+    ensures { result ≡ length (records_of_entry marked.now) }
 {
-    match entry {
+    match &marked.entry {
         Entry::Rows(batch) => batch.len() as u64,
         Entry::Watermark(_) => 0,
     }
 }
 
-fn count_of(entries: &[Entry]) -> u64
+fn count_of(entries: &[Marked]) -> u64
     requires { length (records_in entries.now) ≤ MOST_RECORDS }
     ensures { result ≡ length (records_in entries.now) }
 {
@@ -99,7 +99,7 @@ fn count_of(entries: &[Entry]) -> u64
     count
 }
 
-fn extent_of(columns: usize, time: usize, entries: &[Entry]) -> Extent
+fn extent_of(columns: usize, time: usize, entries: &[Marked]) -> Extent
     requires time_in { time < columns }
     requires sound { All (IsEntry columns time) entries.now }
     requires few { length (records_in entries.now) ≤ MOST_RECORDS }

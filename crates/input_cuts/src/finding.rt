@@ -6,10 +6,10 @@ ghost use Rattle.input_cuts.specs.Cuts as said;
 use legs::Cut;
 use plain_data::Items;
 use std::alloc::{AllocError, Global};
-use stream_model::{Entry, Input, Partition, Source};
+use stream_model::{Input, Marked, Partition, Source};
 
 /// The least count of a partition's entries after which its watermark is at least this one.
-fn first_count(watermark: i64, entries: &[Entry]) -> u64
+fn first_count(watermark: i64, entries: &[Marked]) -> u64
     ensures { result ≡ said.first_count watermark entries.now }
 {
     let mut before = i64::MIN;

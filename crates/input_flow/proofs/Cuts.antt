@@ -8,9 +8,8 @@ use Rattle.plain_data.specs.Times.{lowest}
 use Rattle.plan_model.specs.PlanData.{PlanData}
 use Rattle.plan_model.specs.Windows.{passes}
 use Rattle.plan_model.specs.Rows.{aggregate_at, kept_row, is_due}
-use Rattle.stream_model.specs.declared.entry.Entry.{Entry}
-use Rattle.stream_model.specs.declared.entry.Entry.TheVariants as entry
-use Rattle.stream_model.specs.InputData.{InputData, BelongsTo}
+use Rattle.stream_model.specs.declared.entry.Marked.{Marked}
+use Rattle.stream_model.specs.InputData.{InputData, BelongsTo, no_entry}
 use Rattle.stream_model.specs.Watermarks.{IsCut, full_cut, empty_cut, records_before, partition_watermark, merged_watermark}
 use Rattle.stream_model.proofs.Facts.{end_is_due}
 use Rattle.dataflow_model.specs.Message.{records_of}
@@ -29,7 +28,7 @@ pub records_dealt : (p : PlanData) (i : InputData) (cut : List (List ℕ)) (pass
     → joined (input_of p i).partitions (λ q. joined (counts_at p cut q) (λ n. filter pass (records_of ((input_of p i).entry q n)))) ≡ filter pass (records_before i.sources cut)
 records_dealt p i cut pass belongs is_cut =
     let P : ℕ → ℕ = slice_index (partition_counts p) in
-    let d : Entry = entry.Watermark lowest in
+    let d : Marked = no_entry in
     let G : ℕ → ℕ → List Record = λ x k. joined (count_at cut x k) (kept pass d (get_or (get_or i.sources x []) k [])) in
     joined_rows P (length p.sources) (λ q. G (source_at p q) (number_at p q))
     ∙ ap (λ n. joined n (λ x. joined (P x) (λ k. G (source_at p (through_all p x k)) (number_at p (through_all p x k))))) (same_sources p i belongs)
@@ -58,14 +57,14 @@ snapshot_at_cut p i cut q belongs is_cut =
 
 -- ---- no count of a cut is past the partition's end
 
-count_in : (ps : List (List Entry)) (ns : List ℕ) (k : ℕ) → AllZip (λ p n. n ≤ length p) ps ns → slice_index ns k ≤ length (get_or ps k [])
+count_in : (ps : List (List Marked)) (ns : List ℕ) (k : ℕ) → AllZip (λ p n. n ≤ length p) ps ns → slice_index ns k ≤ length (get_or ps k [])
 count_in [] [] k cut = omega arith
 count_in [] (n ∷ ns) k cut = absurd cut
 count_in (p ∷ ps) [] k cut = absurd cut
 count_in (p ∷ ps) (n ∷ ns) zero cut = cut.0
 count_in (p ∷ ps) (n ∷ ns) (suc k) cut = count_in ps ns k cut.1
 
-pub cut_in : (ss : List (List (List Entry))) (cs : List (List ℕ)) (x k : ℕ) → IsCut ss cs → count_at cs x k ≤ length (get_or (get_or ss x []) k [])
+pub cut_in : (ss : List (List (List Marked))) (cs : List (List ℕ)) (x k : ℕ) → IsCut ss cs → count_at cs x k ≤ length (get_or (get_or ss x []) k [])
 cut_in [] [] x k cut = omega arith
 cut_in [] (c ∷ cs) x k cut = absurd cut
 cut_in (s ∷ ss) [] x k cut = absurd cut
@@ -74,15 +73,15 @@ cut_in (s ∷ ss) (c ∷ cs) (suc x) k cut = cut_in ss cs x k cut.1
 
 -- ---- the full cut
 
-full_source : (ps : List (List Entry)) → AllZip (λ p n. n ≤ length p) ps (map (λ p. length p) ps)
+full_source : (ps : List (List Marked)) → AllZip (λ p n. n ≤ length p) ps (map (λ p. length p) ps)
 full_source [] = tt
 full_source (p ∷ ps) = (omega arith, full_source ps)
 
-pub full_is_cut : (ss : List (List (List Entry))) → IsCut ss (full_cut ss)
+pub full_is_cut : (ss : List (List (List Marked))) → IsCut ss (full_cut ss)
 full_is_cut [] = tt
 full_is_cut (s ∷ ss) = (full_source s, full_is_cut ss)
 
-full_count : (ss : List (List (List Entry))) (x k : ℕ) → count_at (full_cut ss) x k ≡ length (get_or (get_or ss x []) k [])
+full_count : (ss : List (List (List Marked))) (x k : ℕ) → count_at (full_cut ss) x k ≡ length (get_or (get_or ss x []) k [])
 full_count ss x k =
     ap (λ c. slice_index c k) (get_or-map (map (λ p. length p)) ss x [])
     ∙ get_or-map (λ p. length p) (get_or ss x []) k []
@@ -91,15 +90,15 @@ full_count ss x k =
 pub full_counts : (p : PlanData) (i : InputData) → counts_at p (full_cut i.sources) ≡ (input_of p i).size
 full_counts p i = λ j q. full_count i.sources (source_at p q) (number_at p q) j
 
-none_source : (ps : List (List Entry)) → AllZip (λ p n. n ≤ length p) ps (map (λ p. 0) ps)
+none_source : (ps : List (List Marked)) → AllZip (λ p n. n ≤ length p) ps (map (λ p. 0) ps)
 none_source [] = tt
 none_source (p ∷ ps) = (omega arith, none_source ps)
 
-pub empty_is_cut : (ss : List (List (List Entry))) → IsCut ss (empty_cut ss)
+pub empty_is_cut : (ss : List (List (List Marked))) → IsCut ss (empty_cut ss)
 empty_is_cut [] = tt
 empty_is_cut (s ∷ ss) = (none_source s, empty_is_cut ss)
 
-empty_count : (ss : List (List (List Entry))) (x k : ℕ) → count_at (empty_cut ss) x k ≡ 0
+empty_count : (ss : List (List (List Marked))) (x k : ℕ) → count_at (empty_cut ss) x k ≡ 0
 empty_count ss x k = ap (λ c. slice_index c k) (get_or-map (map (λ p. 0)) ss x []) ∙ get_or-map (λ p. 0) (get_or ss x []) k []
 
 -- nothing is counted at the beginning

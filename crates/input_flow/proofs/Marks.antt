@@ -4,7 +4,7 @@ use Rattle.std.specs.Int.{int_min}
 use Rattle.std.specs.List.{AllZip}
 use Rattle.std.proofs.lemmas.Int.{ints, clamps}
 use Rattle.plain_data.specs.Times.{highest}
-use Rattle.stream_model.specs.declared.entry.Entry.{Entry}
+use Rattle.stream_model.specs.declared.entry.Marked.{Marked}
 use Rattle.stream_model.specs.Watermarks.{IsCut, partition_watermark, source_watermark, merged_watermark}
 use Rattle.dataflow_model.specs.Leg.{count_at}
 
@@ -23,31 +23,31 @@ min_both a b v h k = omega (arith, ints, clamps, h, k)
 le_itself : (a : ℤ) → a ≤ℤ a
 le_itself a = omega (arith, ints)
 
-pub merged_bound : (ss : List (List (List Entry))) (cs : List (List ℕ)) → merged_watermark ss cs ≤ℤ highest
+pub merged_bound : (ss : List (List (List Marked))) (cs : List (List ℕ)) → merged_watermark ss cs ≤ℤ highest
 merged_bound [] cs = highest_top
 merged_bound (s ∷ ss) [] = highest_top
 merged_bound (s ∷ ss) (c ∷ cs) = min_top (source_watermark s c) (merged_watermark ss cs) highest (merged_bound ss cs)
 
-source_below : (ps : List (List Entry)) (ns : List ℕ) (k : ℕ) → AllZip (λ p n. n ≤ length p) ps ns → k < length ps → source_watermark ps ns ≤ℤ partition_watermark (get_or ps k []) (slice_index ns k)
+source_below : (ps : List (List Marked)) (ns : List ℕ) (k : ℕ) → AllZip (λ p n. n ≤ length p) ps ns → k < length ps → source_watermark ps ns ≤ℤ partition_watermark (get_or ps k []) (slice_index ns k)
 source_below [] ns k cut l = absurd (omega (arith, l))
 source_below (p ∷ ps) [] k cut l = absurd cut
 source_below (p ∷ ps) (n ∷ ns) zero cut l = min_first (partition_watermark p n) (source_watermark ps ns) _ (le_itself (partition_watermark p n))
 source_below (p ∷ ps) (n ∷ ns) (suc k) cut l = min_top (partition_watermark p n) (source_watermark ps ns) _ (source_below ps ns k cut.1 (omega (arith, l)))
 
-pub merged_below : (ss : List (List (List Entry))) (cs : List (List ℕ)) (x k : ℕ) → IsCut ss cs → x < length ss → k < length (get_or ss x []) → merged_watermark ss cs ≤ℤ partition_watermark (get_or (get_or ss x []) k []) (count_at cs x k)
+pub merged_below : (ss : List (List (List Marked))) (cs : List (List ℕ)) (x k : ℕ) → IsCut ss cs → x < length ss → k < length (get_or ss x []) → merged_watermark ss cs ≤ℤ partition_watermark (get_or (get_or ss x []) k []) (count_at cs x k)
 merged_below [] cs x k cut l m = absurd (omega (arith, l))
 merged_below (s ∷ ss) [] x k cut l m = absurd cut
 merged_below (s ∷ ss) (c ∷ cs) zero k cut l m = min_first (source_watermark s c) (merged_watermark ss cs) _ (source_below s c k cut.0 m)
 merged_below (s ∷ ss) (c ∷ cs) (suc x) k cut l m = min_top (source_watermark s c) (merged_watermark ss cs) _ (merged_below ss cs x k cut.1 (omega (arith, l)) m)
 
-source_greatest : (ps : List (List Entry)) (ns : List ℕ) (v : ℤ) → v ≤ℤ highest → ((k : ℕ) → k < length ps → v ≤ℤ partition_watermark (get_or ps k []) (slice_index ns k)) → v ≤ℤ source_watermark ps ns
+source_greatest : (ps : List (List Marked)) (ns : List ℕ) (v : ℤ) → v ≤ℤ highest → ((k : ℕ) → k < length ps → v ≤ℤ partition_watermark (get_or ps k []) (slice_index ns k)) → v ≤ℤ source_watermark ps ns
 source_greatest [] ns v top h = top
 source_greatest (p ∷ ps) [] v top h = top
 source_greatest (p ∷ ps) (n ∷ ns) v top h =
     min_both (partition_watermark p n) (source_watermark ps ns) v (h 0 (omega arith))
     (source_greatest ps ns v top (λ k l. h (suc k) (omega (arith, l))))
 
-pub merged_greatest : (ss : List (List (List Entry))) (cs : List (List ℕ)) (v : ℤ) → v ≤ℤ highest
+pub merged_greatest : (ss : List (List (List Marked))) (cs : List (List ℕ)) (v : ℤ) → v ≤ℤ highest
     → ((x k : ℕ) → x < length ss → k < length (get_or ss x []) → v ≤ℤ partition_watermark (get_or (get_or ss x []) k []) (count_at cs x k)) → v ≤ℤ merged_watermark ss cs
 merged_greatest [] cs v top h = top
 merged_greatest (s ∷ ss) [] v top h = top

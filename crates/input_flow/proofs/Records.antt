@@ -5,7 +5,7 @@ use Rattle.std.proofs.lemmas.List.Concat.{flat_map-append}
 use Rattle.std.proofs.lemmas.List.Elements.{filter-append}
 use Rattle.std.proofs.Math.Seq.{take-suc}
 use Rattle.plain_data.specs.Record.{Record}
-use Rattle.stream_model.specs.declared.entry.Entry.{Entry}
+use Rattle.stream_model.specs.declared.entry.Marked.{Marked}
 use Rattle.stream_model.specs.InputData.{records_of_entry, records_in}
 use Rattle.stream_model.specs.Watermarks.{IsCut, records_before, records_before_in}
 use Rattle.dataflow_model.specs.Message.{records_of}
@@ -39,22 +39,22 @@ joined_rows rows (suc n) f = joined_add (sum_below rows n) (rows n) f ∙ ap (λ
 
 -- ---- entries
 
-module _ (pass : Record → Bool) (d : Entry) where
+module _ (pass : Record → Bool) (d : Marked) where
   -- the records of an entry that pass
-  abbrev pub kept : List Entry → ℕ → List Record
-  kept es n = filter pass (records_of (message_of (get_or es n d)))
+  abbrev pub kept : List Marked → ℕ → List Record
+  kept es n = filter pass (records_of (message_of (get_or es n d).entry))
 
-  one_partition : (es : List Entry) (m : ℕ) → m ≤ length es → joined m (kept es) ≡ filter pass (records_in (take m es))
+  one_partition : (es : List Marked) (m : ℕ) → m ≤ length es → joined m (kept es) ≡ filter pass (records_in (take m es))
   one_partition es zero l = refl
   one_partition es (suc m) l =
-      let e : Entry = get_or es m d in
-      (λ j. one_partition es m (omega (arith, l)) j ++ filter pass (records_of_message e j))
+      let e : Marked = get_or es m d in
+      (λ j. one_partition es m (omega (arith, l)) j ++ filter pass (records_of_message e.entry j))
       ∙ ap (λ rs. filter pass (records_in (take m es)) ++ filter pass rs) (sym (append-nil (records_of_entry e)))
       ∙ sym (filter-append pass (records_in (take m es)) (records_of_entry e ++ []))
       ∙ ap (filter pass) (sym (flat_map-append records_of_entry (take m es) (e ∷ [])))
       ∙ ap (λ t. filter pass (records_in t)) (sym (take-suc es m d (omega (arith, l))))
 
-  one_source : (ps : List (List Entry)) (ns : List ℕ) → AllZip (λ p n. n ≤ length p) ps ns → joined (length ps) (λ k. joined (slice_index ns k) (kept (get_or ps k []))) ≡ filter pass (records_before_in ps ns)
+  one_source : (ps : List (List Marked)) (ns : List ℕ) → AllZip (λ p n. n ≤ length p) ps ns → joined (length ps) (λ k. joined (slice_index ns k) (kept (get_or ps k []))) ≡ filter pass (records_before_in ps ns)
   one_source [] ns cut = refl
   one_source (p ∷ ps) [] cut = absurd cut
   one_source (p ∷ ps) (n ∷ ns) cut =
@@ -62,7 +62,7 @@ module _ (pass : Record → Bool) (d : Entry) where
       ∙ (λ j. one_partition p n cut.0 j ++ one_source ps ns cut.1 j)
       ∙ sym (filter-append pass (records_in (take n p)) (records_before_in ps ns))
 
-  pub all_sources : (ss : List (List (List Entry))) (cs : List (List ℕ)) → IsCut ss cs
+  pub all_sources : (ss : List (List (List Marked))) (cs : List (List ℕ)) → IsCut ss cs
       → joined (length ss) (λ x. joined (length (get_or ss x [])) (λ k. joined (count_at cs x k) (kept (get_or (get_or ss x []) k [])))) ≡ filter pass (records_before ss cs)
   all_sources [] cs cut = refl
   all_sources (s ∷ ss) [] cut = absurd cut

@@ -1,3 +1,4 @@
+mod Marks
 mod Kept
 mod Timely
 mod Own

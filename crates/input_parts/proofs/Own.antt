@@ -1,6 +1,6 @@
 -- What a part keeps, and the plan's rows on it.
 use Rattle.std.proofs.Common.{◌≡◌, ℕ, ◌==◌, Bool, true, false, cond, ◌&&◌, ℤ, List, [], ◌∷◌, ◌++◌, map, length, Option, None, refl, sym, ap, ◌∙◌, arith, if◌then◌else◌}
-use Rattle.std.specs.List.{All, filter}
+use Rattle.std.specs.List.{All, filter, flat_map}
 use Rattle.std.specs.Option.{option_and_then}
 use Rattle.std.specs.Ordering.{int_eq}
 use Rattle.std.proofs.lemmas.Int.{ints}
@@ -10,6 +10,7 @@ use Rattle.plain_data.proofs.Facts.{filter_turned}
 use Rattle.plain_data.specs.Record.{Record, at}
 use Rattle.plan_model.specs.declared.spec.Pane.{Pane}
 use Rattle.plan_model.specs.declared.spec.Row.{Row}
+use Rattle.plan_model.specs.declared.spec.SourceSpec.{SourceSpec}
 use Rattle.plan_model.specs.declared.spec.WindowSpec.{WindowSpec}
 use Rattle.plan_model.specs.PlanData.{PlanData}
 use Rattle.plan_model.specs.Windows.{passes, is_start, is_at, is_within}
@@ -17,41 +18,53 @@ use Rattle.plan_model.specs.Aggregates.{Aggregated, aggregate_of}
 use Rattle.plan_model.specs.Rows.{kept_row}
 use Rattle.stream_model.specs.declared.entry.Entry.{Entry}
 use Rattle.stream_model.specs.declared.entry.Entry.TheVariants.{Rows, Watermark}
+use Rattle.stream_model.specs.declared.entry.Marked.{Marked}
 use Rattle.stream_model.specs.InputData.{all_records, records_in}
 use Rattle.stream_model.specs.Watermarks.{records_before, full_cut}
 use Rattle.stream_model.specs.PlanRows.{passing}
 use Rattle.stream_model.proofs.Facts.{filter_nothing}
-use Rattle.input_parts.specs.Parts.{part_of_key, is_in_part, entry_of_rows, entry_kept, entries_kept, sources_kept}
+use Rattle.input_parts.specs.Parts.{part_of_key, is_in_part, entry_of_rows, entry_kept, entries_kept, unmarked, marked_by, partition_kept, sources_kept}
 use Rattle.input_parts.specs.Laws.{watermarks_of_entry, watermarks_in, HasSome, PartsAreInputs, PartsKeepTheirOwn, PartsHaveTheirRows}
-use Rattle.input_parts.proofs.Kept.{records_kept, all_kept, full_records, few_kept, sources_sound, same_counts}
+use Rattle.input_parts.proofs.Kept.{of_map, records_kept, all_kept, full_records, few_kept, sources_sound, sources_marked, same_counts}
 use Rattle.input_parts.proofs.Timely.{sources_orderly}
 
 pub parts_are_inputs : PartsAreInputs
-parts_are_inputs plan parts i input h =
+parts_are_inputs plan parts i input bounded h =
     let keep = is_in_part plan parts i in
     record {
       is = record {
-        entries = sources_sound input.columns input.time keep input.sources h.is.entries;
-        few = omega (arith, ap length (all_kept keep input.sources), few_kept keep (all_records input.sources), h.is.few);
+        entries = sources_sound input.columns input.time keep plan.sources input.sources bounded h.is.entries;
+        few = omega (arith, ap length (all_kept keep input.time plan.sources input.sources), few_kept keep (all_records input.sources), h.is.few);
       };
-      belongs = record { columns = h.belongs.columns; time = h.belongs.time; partitions = same_counts keep input.sources ∙ h.belongs.partitions };
-      orderly = sources_orderly keep input.time input.sources h.orderly;
+      belongs = record {
+        columns = h.belongs.columns;
+        time = h.belongs.time;
+        partitions = same_counts keep input.time plan.sources input.sources ∙ h.belongs.partitions;
+        marks = sources_marked keep input.time plan.sources input.sources h.belongs.marks;
+      };
+      orderly = sources_orderly keep input.time plan.sources input.sources h.belongs.marks h.orderly;
     }
 
 -- ---- what each partition keeps
 
-rows_watermarks : (width : ℕ) (rs : List Record) → watermarks_in (entry_of_rows width rs) ≡ []
+rows_watermarks : (width : ℕ) (rs : List Record) → flat_map watermarks_of_entry (entry_of_rows width rs) ≡ []
 rows_watermarks width [] = refl
 rows_watermarks width (r ∷ rs) = refl
 
-entry_watermarks : (keep : Record → Bool) (e : Entry) → watermarks_in (entry_kept keep e) ≡ watermarks_of_entry e
+entry_watermarks : (keep : Record → Bool) (e : Entry) → flat_map watermarks_of_entry (entry_kept keep e) ≡ watermarks_of_entry e
 entry_watermarks keep (Rows b) = rows_watermarks b.width (filter keep b.rows)
 entry_watermarks keep (Watermark t) = refl
 
-watermarks_kept : (keep : Record → Bool) (es : List Entry) → watermarks_in (entries_kept keep es) ≡ watermarks_in es
-watermarks_kept keep [] = refl
-watermarks_kept keep (e ∷ es) =
-    flat_map-append watermarks_of_entry (entry_kept keep e) (entries_kept keep es) ∙ (λ i. entry_watermarks keep e i ++ watermarks_kept keep es i)
+entries_watermarks : (keep : Record → Bool) (es : List Entry) → flat_map watermarks_of_entry (entries_kept keep es) ≡ flat_map watermarks_of_entry es
+entries_watermarks keep [] = refl
+entries_watermarks keep (e ∷ es) =
+    flat_map-append watermarks_of_entry (entry_kept keep e) (entries_kept keep es) ∙ (λ i. entry_watermarks keep e i ++ entries_watermarks keep es i)
+
+watermarks_kept : (keep : Record → Bool) (bound : Option ℤ) (time : ℕ) (es : List Marked) → watermarks_in (partition_kept keep bound time es) ≡ watermarks_in es
+watermarks_kept keep bound time es =
+    of_map (λ m. watermarks_of_entry m.entry) (marked_by bound time) (entries_kept keep (unmarked es))
+    ∙ entries_watermarks keep (unmarked es)
+    ∙ of_map watermarks_of_entry (λ m. m.entry) es
 
 rows_some : (width : ℕ) (rs : List Record) → All HasSome (entry_of_rows width rs)
 rows_some width [] = All-nil HasSome
@@ -65,29 +78,47 @@ entries_some : (keep : Record → Bool) (es : List Entry) → All HasSome (entri
 entries_some keep [] = All-nil HasSome
 entries_some keep (e ∷ es) = All-append HasSome (entry_kept keep e) (entries_kept keep es) (entry_some keep e) (entries_some keep es)
 
-always : {X : Type 0} (P : X → Type 0) (xs : List X) → ((x : X) → P x) → All P xs
-always P [] h = All-nil P
-always P (x ∷ xs) h = All-cons P x xs (h x) (always P xs h)
+abbrev HaveSome : List Marked → Type 0
+HaveSome entries = All (λ m. HasSome m.entry) entries
 
-sources_some : (keep : Record → Bool) (ss : List (List (List Entry))) → All (All (All HasSome)) (sources_kept keep ss)
-sources_some keep ss =
-    All-map (All (All HasSome)) (map (entries_kept keep)) ss
-    (always (λ s. All (All HasSome) (map (entries_kept keep) s)) ss (λ s. All-map (All HasSome) (entries_kept keep) s (always (λ p. All HasSome (entries_kept keep p)) s (entries_some keep))))
+partition_some : (keep : Record → Bool) (bound : Option ℤ) (time : ℕ) (es : List Marked) → HaveSome (partition_kept keep bound time es)
+partition_some keep bound time es =
+    All-map (λ m. HasSome m.entry) (marked_by bound time) (entries_kept keep (unmarked es)) (entries_some keep (unmarked es))
 
--- what comes of each list, comes of each of the lists of lists
+source_some : (keep : Record → Bool) (bound : Option ℤ) (time : ℕ) (ps : List (List Marked)) → All HaveSome (map (partition_kept keep bound time) ps)
+source_some keep bound time [] = All-nil HaveSome
+source_some keep bound time (p ∷ ps) =
+    All-cons HaveSome (partition_kept keep bound time p) (map (partition_kept keep bound time) ps) (partition_some keep bound time p) (source_some keep bound time ps)
+
+sources_some : (keep : Record → Bool) (time : ℕ) (specs : List SourceSpec) (ss : List (List (List Marked))) → All (All HaveSome) (sources_kept keep time specs ss)
+sources_some keep time [] [] = All-nil (All HaveSome)
+sources_some keep time (spec ∷ specs) [] = All-nil (All HaveSome)
+sources_some keep time [] (s ∷ ss) =
+    All-cons (All HaveSome) (map (partition_kept keep None time) s) (sources_kept keep time [] ss) (source_some keep None time s) (sources_some keep time [] ss)
+sources_some keep time (spec ∷ specs) (s ∷ ss) =
+    All-cons (All HaveSome) (map (partition_kept keep spec.bound time) s) (sources_kept keep time specs ss) (source_some keep spec.bound time s) (sources_some keep time specs ss)
+
+-- what comes of each list, comes of each of the lists
 each : {X Y : Type 0} (f : X → X) (g h : X → Y) → ((x : X) → g (f x) ≡ h x) → (xs : List X) → map g (map f xs) ≡ map h xs
 each f g h same [] = refl
 each f g h same (x ∷ xs) = λ i. same x i ∷ each f g h same xs i
+
+-- what comes of each partition, comes of those of all sources
+of_sources : {Y : Type 0} (keep : Record → Bool) (time : ℕ) (g h : List Marked → Y) → ((bound : Option ℤ) (es : List Marked) → g (partition_kept keep bound time es) ≡ h es)
+    → (specs : List SourceSpec) (ss : List (List (List Marked))) → map (map g) (sources_kept keep time specs ss) ≡ map (map h) ss
+of_sources keep time g h same [] [] = refl
+of_sources keep time g h same (spec ∷ specs) [] = refl
+of_sources keep time g h same [] (s ∷ ss) = λ i. each (partition_kept keep None time) g h (same None) s i ∷ of_sources keep time g h same [] ss i
+of_sources keep time g h same (spec ∷ specs) (s ∷ ss) =
+    λ i. each (partition_kept keep spec.bound time) g h (same spec.bound) s i ∷ of_sources keep time g h same specs ss i
 
 pub parts_keep_their_own : PartsKeepTheirOwn
 parts_keep_their_own plan parts i input =
     let keep = is_in_part plan parts i in
     record {
-      records = each (map (entries_kept keep)) (map records_in) (map (λ es. filter keep (records_in es)))
-          (each (entries_kept keep) records_in (λ es. filter keep (records_in es)) (records_kept keep)) input.sources;
-      watermarks = each (map (entries_kept keep)) (map watermarks_in) (map watermarks_in)
-          (each (entries_kept keep) watermarks_in watermarks_in (watermarks_kept keep)) input.sources;
-      some = sources_some keep input.sources;
+      records = of_sources keep input.time records_in (λ es. filter keep (records_in es)) (λ bound es. records_kept keep bound input.time es) plan.sources input.sources;
+      watermarks = of_sources keep input.time watermarks_in watermarks_in (λ bound es. watermarks_kept keep bound input.time es) plan.sources input.sources;
+      some = sources_some keep input.time plan.sources input.sources;
     }
 
 -- ---- the plan's rows
@@ -132,8 +163,9 @@ parts_have_their_rows plan parts i input q =
     let keep = is_in_part plan parts i in
     let b : Bool = part_of_key plan parts q.key == i in
     let whole = records_before input.sources (full_cut input.sources) in
-    let part : records_before (sources_kept keep input.sources) (full_cut (sources_kept keep input.sources)) ≡ filter keep whole =
-    full_records (sources_kept keep input.sources) ∙ all_kept keep input.sources ∙ ap (filter keep) (sym (full_records input.sources)) in
+    let kept = sources_kept keep input.time plan.sources input.sources in
+    let part : records_before kept (full_cut kept) ≡ filter keep whole =
+    full_records kept ∙ all_kept keep input.time plan.sources input.sources ∙ ap (filter keep) (sym (full_records input.sources)) in
     ap (row_of w q)
     (ap (λ rs. filter (is_at w q) (passing plan rs)) part
     ∙ ap (filter (is_at w q)) (filter_turned (passes plan.filters) keep whole)

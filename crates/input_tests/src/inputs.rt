@@ -34,6 +34,7 @@ fn texts_of_faults(rt: HostRuntime) -> Result<(), Fail> {
         (InputFault::Number, "I6 Number"),
         (InputFault::Rows, "I7 Rows"),
         (InputFault::TimeRange, "I8 TimeRange"),
+        (InputFault::Kind, "I12 Kind"),
         (late, "I9 LateRecord 7 63 4294967296"),
         (InputFault::TooMany, "I10 TooMany"),
         (InputFault::Memory, "memory"),

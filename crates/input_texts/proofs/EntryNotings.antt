@@ -36,8 +36,8 @@ no_entry : (d : Data) → as_object d ≡ None → entry_text d ≡ None
 unfolding entry_text has_only
 no_entry d none = rw none refl
 
-pub other_entry : (columns time : ℕ) (w : ℤ) (depth : ℕ) (ts r : List Token) (d : Data) → Passes depth ts d r → as_object d ≡ None → Notes entry_text (entry_seen columns time w) depth ts None r
-other_entry columns time w depth ts r d passed none = (d, passed, sym (ap (option_map (entry_seen columns time w)) (no_entry d none)))
+pub other_entry : (bound : Option ℤ) (columns time : ℕ) (w : ℤ) (depth : ℕ) (ts r : List Token) (d : Data) → Passes depth ts d r → as_object d ≡ None → Notes entry_text (entry_seen bound columns time w) depth ts None r
+other_entry bound columns time w depth ts r d passed none = (d, passed, sym (ap (option_map (entry_seen bound columns time w)) (no_entry d none)))
 
 -- ---- names that are others
 
@@ -95,26 +95,26 @@ Passed named.Watermark ms = (d : Data) × (ms ≡ member (codes "watermark") d n
 Passed named.Others ms = HasOthers ms
 
 -- and what is noted of them
-pub record MembersNoted (columns time : ℕ) (w : ℤ) (name : Named) (ms : Members) (entry : Option EntrySeen) : Type 0 where
+pub record MembersNoted (bound : Option ℤ) (columns time : ℕ) (w : ℤ) (name : Named) (ms : Members) (entry : Option EntrySeen) : Type 0 where
   pub passed : Passed name ms
-  pub noted : entry ≡ option_map (entry_seen columns time w) (entry_text (object ms))
+  pub noted : entry ≡ option_map (entry_seen bound columns time w) (entry_text (object ms))
 
-module _ (columns time : ℕ) (w : ℤ) where
-  pub none_passed : MembersNoted columns time w named.Nothing no_members None
-  none_passed = record { passed = refl; noted = sym (ap (option_map (entry_seen columns time w)) no_member) }
+module _ (bound : Option ℤ) (columns time : ℕ) (w : ℤ) where
+  pub none_passed : MembersNoted bound columns time w named.Nothing no_members None
+  none_passed = record { passed = refl; noted = sym (ap (option_map (entry_seen bound columns time w)) no_member) }
 
-  others_noted : (ms : Members) → HasOthers ms → MembersNoted columns time w named.Others ms None
-  others_noted ms h = record { passed = h; noted = sym (ap (option_map (entry_seen columns time w)) (others_say ms h)) }
+  others_noted : (ms : Members) → HasOthers ms → MembersNoted bound columns time w named.Others ms None
+  others_noted ms h = record { passed = h; noted = sym (ap (option_map (entry_seen bound columns time w)) (others_say ms h)) }
 
-  rows_noted : (d : Data) (ms : Members) (entry : Option EntrySeen) → ms ≡ member (codes "rows") d no_members → entry ≡ option_map (entry_seen columns time w) (member_text named.Rows d) → MembersNoted columns time w named.Rows ms entry
-  rows_noted d ms entry is h = record { passed = (d, is); noted = h ∙ sym (ap (option_map (entry_seen columns time w)) (ap (λ m. entry_text (object m)) is ∙ rows_member d)) }
+  rows_noted : (d : Data) (ms : Members) (entry : Option EntrySeen) → ms ≡ member (codes "rows") d no_members → entry ≡ option_map (entry_seen bound columns time w) (member_text named.Rows d) → MembersNoted bound columns time w named.Rows ms entry
+  rows_noted d ms entry is h = record { passed = (d, is); noted = h ∙ sym (ap (option_map (entry_seen bound columns time w)) (ap (λ m. entry_text (object m)) is ∙ rows_member d)) }
 
-  watermark_noted : (d : Data) (ms : Members) (entry : Option EntrySeen) → ms ≡ member (codes "watermark") d no_members → entry ≡ option_map (entry_seen columns time w) (member_text named.Watermark d)
-      → MembersNoted columns time w named.Watermark ms entry
-  watermark_noted d ms entry is h = record { passed = (d, is); noted = h ∙ sym (ap (option_map (entry_seen columns time w)) (ap (λ m. entry_text (object m)) is ∙ watermark_member d)) }
+  watermark_noted : (d : Data) (ms : Members) (entry : Option EntrySeen) → ms ≡ member (codes "watermark") d no_members → entry ≡ option_map (entry_seen bound columns time w) (member_text named.Watermark d)
+      → MembersNoted bound columns time w named.Watermark ms entry
+  watermark_noted d ms entry is h = record { passed = (d, is); noted = h ∙ sym (ap (option_map (entry_seen bound columns time w)) (ap (λ m. entry_text (object m)) is ∙ watermark_member d)) }
 
-  rows_next : (before : Named) (d : Data) (ms : Members) (next : Option EntrySeen) → Passed before ms → next ≡ option_map (entry_seen columns time w) (member_text named.Rows d)
-      → MembersNoted columns time w (with_member before named.Rows) (put (codes "rows") d ms) (noted_as (with_member before named.Rows) next)
+  rows_next : (before : Named) (d : Data) (ms : Members) (next : Option EntrySeen) → Passed before ms → next ≡ option_map (entry_seen bound columns time w) (member_text named.Rows d)
+      → MembersNoted bound columns time w (with_member before named.Rows) (put (codes "rows") d ms) (noted_as (with_member before named.Rows) next)
   rows_next named.Nothing d ms next p h = rows_noted d (put (codes "rows") d ms) next (ap (put (codes "rows") d) p) h
   rows_next named.Rows d ms next p h = rows_noted d (put (codes "rows") d ms) next (ap (put (codes "rows") d) p.1) h
   rows_next named.Watermark d ms next p h =
@@ -128,8 +128,8 @@ module _ (columns time : ℕ) (w : ℤ) where
       }))
   rows_next named.Others d ms next p h = others_noted (put (codes "rows") d ms) (others_stay (codes "rows") d ms p)
 
-  watermark_next : (before : Named) (d : Data) (ms : Members) (next : Option EntrySeen) → Passed before ms → next ≡ option_map (entry_seen columns time w) (member_text named.Watermark d)
-      → MembersNoted columns time w (with_member before named.Watermark) (put (codes "watermark") d ms) (noted_as (with_member before named.Watermark) next)
+  watermark_next : (before : Named) (d : Data) (ms : Members) (next : Option EntrySeen) → Passed before ms → next ≡ option_map (entry_seen bound columns time w) (member_text named.Watermark d)
+      → MembersNoted bound columns time w (with_member before named.Watermark) (put (codes "watermark") d ms) (noted_as (with_member before named.Watermark) next)
   watermark_next named.Nothing d ms next p h = watermark_noted d (put (codes "watermark") d ms) next (ap (put (codes "watermark") d) p) h
   watermark_next named.Watermark d ms next p h = watermark_noted d (put (codes "watermark") d ms) next (ap (put (codes "watermark") d) p.1) h
   watermark_next named.Rows d ms next p h =
@@ -150,7 +150,7 @@ module _ (columns time : ℕ) (w : ℤ) where
   no_such named.Others = refl
 
   other_next : (before : Named) (k : List ℕ) (d : Data) (ms : Members) (next : Option EntrySeen) → bytes_eq k (codes "rows") ≡ false → bytes_eq k (codes "watermark") ≡ false
-      → MembersNoted columns time w (with_member before named.Others) (put k d ms) (noted_as (with_member before named.Others) next)
+      → MembersNoted bound columns time w (with_member before named.Others) (put k d ms) (noted_as (with_member before named.Others) next)
   other_next before k d ms next one two =
       let has : is_some (get_member k (put k d ms)) ≡ true = ap is_some (got_put k d ms) in
       rw (no_such before) (others_noted (put k d ms) (record {
@@ -165,13 +165,13 @@ module _ (columns time : ℕ) (w : ℤ) where
   abbrev by_names : Bool → Bool → Named
   by_names a b = cond a named.Rows (cond b named.Watermark named.Others)
 
-  pub member_more : (before : Named) (k : List ℕ) (d : Data) (ms : Members) (entry next : Option EntrySeen) → MembersNoted columns time w before ms entry → next ≡ option_map (entry_seen columns time w) (member_text (named_by k) d)
-      → MembersNoted columns time w (with_member before (named_by k)) (put k d ms) (noted_as (with_member before (named_by k)) next)
+  pub member_more : (before : Named) (k : List ℕ) (d : Data) (ms : Members) (entry next : Option EntrySeen) → MembersNoted bound columns time w before ms entry → next ≡ option_map (entry_seen bound columns time w) (member_text (named_by k) d)
+      → MembersNoted bound columns time w (with_member before (named_by k)) (put k d ms) (noted_as (with_member before (named_by k)) next)
   member_more before k d ms entry next i h = by (bytes_eq k (codes "rows")) (bytes_eq k (codes "watermark")) refl refl h
     where
-      by : (a b : Bool) → bytes_eq k (codes "rows") ≡ a → bytes_eq k (codes "watermark") ≡ b → next ≡ option_map (entry_seen columns time w) (member_text (by_names a b) d)
-          → MembersNoted columns time w (with_member before (by_names a b)) (put k d ms) (noted_as (with_member before (by_names a b)) next)
-      by true b one two is = subst (λ n. MembersNoted columns time w (with_member before named.Rows) (put n d ms) (noted_as (with_member before named.Rows) next)) (sym ((bytes_eq-Decides k (codes "rows")).0 one)) (rows_next before d ms next i.passed is)
+      by : (a b : Bool) → bytes_eq k (codes "rows") ≡ a → bytes_eq k (codes "watermark") ≡ b → next ≡ option_map (entry_seen bound columns time w) (member_text (by_names a b) d)
+          → MembersNoted bound columns time w (with_member before (by_names a b)) (put k d ms) (noted_as (with_member before (by_names a b)) next)
+      by true b one two is = subst (λ n. MembersNoted bound columns time w (with_member before named.Rows) (put n d ms) (noted_as (with_member before named.Rows) next)) (sym ((bytes_eq-Decides k (codes "rows")).0 one)) (rows_next before d ms next i.passed is)
       by false true one two is =
-          subst (λ n. MembersNoted columns time w (with_member before named.Watermark) (put n d ms) (noted_as (with_member before named.Watermark) next)) (sym ((bytes_eq-Decides k (codes "watermark")).0 two)) (watermark_next before d ms next i.passed is)
+          subst (λ n. MembersNoted bound columns time w (with_member before named.Watermark) (put n d ms) (noted_as (with_member before named.Watermark) next)) (sym ((bytes_eq-Decides k (codes "watermark")).0 two)) (watermark_next before d ms next i.passed is)
       by false false one two is = other_next before k d ms next one two

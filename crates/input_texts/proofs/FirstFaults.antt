@@ -19,15 +19,15 @@ use Rattle.stream_model.specs.Late.{first_at, first_late_entry}
 use Rattle.input_texts.proofs.Rows.{list_all_map}
 use Rattle.input_texts.specs.Answer.{input_or_fault}
 use Rattle.input_texts.specs.declared.fault.InputFault.{InputFault}
-use Rattle.input_texts.specs.declared.fault.InputFault.TheVariants.{Partitions, Width, Number, Rows, TimeRange, TooMany}
+use Rattle.input_texts.specs.declared.fault.InputFault.TheVariants.{Partitions, Width, Number, Rows, TimeRange, Kind, TooMany}
 use Rattle.input_texts.specs.declared.text.EntryText.{EntryText}
 use Rattle.input_texts.specs.Fault.{late_fault}
 use Rattle.input_texts.specs.InputText.{InputText}
-use Rattle.input_texts.specs.Requirements.{requirements, is_wide, is_whole, is_sized, is_timely, has_sources, has_partitions, has_width, has_numbers, has_rows, has_times, late_record, is_few}
-use Rattle.input_texts.specs.Said.{entry_of, input_of, partitions_under}
+use Rattle.input_texts.specs.Requirements.{requirements, is_wide, is_whole, is_sized, is_timely, has_sources, has_partitions, has_width, has_numbers, has_rows, has_times, has_kinds, late_record, is_few}
+use Rattle.input_texts.specs.Said.{marked_of, input_of, partitions_under}
 use Rattle.input_texts.specs.Document.{is_source, AreSeen}
 use Rattle.input_texts.specs.Seen.{SourceSeen, source_seen}
-use Rattle.input_texts.proofs.Sources.{all_weaker}
+use Rattle.input_texts.proofs.Sources.{all_weaker, own_bounds}
 use Rattle.std.specs.Cmp.{both_ways}
 
 -- ---- tests of each member, and of what stands under each source's name
@@ -124,7 +124,7 @@ narrow_by (Some p) n m le h = omega arith
 
 module _ (plan : PlanData) (text : InputText) where
   abbrev found_of : SourceSpec → SourceSeen
-  found_of s = source_seen plan.columns plan.window.time (partitions_under s.uid text)
+  found_of s = source_seen s.bound plan.columns plan.window.time (partitions_under s.uid text)
 
   counts : (ss : List SourceSpec) → list_all (λ p. p.0.partitions == p.1.partitions) (zip (map found_of ss) ss) ≡ list_all (λ s. length (partitions_under s.uid text) == s.partitions) ss
   counts [] = refl
@@ -136,18 +136,21 @@ module _ (plan : PlanData) (text : InputText) where
       let parts = and_parts (length (partitions_under s.uid text) == s.partitions) (list_all (λ o. length (partitions_under o.uid text) == o.partitions) ss) many in
       let small : s.partitions ≤ MOST_PARTITIONS = few 0 s (omega arith) in
       let same : length (partitions_under s.uid text) ≡ s.partitions = eqb-true (length (partitions_under s.uid text)) s.partitions parts.0 in
-      let entries = map (map (entry_of plan.columns)) (partitions_under s.uid text) in
-      let le : length entries ≤ 2 ^ 32 = omega (arith, length-map (partitions_under s.uid text) (map (entry_of plan.columns))) in
+      let entries = map (map (marked_of s.bound plan.columns plan.window.time)) (partitions_under s.uid text) in
+      let le : length entries ≤ 2 ^ 32 = omega (arith, length-map (partitions_under s.uid text) (map (marked_of s.bound plan.columns plan.window.time))) in
       let here = narrow_by (first_at (first_late_entry plan.window.time) entries) (length entries) (2 ^ 32) le (first_within (first_late_entry plan.window.time) entries) in
       All-cons (λ x. IfSome x.late (λ p. p.0 < 2 ^ 32)) (found_of s) (map found_of ss) here (narrow ss (λ k e h. few (suc k) e (omega arith)) parts.1)
 
-  module _ (found : List SourceSeen) (i : AreSeen plan text found) where
+  module _ (found : List SourceSeen) (i : AreSeen plan text found) (sound : IsPlan plan) where
+    seen_is : found ≡ map found_of plan.sources
+    seen_is = i.seen ∙ own_bounds plan (λ bound s. source_seen bound plan.columns plan.window.time (partitions_under s.uid text)) sound
+
     partitions_are : has_partitions plan text ≡ list_all (λ p. p.0.partitions == p.1.partitions) (zip found plan.sources)
     unfolding has_partitions
-    partitions_are = sym (ap (λ xs. list_all (λ p. p.0.partitions == p.1.partitions) (zip xs plan.sources)) i.seen ∙ counts plan.sources)
+    partitions_are = sym (ap (λ xs. list_all (λ p. p.0.partitions == p.1.partitions) (zip xs plan.sources)) seen_is ∙ counts plan.sources)
 
     tests : (p : SourceSeen → Bool) → list_all p found ≡ list_all (λ s. p (found_of s)) plan.sources
-    tests p = ap (list_all p) i.seen ∙ list_all_map p found_of plan.sources
+    tests p = ap (list_all p) seen_is ∙ list_all_map p found_of plan.sources
 
     width_is : has_width plan text ≡ list_all (λ x. x.met.is_wide) found
     unfolding has_width
@@ -165,24 +168,28 @@ module _ (plan : PlanData) (text : InputText) where
     unfolding has_times
     times_are = every_is (list_all (list_all (is_timely plan.window.time))) plan text i.ordered i.named ∙ sym (tests (λ x. x.met.is_timely))
 
+    kinds_are : has_kinds plan text ≡ list_all (λ x. x.met.is_kind) found
+    unfolding has_kinds
+    kinds_are = sym (tests (λ x. x.met.is_kind))
+
     late_is : late_record plan text ≡ option_map late_fault (first_at (λ x. x.late) found)
     unfolding late_record
-    late_is = ap (option_map late_fault) (first_at_map (first_at (first_late_entry plan.window.time)) (λ s. map (map (entry_of plan.columns)) (partitions_under s.uid text)) plan.sources
-        ∙ sym (ap (first_at (λ x. x.late)) i.seen ∙ first_at_map (λ x. x.late) found_of plan.sources))
+    late_is = ap (option_map late_fault) (first_at_map (first_at (first_late_entry plan.window.time)) (λ s. map (map (marked_of s.bound plan.columns plan.window.time)) (partitions_under s.uid text)) plan.sources
+        ∙ sym (ap (first_at (λ x. x.late)) seen_is ∙ first_at_map (λ x. x.late) found_of plan.sources))
 
     few_is : is_few plan text ≡ nat_le (sum_by (λ x. x.records) found) MOST_RECORDS
     unfolding is_few
-    few_is = ap (λ n. nat_le n MOST_RECORDS) (length-flat_map records_in_source (map (λ s. map (map (entry_of plan.columns)) (partitions_under s.uid text)) plan.sources)
-        ∙ fold-map (λ n ps. n + length (records_in_source ps)) (λ s. map (map (entry_of plan.columns)) (partitions_under s.uid text)) 0 plan.sources
-        ∙ sym (ap (sum_by (λ x. x.records)) i.seen ∙ fold-map (λ n x. n + x.records) found_of 0 plan.sources))
+    few_is = ap (λ n. nat_le n MOST_RECORDS) (length-flat_map records_in_source (map (λ s. map (map (marked_of s.bound plan.columns plan.window.time)) (partitions_under s.uid text)) plan.sources)
+        ∙ fold-map (λ n ps. n + length (records_in_source ps)) (λ s. map (map (marked_of s.bound plan.columns plan.window.time)) (partitions_under s.uid text)) 0 plan.sources
+        ∙ sym (ap (sum_by (λ x. x.records)) seen_is ∙ fold-map (λ n x. n + x.records) found_of 0 plan.sources))
 
     pub partitions_fault : list_all (λ p. p.0.partitions == p.1.partitions) (zip found plan.sources) ≡ false → input_or_fault plan text ≡ Err Partitions
     unfolding requirements
     partitions_fault h = rw (i.named, partitions_are, h) refl
 
     module _ (many : list_all (λ p. p.0.partitions == p.1.partitions) (zip found plan.sources) ≡ true) where
-      pub narrow_late : IsPlan plan → All (λ x. IfSome x.late (λ p. p.0 < 2 ^ 32)) found
-      narrow_late sound = rw i.seen (narrow plan.sources sound.partitions_few (sym (counts plan.sources) ∙ sym (ap (λ xs. list_all (λ p. p.0.partitions == p.1.partitions) (zip xs plan.sources)) i.seen) ∙ many))
+      pub narrow_late : All (λ x. IfSome x.late (λ p. p.0 < 2 ^ 32)) found
+      narrow_late = rw seen_is (narrow plan.sources sound.partitions_few (sym (counts plan.sources) ∙ sym (ap (λ xs. list_all (λ p. p.0.partitions == p.1.partitions) (zip xs plan.sources)) seen_is) ∙ many))
 
       pub width_fault : list_all (λ x. x.met.is_wide) found ≡ false → input_or_fault plan text ≡ Err Width
       unfolding requirements
@@ -204,14 +211,19 @@ module _ (plan : PlanData) (text : InputText) where
             time_fault h = rw (i.named, partitions_are, many, width_is, wide, numbers_are, whole, rows_are, sized, times_are, h) refl
 
             module _ (timely : list_all (λ x. x.met.is_timely) found ≡ true) where
-              pub late_first : (fault : InputFault) → option_map late_fault (first_at (λ x. x.late) found) ≡ Some fault → input_or_fault plan text ≡ Err fault
+              pub kind_fault : list_all (λ x. x.met.is_kind) found ≡ false → input_or_fault plan text ≡ Err Kind
               unfolding requirements
-              late_first fault h = rw (i.named, partitions_are, many, width_is, wide, numbers_are, whole, rows_are, sized, times_are, timely, late_is, h) refl
+              kind_fault h = rw (i.named, partitions_are, many, width_is, wide, numbers_are, whole, rows_are, sized, times_are, timely, kinds_are, h) refl
 
-              pub many_fault : option_map late_fault (first_at (λ x. x.late) found) ≡ None → nat_le (sum_by (λ x. x.records) found) MOST_RECORDS ≡ false → input_or_fault plan text ≡ Err TooMany
-              unfolding requirements
-              many_fault none h = rw (i.named, partitions_are, many, width_is, wide, numbers_are, whole, rows_are, sized, times_are, timely, late_is, none, few_is, h) refl
+              module _ (kind : list_all (λ x. x.met.is_kind) found ≡ true) where
+                pub late_first : (fault : InputFault) → option_map late_fault (first_at (λ x. x.late) found) ≡ Some fault → input_or_fault plan text ≡ Err fault
+                unfolding requirements
+                late_first fault h = rw (i.named, partitions_are, many, width_is, wide, numbers_are, whole, rows_are, sized, times_are, timely, kinds_are, kind, late_is, h) refl
 
-              pub all_met : option_map late_fault (first_at (λ x. x.late) found) ≡ None → nat_le (sum_by (λ x. x.records) found) MOST_RECORDS ≡ true → input_or_fault plan text ≡ Ok (input_of plan text)
-              unfolding requirements
-              all_met none h = rw (i.named, partitions_are, many, width_is, wide, numbers_are, whole, rows_are, sized, times_are, timely, late_is, none, few_is, h) refl
+                pub many_fault : option_map late_fault (first_at (λ x. x.late) found) ≡ None → nat_le (sum_by (λ x. x.records) found) MOST_RECORDS ≡ false → input_or_fault plan text ≡ Err TooMany
+                unfolding requirements
+                many_fault none h = rw (i.named, partitions_are, many, width_is, wide, numbers_are, whole, rows_are, sized, times_are, timely, kinds_are, kind, late_is, none, few_is, h) refl
+
+                pub all_met : option_map late_fault (first_at (λ x. x.late) found) ≡ None → nat_le (sum_by (λ x. x.records) found) MOST_RECORDS ≡ true → input_or_fault plan text ≡ Ok (input_of plan text)
+                unfolding requirements
+                all_met none h = rw (i.named, partitions_are, many, width_is, wide, numbers_are, whole, rows_are, sized, times_are, timely, kinds_are, kind, late_is, none, few_is, h) refl

@@ -11,16 +11,16 @@ use Rattle.std.specs.List.{list_any, find, fold, range_with_len}
 use Rattle.std.specs.Option.{option_or, option_map_or}
 use Rattle.plain_data.specs.Record.{at}
 use Rattle.plain_data.specs.Times.{lowest}
-use Rattle.stream_model.specs.declared.entry.Entry.{Entry}
+use Rattle.stream_model.specs.declared.entry.Marked.{Marked}
 use Rattle.stream_model.specs.InputData.{records_of_entry}
 use Rattle.stream_model.specs.Watermarks.{watermark_of_entry, partition_watermark}
 use Rattle.stream_model.specs.Late.{is_late_time, is_late_at, first_late_entry, first_at}
 
 -- the watermark behind entries
-abbrev pub watermark_over : List Entry → ℤ
+abbrev pub watermark_over : List Marked → ℤ
 watermark_over es = fold (λ w e. int_max w (watermark_of_entry e)) lowest es
 
-pub watermark_more : (es : List Entry) (e : Entry) → watermark_over (es ++ e ∷ []) ≡ int_max (watermark_over es) (watermark_of_entry e)
+pub watermark_more : (es : List Marked) (e : Marked) → watermark_over (es ++ e ∷ []) ≡ int_max (watermark_over es) (watermark_of_entry e)
 watermark_more es e = fold-append (λ w e. int_max w (watermark_of_entry e)) lowest es (e ∷ [])
 
 -- ---- a search in a range, with one more number
@@ -49,7 +49,7 @@ range_more p q from (suc len) same =
 
 -- ---- the entries of a partition
 
-module _ (time : ℕ) (es : List Entry) (e : Entry) where
+module _ (time : ℕ) (es : List Marked) (e : Marked) where
   longer : length (es ++ e ∷ []) ≡ length es + 1
   longer = length-append es (e ∷ [])
 

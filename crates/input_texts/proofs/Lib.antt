@@ -10,5 +10,6 @@ mod NotedTexts
 mod Notings
 mod LateEntries
 mod EntryNotings
+mod Saturated
 mod SourceNotings
 mod FirstFaults

@@ -108,31 +108,31 @@ none_noted plan document slots names planned none_left most = record {
 -- ---- one more member
 
 other_by : (plan : PlanData) (k : List ℕ) (d : Data) (ms : Members) (j : List ℕ) (b : Bool)
-    → (not (is_source plan j) && option_map_or (λ x. not (is_some (slot_of plan x))) (cond b (Some d) (get_member j ms)) false)
-    ≡ cond b (not (is_source plan j) && not (is_some (slot_of plan d))) (is_other plan ms j)
+    → (not (is_source plan j) && option_map_or (λ x. not (is_some (slot_of plan j x))) (cond b (Some d) (get_member j ms)) false)
+    ≡ cond b (not (is_source plan j) && not (is_some (slot_of plan j d))) (is_other plan ms j)
 other_by plan k d ms j true = refl
 other_by plan k d ms j false = refl
 
 other_after : (plan : PlanData) (k : List ℕ) (d : Data) (ms : Members) (j : List ℕ)
-    → is_other plan (put k d ms) j ≡ cond (bytes_eq j k) (not (is_source plan j) && not (is_some (slot_of plan d))) (is_other plan ms j)
+    → is_other plan (put k d ms) j ≡ cond (bytes_eq j k) (not (is_source plan j) && not (is_some (slot_of plan j d))) (is_other plan ms j)
 other_after plan k d ms j =
-    ap (λ o. not (is_source plan j) && option_map_or (λ x. not (is_some (slot_of plan x))) o false) (got_after j k d ms) ∙ other_by plan k d ms j (bytes_eq j k)
+    ap (λ o. not (is_source plan j) && option_map_or (λ x. not (is_some (slot_of plan j x))) o false) (got_after j k d ms) ∙ other_by plan k d ms j (bytes_eq j k)
 
 same_by : (plan : PlanData) (k : List ℕ) (d : Data) (ms : Members) (j : List ℕ) (b : Bool) → is_source plan k ≡ true → bytes_eq j k ≡ b
-    → cond b (not (is_source plan j) && not (is_some (slot_of plan d))) (is_other plan ms j) ≡ is_other plan ms j
+    → cond b (not (is_source plan j) && not (is_some (slot_of plan j d))) (is_other plan ms j) ≡ is_other plan ms j
 same_by plan k d ms j true known equal =
     let same : j ≡ k = (bytes_eq-Decides j k).0 equal in
     let here : is_source plan j ≡ true = ap (is_source plan) same ∙ known in
     rw here refl
 same_by plan k d ms j false known apart = refl
 
-slot_by : (plan : PlanData) (b : Bool) (d : Data) (o : Option Data) → option_map (slot_of plan) (cond b (Some d) o) ≡ cond b (Some (slot_of plan d)) (option_map (slot_of plan) o)
-slot_by plan true d o = refl
-slot_by plan false d o = refl
+slot_by : (plan : PlanData) (uid k : List ℕ) (b : Bool) (d : Data) (o : Option Data) → bytes_eq uid k ≡ b → option_map (slot_of plan uid) (cond b (Some d) o) ≡ cond b (Some (slot_of plan k d)) (option_map (slot_of plan uid) o)
+slot_by plan uid k true d o equal = ap (λ n. Some (slot_of plan n d)) ((bytes_eq-Decides uid k).0 equal)
+slot_by plan uid k false d o apart = refl
 
 slot_after : (plan : PlanData) (k : List ℕ) (d : Data) (ms : Members) (s : SourceSpec)
-    → option_map (slot_of plan) (get_member s.uid (put k d ms)) ≡ cond (bytes_eq s.uid k) (Some (slot_of plan d)) (option_map (slot_of plan) (get_member s.uid ms))
-slot_after plan k d ms s = ap (option_map (slot_of plan)) (got_after s.uid k d ms) ∙ slot_by plan (bytes_eq s.uid k) d (get_member s.uid ms)
+    → option_map (slot_of plan s.uid) (get_member s.uid (put k d ms)) ≡ cond (bytes_eq s.uid k) (Some (slot_of plan k d)) (option_map (slot_of plan s.uid) (get_member s.uid ms))
+slot_after plan k d ms s = ap (option_map (slot_of plan s.uid)) (got_after s.uid k d ms) ∙ slot_by plan s.uid k (bytes_eq s.uid k) d (get_member s.uid ms) refl
 
 some_source : (test : SourceSpec → Bool) (xs : List SourceSpec) (place : ℕ) → position test xs ≡ Some place → SourceSpec
 some_source test [] place found = absurd (cc)
@@ -177,12 +177,12 @@ other_in : (is_malformed b before : Bool) → cond b (is_malformed && false) bef
 other_in is_malformed true before h = absurd (let none = and_false is_malformed in cc)
 other_in is_malformed false before h = h
 
-module _ (plan : PlanData) (most : ℕ) (ms : Members) (old new : Document) (k : List ℕ) (d : Data) (source : Option SourceSeen) (i : IsNoted plan most ms old) (says : source ≡ slot_of plan d) where
+module _ (plan : PlanData) (most : ℕ) (ms : Members) (old new : Document) (k : List ℕ) (d : Data) (source : Option SourceSeen) (i : IsNoted plan most ms old) (says : source ≡ slot_of plan k d) where
   abbrev v : SourceSpec → Option (Option SourceSeen)
-  v s = option_map (slot_of plan) (get_member s.uid ms)
+  v s = option_map (slot_of plan s.uid) (get_member s.uid ms)
 
   abbrev w : SourceSpec → Option (Option SourceSeen)
-  w s = option_map (slot_of plan) (get_member s.uid (put k d ms))
+  w s = option_map (slot_of plan s.uid) (get_member s.uid (put k d ms))
 
   kept_many : most < length (unknown_names plan ms) → most < length (unknown_names plan (put k d ms))
   kept_many h = let kept = unknown_kept plan k d ms in omega (arith, kept, h)
@@ -197,7 +197,7 @@ module _ (plan : PlanData) (most : ℕ) (ms : Members) (old new : Document) (k :
       record {
         ordered = ordered_put k d ms i.ordered;
         filled = slots ∙ (λ o. set (i.filled o) place (Some (says o)))
-            ∙ sym (one_replaced (λ (s : SourceSpec). s.uid) v w k (Some (slot_of plan d)) (slot_after plan k d ms) plan.sources place any at_place.0 at_place.1 (distinct_sources plan sound));
+            ∙ sym (one_replaced (λ (s : SourceSpec). s.uid) v w k (Some (slot_of plan k d)) (slot_after plan k d ms) plan.sources place any at_place.0 at_place.1 (distinct_sources plan sound));
         planned = planned ∙ i.planned ∙ sym (named_put (is_source plan) k d ms ∙ ap (λ b. b && list_all (is_source plan) (names_of ms)) known);
         named = λ j h. same j ∙ i.named j (sym (ap (list_any (bytes_eq j)) names) ∙ h);
         told = λ all j h. ap (list_any (bytes_eq j)) names ∙ i.told (sym more ∙ all) j (sym (same j) ∙ h);
@@ -219,18 +219,19 @@ module _ (plan : PlanData) (most : ℕ) (ms : Members) (old new : Document) (k :
   many_by is_malformed false true either before unknown names full = absurd (cc)
   many_by is_malformed false false either before unknown names full = full_many is_malformed unknown names (full refl)
 
-  named_by : (has_room is_malformed b : Bool) (j : List ℕ) → is_source plan k ≡ false → is_malformed ≡ not (is_some (slot_of plan d)) → bytes_eq j k ≡ b → cond b (is_malformed && has_room) (list_any (bytes_eq j) (names_in old.names)) ≡ true
-      → cond b (not (is_source plan j) && not (is_some (slot_of plan d))) (is_other plan ms j) ≡ true
+  named_by : (has_room is_malformed b : Bool) (j : List ℕ) → is_source plan k ≡ false → is_malformed ≡ not (is_some (slot_of plan k d)) → bytes_eq j k ≡ b → cond b (is_malformed && has_room) (list_any (bytes_eq j) (names_in old.names)) ≡ true
+      → cond b (not (is_source plan j) && not (is_some (slot_of plan j d))) (is_other plan ms j) ≡ true
   named_by has_room is_malformed true j unknown form equal h =
       let same : j ≡ k = (bytes_eq-Decides j k).0 equal in
-      let here : is_source plan j ≡ false = ap (is_source plan) same ∙ unknown in
-      rw here (sym form ∙ (and_parts is_malformed has_room h).0)
+      let here : is_source plan k ≡ false = unknown in
+      ap (λ n. not (is_source plan n) && not (is_some (slot_of plan n d))) same ∙ rw here (sym form ∙ (and_parts is_malformed has_room h).0)
   named_by has_room is_malformed false j unknown form apart h = i.named j h
 
-  told_by : (is_malformed b : Bool) (j : List ℕ) → old.are_more ≡ false → is_malformed ≡ not (is_some (slot_of plan d)) → bytes_eq j k ≡ b
-      → cond b (not (is_source plan j) && not (is_some (slot_of plan d))) (is_other plan ms j) ≡ true → cond b (is_malformed && true) (list_any (bytes_eq j) (names_in old.names)) ≡ true
+  told_by : (is_malformed b : Bool) (j : List ℕ) → old.are_more ≡ false → is_malformed ≡ not (is_some (slot_of plan k d)) → bytes_eq j k ≡ b
+      → cond b (not (is_source plan j) && not (is_some (slot_of plan j d))) (is_other plan ms j) ≡ true → cond b (is_malformed && true) (list_any (bytes_eq j) (names_in old.names)) ≡ true
   told_by is_malformed true j all form equal h =
-      let there : is_malformed ≡ true = form ∙ (and_parts (not (is_source plan j)) (not (is_some (slot_of plan d))) h).1 in
+      let same : j ≡ k = (bytes_eq-Decides j k).0 equal in
+      let there : is_malformed ≡ true = form ∙ ap (λ n. not (is_some (slot_of plan n d))) (sym same) ∙ (and_parts (not (is_source plan j)) (not (is_some (slot_of plan j d))) h).1 in
       rw there refl
   told_by is_malformed false j all form apart h = i.told all j h
 
@@ -239,10 +240,10 @@ module _ (plan : PlanData) (most : ℕ) (ms : Members) (old new : Document) (k :
       → new.is_planned ≡ false → new.are_more ≡ (old.are_more || not has_room)
       → (has_room ≡ false → (most ≤ length (names_in new.names)) × IsDistinct bytes_eq (names_in new.names)) → IsNoted plan most (put k d ms) new
   other_put has_room is_malformed unknown form slots names planned more full =
-      let is : is_malformed ≡ not (is_some (slot_of plan d)) = form ∙ ap (λ o. not (is_some o)) says in
+      let is : is_malformed ≡ not (is_some (slot_of plan k d)) = form ∙ ap (λ o. not (is_some o)) says in
       record {
         ordered = ordered_put k d ms i.ordered;
-        filled = slots ∙ i.filled ∙ sym (all_kept (λ (s : SourceSpec). s.uid) v w k (Some (slot_of plan d)) (slot_after plan k d ms) plan.sources unknown);
+        filled = slots ∙ i.filled ∙ sym (all_kept (λ (s : SourceSpec). s.uid) v w k (Some (slot_of plan k d)) (slot_after plan k d ms) plan.sources unknown);
         planned = planned ∙ sym (named_put (is_source plan) k d ms ∙ ap (λ b. b && list_all (is_source plan) (names_of ms)) unknown);
         named = λ j h. other_after plan k d ms j ∙ named_by has_room is_malformed (bytes_eq j k) j unknown is refl (sym (names j) ∙ h);
         told = λ all j h.

@@ -1,5 +1,5 @@
 -- The text that the members of a document say, where each is of its form, and what is seen of its sources.
-use Rattle.std.proofs.Common.{◌≡◌, ℕ, ◌+◌, ◌==◌, length, Bool, true, false, not, ◌&&◌, ◌||◌, cond, List, [], ◌∷◌, map, Option, Some, None, option_map, option_and_then, is_some, bytes_eq, nat_cmp, Ordering, Less, Equal, Greater, is_eq, is_lt, Err, refl, sym, ap, ◌∙◌, arith}
+use Rattle.std.proofs.Common.{◌≡◌, ℕ, ℤ, ◌+◌, ◌==◌, length, Bool, true, false, not, ◌&&◌, ◌||◌, cond, List, [], ◌∷◌, map, Option, Some, None, option_map, option_and_then, is_some, bytes_eq, nat_cmp, Ordering, Less, Equal, Greater, is_eq, is_lt, Err, refl, sym, ap, ◌∙◌, arith}
 use Rattle.std.proofs.lemmas.Bool.{and_parts, or_parts, not-true, not-false}
 use Rattle.std.proofs.lemmas.Bool.Decides.{nat_tests}
 use Rattle.std.proofs.lemmas.Map.Text.{is_eq-slice_cmp}
@@ -23,7 +23,7 @@ use Rattle.input_texts.specs.InputText.{entry_text, InputText, input_text}
 use Rattle.input_texts.specs.Requirements.{requirements, has_sources}
 use Rattle.input_texts.specs.Said.{partitions_under}
 use Rattle.input_texts.specs.Document.{Document, pairs, names_in, is_source, is_other, is_other_slot, IsNoted, AreSeen}
-use Rattle.input_texts.specs.Seen.{SourceSeen, source_seen, slot_of}
+use Rattle.input_texts.specs.Seen.{SourceSeen, bound_under, source_seen, slot_of}
 use Rattle.input_texts.proofs.Sources.{found_at}
 use Rattle.input_texts.proofs.Pairs.{same_some, under}
 use Rattle.json_tokens.proofs.Facts.{equal_from}
@@ -63,27 +63,27 @@ no_text : (ms : Members) → HasOther ms → input_text (object ms) ≡ None
 unfolding input_text members_text
 no_text ms other = none_each other.0 other.1 ms other.3 other.2
 
-no_form : (plan : PlanData) (o : Option (List (List EntryText))) → is_some (option_map (source_seen plan.columns plan.window.time) o) ≡ false → o ≡ None
-no_form plan None h = refl
-no_form plan (Some ps) h = absurd (cc)
+no_form : (bound : Option ℤ) (plan : PlanData) (o : Option (List (List EntryText))) → is_some (option_map (source_seen bound plan.columns plan.window.time) o) ≡ false → o ≡ None
+no_form bound plan None h = refl
+no_form bound plan (Some ps) h = absurd (cc)
 
-slot_other : (plan : PlanData) (ms : Members) (k : List ℕ) (o : Option Data) → get_member k ms ≡ o → is_other_slot (option_map (slot_of plan) o) ≡ true → HasOther ms
+slot_other : (plan : PlanData) (ms : Members) (k : List ℕ) (o : Option Data) → get_member k ms ≡ o → is_other_slot (option_map (slot_of plan k) o) ≡ true → HasOther ms
 slot_other plan ms k None got h = absurd (cc)
-slot_other plan ms k (Some d) got h = (k, d, got, no_form plan (form d) (not-true (is_some (slot_of plan d)) h))
+slot_other plan ms k (Some d) got h = (k, d, got, no_form (bound_under plan k) plan (form d) (not-true (is_some (slot_of plan k d)) h))
 
 either_by : (a b : Bool) {P : Type 0} → (a || b) ≡ true → (a ≡ true → P) → (b ≡ true → P) → P
 either_by true b h f g = f refl
 either_by false b h f g = g h
 
-slots_other : (plan : PlanData) (ms : Members) (ss : List SourceSpec) → list_any is_other_slot (map (λ s. option_map (slot_of plan) (get_member s.uid ms)) ss) ≡ true → HasOther ms
+slots_other : (plan : PlanData) (ms : Members) (ss : List SourceSpec) → list_any is_other_slot (map (λ s. option_map (slot_of plan s.uid) (get_member s.uid ms)) ss) ≡ true → HasOther ms
 slots_other plan ms [] h = absurd (cc)
 slots_other plan ms (s ∷ ss) h =
-    either_by (is_other_slot (option_map (slot_of plan) (get_member s.uid ms))) (list_any is_other_slot (map (λ o. option_map (slot_of plan) (get_member o.uid ms)) ss)) h
+    either_by (is_other_slot (option_map (slot_of plan s.uid) (get_member s.uid ms))) (list_any is_other_slot (map (λ o. option_map (slot_of plan o.uid) (get_member o.uid ms)) ss)) h
     (slot_other plan ms s.uid (get_member s.uid ms) refl) (slots_other plan ms ss)
 
-got_other : (plan : PlanData) (ms : Members) (k : List ℕ) (o : Option Data) → get_member k ms ≡ o → option_map_or (λ d. not (is_some (slot_of plan d))) o false ≡ true → HasOther ms
+got_other : (plan : PlanData) (ms : Members) (k : List ℕ) (o : Option Data) → get_member k ms ≡ o → option_map_or (λ d. not (is_some (slot_of plan k d))) o false ≡ true → HasOther ms
 got_other plan ms k None got h = absurd (cc)
-got_other plan ms k (Some d) got h = (k, d, got, no_form plan (form d) (not-true (is_some (slot_of plan d)) h))
+got_other plan ms k (Some d) got h = (k, d, got, no_form (bound_under plan k) plan (form d) (not-true (is_some (slot_of plan k d)) h))
 
 same_bytes : (k : List ℕ) → bytes_eq k k ≡ true
 same_bytes k = (bytes_eq-Decides k k).1 refl
@@ -96,7 +96,7 @@ names_other : (plan : PlanData) (ms : Members) (names : List (List ℕ)) → ((k
 names_other plan ms [] named h = absurd (cc)
 names_other plan ms (k ∷ ks) named h =
     let here : (bytes_eq k k || list_any (bytes_eq k) ks) ≡ true = ap (λ b. b || list_any (bytes_eq k) ks) (same_bytes k) in
-    got_other plan ms k (get_member k ms) refl (and_parts (not (is_source plan k)) (option_map_or (λ d. not (is_some (slot_of plan d))) (get_member k ms) false) (named k here)).1
+    got_other plan ms k (get_member k ms) refl (and_parts (not (is_source plan k)) (option_map_or (λ d. not (is_some (slot_of plan k d))) (get_member k ms) false) (named k here)).1
 
 no_items : {X : Type 0} (xs : List X) → (length xs == 0) ≡ is_empty xs
 no_items [] = refl
@@ -166,23 +166,23 @@ mapped_some : {A B : Type 0} (f : A → B) (o : Option A) → is_some (option_ma
 mapped_some f None = refl
 mapped_some f (Some a) = refl
 
-source_by : (plan : PlanData) (ms : Members) (k : List ℕ) (d : Data) (b : Bool) (s : SourceSpec) → bytes_eq s.uid k ≡ b → get_member k ms ≡ Some d → is_other_slot (option_map (slot_of plan) (get_member s.uid ms)) ≡ false
-    → (b ≡ false → is_some (slot_of plan d) ≡ true) → is_some (slot_of plan d) ≡ true
+source_by : (plan : PlanData) (ms : Members) (k : List ℕ) (d : Data) (b : Bool) (s : SourceSpec) → bytes_eq s.uid k ≡ b → get_member k ms ≡ Some d → is_other_slot (option_map (slot_of plan s.uid) (get_member s.uid ms)) ≡ false
+    → (b ≡ false → is_some (slot_of plan k d) ≡ true) → is_some (slot_of plan k d) ≡ true
 source_by plan ms k d true s equal got h later =
     let same : s.uid ≡ k = (bytes_eq-Decides s.uid k).0 equal in
-    let here : option_map (slot_of plan) (get_member s.uid ms) ≡ Some (slot_of plan d) = ap (λ n. option_map (slot_of plan) (get_member n ms)) same ∙ ap (option_map (slot_of plan)) got in
-    not-false (is_some (slot_of plan d)) (ap is_other_slot (sym here) ∙ h)
+    let here : option_map (slot_of plan s.uid) (get_member s.uid ms) ≡ Some (slot_of plan k d) = ap (λ n. option_map (slot_of plan n) (get_member n ms)) same ∙ ap (option_map (slot_of plan k)) got in
+    not-false (is_some (slot_of plan k d)) (ap is_other_slot (sym here) ∙ h)
 source_by plan ms k d false s apart got h later = later refl
 
-source_form : (plan : PlanData) (ms : Members) (k : List ℕ) (d : Data) (ss : List SourceSpec) → list_any (λ s. bytes_eq s.uid k) ss ≡ true → list_any is_other_slot (map (λ s. option_map (slot_of plan) (get_member s.uid ms)) ss) ≡ false
-    → get_member k ms ≡ Some d → is_some (slot_of plan d) ≡ true
+source_form : (plan : PlanData) (ms : Members) (k : List ℕ) (d : Data) (ss : List SourceSpec) → list_any (λ s. bytes_eq s.uid k) ss ≡ true → list_any is_other_slot (map (λ s. option_map (slot_of plan s.uid) (get_member s.uid ms)) ss) ≡ false
+    → get_member k ms ≡ Some d → is_some (slot_of plan k d) ≡ true
 source_form plan ms k d [] known h got = absurd (cc)
 source_form plan ms k d (s ∷ ss) known h got =
-    let parts = or_parts (is_other_slot (option_map (slot_of plan) (get_member s.uid ms))) (list_any is_other_slot (map (λ o. option_map (slot_of plan) (get_member o.uid ms)) ss)) h in
+    let parts = or_parts (is_other_slot (option_map (slot_of plan s.uid) (get_member s.uid ms))) (list_any is_other_slot (map (λ o. option_map (slot_of plan o.uid) (get_member o.uid ms)) ss)) h in
     source_by plan ms k d (bytes_eq s.uid k) s refl got parts.0
     (λ apart. source_form plan ms k d ss (sym (ap (λ b. b || list_any (λ o. bytes_eq o.uid k) ss) apart) ∙ known) parts.1 got)
 
-other_form : (plan : PlanData) (ms : Members) (k : List ℕ) (d : Data) (b : Bool) → is_some (slot_of plan d) ≡ b → is_source plan k ≡ false → get_member k ms ≡ Some d → (is_other plan ms k ≡ true → ⊥) → b ≡ true
+other_form : (plan : PlanData) (ms : Members) (k : List ℕ) (d : Data) (b : Bool) → is_some (slot_of plan k d) ≡ b → is_source plan k ≡ false → get_member k ms ≡ Some d → (is_other plan ms k ≡ true → ⊥) → b ≡ true
 other_form plan ms k d true form unknown got never = refl
 other_form plan ms k d false form unknown got never =
     absurd (never (rw (unknown, got, form) refl))
@@ -192,17 +192,17 @@ empty_names [] k h any = cc
 empty_names (n ∷ ns) k h any = cc
 
 formed_by : (plan : PlanData) (most : ℕ) (ms : Members) (document : Document) (k : List ℕ) (d : Data) (b : Bool) → IsNoted plan most ms document → list_any is_other_slot document.slots.items ≡ false → is_empty (names_in document.names) ≡ true
-    → document.are_more ≡ false → is_source plan k ≡ b → get_member k ms ≡ Some d → is_some (slot_of plan d) ≡ true
+    → document.are_more ≡ false → is_source plan k ≡ b → get_member k ms ≡ Some d → is_some (slot_of plan k d) ≡ true
 formed_by plan most ms document k d true i slots names all known got = source_form plan ms k d plan.sources known (ap (list_any is_other_slot) (sym i.filled) ∙ slots) got
 formed_by plan most ms document k d false i slots names all unknown got =
-    other_form plan ms k d (is_some (slot_of plan d)) refl unknown got (λ other. empty_names (names_in document.names) k names (i.told all k other))
+    other_form plan ms k d (is_some (slot_of plan k d)) refl unknown got (λ other. empty_names (names_in document.names) k names (i.told all k other))
 
 pub text_noted : (plan : PlanData) (most : ℕ) (ms : Members) (document : Document) (a b : Bool) → IsNoted plan most ms document → a ≡ list_any is_other_slot document.slots.items → b ≡ (length (names_in document.names) == 0) → (a || not b) ≡ false
     → document.are_more ≡ false → (text : InputText) × Said ms text
 text_noted plan most ms document a b i slots names h all =
     let parts = or_parts a (not b) h in
     let empty : is_empty (names_in document.names) ≡ true = sym (no_items (names_in document.names)) ∙ sym names ∙ not-false b parts.1 in
-    all_said ms i.ordered (λ k d got. sym (mapped_some (source_seen plan.columns plan.window.time) (form d))
+    all_said ms i.ordered (λ k d got. sym (mapped_some (source_seen (bound_under plan k) plan.columns plan.window.time) (form d))
     ∙ formed_by plan most ms document k d (is_source plan k) i (sym slots ∙ parts.0) empty all refl got)
 
 -- ---- what is seen of the sources of that text
@@ -233,23 +233,23 @@ found_said uid none_said = refl
 found_said uid (one_said {l = l} {e = e} {ms = ms} {y = y} {ps = ps} first others) =
     found_by (slice_cmp nat_cmp uid l) (bytes_eq l uid) l e y (get_member uid ms) (find (λ m. bytes_eq m.0 uid) ps) (is_eq-slice_cmp uid l ∙ nat_list_eq_equiv.symm uid l) first (found_said uid others)
 
-seen_once : (plan : PlanData) (o : Option Data) → option_map (slot_of plan) o ≡ option_map (option_map (source_seen plan.columns plan.window.time)) (option_map form o)
-seen_once plan None = refl
-seen_once plan (Some d) = refl
+seen_once : (plan : PlanData) (uid : List ℕ) (o : Option Data) → option_map (slot_of plan uid) o ≡ option_map (option_map (source_seen (bound_under plan uid) plan.columns plan.window.time)) (option_map form o)
+seen_once plan uid None = refl
+seen_once plan uid (Some d) = refl
 
-seen_twice : (plan : PlanData) (o : Option (List (List EntryText))) → option_map (option_map (source_seen plan.columns plan.window.time)) (option_map Some o) ≡ option_map (λ ps. Some (source_seen plan.columns plan.window.time ps)) o
-seen_twice plan None = refl
-seen_twice plan (Some ps) = refl
+seen_twice : (plan : PlanData) (bound : Option ℤ) (o : Option (List (List EntryText))) → option_map (option_map (source_seen bound plan.columns plan.window.time)) (option_map Some o) ≡ option_map (λ ps. Some (source_seen bound plan.columns plan.window.time ps)) o
+seen_twice plan bound None = refl
+seen_twice plan bound (Some ps) = refl
 
 -- what the place of a source has, by the text
 abbrev slot_in : PlanData → InputText → SourceSpec → Option (Option SourceSeen)
-slot_in plan text s = option_map (λ ps. Some (source_seen plan.columns plan.window.time ps)) (under s.uid text)
+slot_in plan text s = option_map (λ ps. Some (source_seen (bound_under plan s.uid) plan.columns plan.window.time ps)) (under s.uid text)
 
-slot_said : (plan : PlanData) (ms : Members) (text : InputText) (uid : List ℕ) → Said ms text → option_map (slot_of plan) (get_member uid ms) ≡ option_map (λ ps. Some (source_seen plan.columns plan.window.time ps)) (under uid text)
+slot_said : (plan : PlanData) (ms : Members) (text : InputText) (uid : List ℕ) → Said ms text → option_map (slot_of plan uid) (get_member uid ms) ≡ option_map (λ ps. Some (source_seen (bound_under plan uid) plan.columns plan.window.time ps)) (under uid text)
 slot_said plan ms text uid said =
-    seen_once plan (get_member uid ms) ∙ ap (option_map (option_map (source_seen plan.columns plan.window.time))) (found_said uid said) ∙ seen_twice plan (under uid text)
+    seen_once plan uid (get_member uid ms) ∙ ap (option_map (option_map (source_seen (bound_under plan uid) plan.columns plan.window.time))) (found_said uid said) ∙ seen_twice plan (bound_under plan uid) (under uid text)
 
-slots_said : (plan : PlanData) (ms : Members) (text : InputText) (ss : List SourceSpec) → Said ms text → map (λ s. option_map (slot_of plan) (get_member s.uid ms)) ss ≡ map (slot_in plan text) ss
+slots_said : (plan : PlanData) (ms : Members) (text : InputText) (ss : List SourceSpec) → Said ms text → map (λ s. option_map (slot_of plan s.uid) (get_member s.uid ms)) ss ≡ map (slot_in plan text) ss
 slots_said plan ms text [] said = refl
 slots_said plan ms text (s ∷ ss) said = λ o. slot_said plan ms text s.uid said o ∷ slots_said plan ms text ss said o
 
@@ -264,7 +264,7 @@ is_given f (m ∷ ms) uid = given_by f (bytes_eq m.0 uid) m (find (λ o. bytes_e
 
 all_given : (plan : PlanData) (text : InputText) (ss : List SourceSpec) → list_all is_some (map (slot_in plan text) ss) ≡ list_all (λ s. list_any (λ m. bytes_eq m.0 s.uid) text) ss
 all_given plan text [] = refl
-all_given plan text (s ∷ ss) = λ o. is_given (λ ps. Some (source_seen plan.columns plan.window.time ps)) text s.uid o && all_given plan text ss o
+all_given plan text (s ∷ ss) = λ o. is_given (λ ps. Some (source_seen (bound_under plan s.uid) plan.columns plan.window.time ps)) text s.uid o && all_given plan text ss o
 
 named_as : (plan : PlanData) (most : ℕ) (ms : Members) (document : Document) (text : InputText) → IsNoted plan most ms document → Said ms text → has_sources plan text ≡ (document.is_planned && list_all is_some document.slots.items)
 unfolding has_sources
@@ -278,15 +278,15 @@ unfolding requirements
 source_fault plan most ms document text i said h = rw (named_as plan most ms document text i said, h) refl
 
 seen_given : (plan : PlanData) (text : InputText) (ss : List SourceSpec) (found : List SourceSeen) → map (slot_in plan text) ss ≡ map (λ (x : SourceSeen). Some (Some x)) found
-    → found ≡ map (λ s. source_seen plan.columns plan.window.time (partitions_under s.uid text)) ss
+    → found ≡ map (λ s. source_seen (bound_under plan s.uid) plan.columns plan.window.time (partitions_under s.uid text)) ss
 seen_given plan text [] [] are = refl
 seen_given plan text [] (x ∷ xs) are = absurd (cc)
 seen_given plan text (s ∷ ss) [] are = absurd (cc)
 seen_given plan text (s ∷ ss) (x ∷ xs) are =
     let first : slot_in plan text s ≡ Some (Some x) = cc in
     let others : map (slot_in plan text) ss ≡ map (λ (y : SourceSeen). Some (Some y)) xs = cc in
-    let here = found_at (λ (m : List ℕ × List (List EntryText)). m.1) (λ ps. Some (source_seen plan.columns plan.window.time ps)) (find (λ m. bytes_eq m.0 s.uid) text) (Some x) first in
-    let same : x ≡ source_seen plan.columns plan.window.time (partitions_under s.uid text) = same_some x (source_seen plan.columns plan.window.time (partitions_under s.uid text)) here.2 in
+    let here = found_at (λ (m : List ℕ × List (List EntryText)). m.1) (λ ps. Some (source_seen (bound_under plan s.uid) plan.columns plan.window.time ps)) (find (λ m. bytes_eq m.0 s.uid) text) (Some x) first in
+    let same : x ≡ source_seen (bound_under plan s.uid) plan.columns plan.window.time (partitions_under s.uid text) = same_some x (source_seen (bound_under plan s.uid) plan.columns plan.window.time (partitions_under s.uid text)) here.2 in
     λ o. same o ∷ seen_given plan text ss xs others o
 
 pub are_seen : (plan : PlanData) (most : ℕ) (ms : Members) (document : Document) (text : InputText) (found : List SourceSeen) → IsNoted plan most ms document → Said ms text

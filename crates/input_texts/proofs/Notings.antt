@@ -1,8 +1,8 @@
 -- What is noted of a list, part by part.
-use Rattle.std.proofs.Common.{◌≡◌, ℕ, zero, suc, ◌-◌, ◌<◌, ◌==◌, ◌&&◌, ◌||◌, ℤ, SFits, w64, Bool, true, false, cond, map, List, [], ◌∷◌, ◌++◌, length, Option, Some, None, is_some, option_map, option_and_then, Result, Ok, Err, refl, sym, ap, ◌∙◌, arith}
+use Rattle.std.proofs.Common.{◌≡◌, ℕ, zero, suc, ◌-◌, ◌<◌, ◌==◌, ◌&&◌, ◌||◌, ℤ, Bool, true, false, cond, map, List, [], ◌∷◌, ◌++◌, length, Option, Some, None, is_some, option_map, option_and_then, Result, Ok, Err, refl, sym, ap, ◌∙◌, arith}
 use Rattle.std.proofs.lemmas.Bool.{ne_eqb}
-use Rattle.std.proofs.lemmas.Int.{ints}
-use Rattle.std.proofs.lemmas.List.{length-map}
+use Rattle.std.proofs.lemmas.List.{length-map, map-append}
+use Rattle.std.proofs.lemmas.List.Sums.{fold-append}
 use Rattle.std.proofs.Math.Dec.{eqb-suc-suc}
 use Rattle.std.proofs.lemmas.List.Folds.{list_all-append, list_any-append}
 use Rattle.stream_model.specs.Late.{is_late_time}
@@ -18,10 +18,12 @@ use Rattle.json_parts.specs.Parts.{whole, list_of, each, list_text, cell_text}
 use Rattle.json_tokens.specs.Ahead.{parts}
 use Rattle.json_tokens.specs.Passed.{Passes}
 use Rattle.json_tokens.proofs.Facts.{converted_some, list_opens}
-use Rattle.plain_data.specs.Record.{at}
+use Rattle.lane_kernels.specs.Compare.{greatest_of}
+use Rattle.plain_data.specs.Record.{at, column_of}
 use Rattle.plain_data.specs.Times.{lowest}
-use Rattle.input_texts.specs.Said.{number_of, record_of}
-use Rattle.input_texts.specs.Seen.{RowSeen, Notes, all_met, joined, met_by_row, row_seen, rows_seen, with_row, of_rows}
+use Rattle.input_texts.specs.InputText.{rows, watermark}
+use Rattle.input_texts.specs.Said.{number_of, record_of, marked_of}
+use Rattle.input_texts.specs.Seen.{RowSeen, Notes, all_met, brought, greater, joined, met_by_row, row_seen, rows_seen, with_row, of_rows}
 use Rattle.input_texts.proofs.Pairs.{and_then_parts, same_some}
 use Rattle.plan_model.proofs.Facts.{and_true, or_false}
 
@@ -34,6 +36,22 @@ any_more p xs x = list_any-append p xs (x ∷ []) ∙ ap (λ b. list_any p xs ||
 any_map : {A B : Type 0} (p : B → Bool) (f : A → B) (xs : List A) → list_any p (map f xs) ≡ list_any (λ x. p (f x)) xs
 any_map p f [] = refl
 any_map p f (x ∷ xs) = ap (λ b. p (f x) || b) (any_map p f xs)
+
+-- each of them passes a test that all pass
+pub all_true : {X : Type 0} (xs : List X) → list_all (λ x. true) xs ≡ true
+all_true [] = refl
+all_true (x ∷ xs) = all_true xs
+
+-- the greatest number, with one more
+greatest_more : (xs : List ℤ) (x : ℤ) → greatest_of (xs ++ x ∷ []) ≡ greater (greatest_of xs) (Some x)
+greatest_more [] x = refl
+greatest_more (y ∷ ys) x = ap (λ z. Some z) (fold-append int_max y ys (x ∷ []))
+
+greatest_row : (time : ℕ) (found : List (List (Option ℤ))) (row : List (Option ℤ))
+    → greatest_of (column_of time (map record_of (found ++ row ∷ []))) ≡ greater (greatest_of (column_of time (map record_of found))) (Some (at time (record_of row)))
+greatest_row time found row =
+    ap (λ rs. greatest_of (column_of time rs)) (map-append record_of found (row ∷ [])) ∙ ap greatest_of (map-append (at time) (map record_of found) (record_of row ∷ []))
+    ∙ greatest_more (column_of time (map record_of found)) (at time (record_of row))
 
 -- the number in a column, with one more cell
 pub at_more : (c : ℕ) (cells : List (Option ℤ)) (cell : Option ℤ) → at c (record_of (cells ++ cell ∷ [])) ≡ cond (length cells == c) (number_of cell) (at c (record_of cells))
@@ -165,7 +183,7 @@ module _ (columns time : ℕ) (w : ℤ) where
 
   -- of rows that have the form
   pub rows_so_far : List (List (Option ℤ)) → RowSeen
-  rows_so_far found = record { met = all_met (met_by_row columns time) found; is_late = list_any (λ row. is_late_time w (at time (record_of row))) found }
+  rows_so_far found = record { met = all_met (met_by_row columns time) found; is_late = list_any (λ row. is_late_time w (at time (record_of row))) found; greatest = greatest_of (column_of time (map record_of found)) }
 
   pub rows_more : (found : List (List (Option ℤ))) (row : List (Option ℤ)) → rows_so_far (found ++ row ∷ []) ≡ with_row (rows_so_far found) (row_seen columns time w row)
   unfolding rows_so_far
@@ -175,31 +193,43 @@ module _ (columns time : ℕ) (w : ℤ) where
       is_whole = all_more (λ y. (met_by_row columns time y).is_whole) found row o;
       is_sized = all_more (λ y. (met_by_row columns time y).is_sized) found row o;
       is_timely = all_more (λ y. (met_by_row columns time y).is_timely) found row o;
+      is_kind = all_more (λ y. (met_by_row columns time y).is_kind) found row o;
     };
     is_late = any_more (λ y. is_late_time w (at time (record_of y))) found row o;
+    greatest = greatest_row time found row o;
   }
 
-  pub no_rows : rows_so_far [] ≡ record { met = record { is_wide = true; is_whole = true; is_sized = true; is_timely = true }; is_late = false }
+  pub no_rows : rows_so_far [] ≡ record { met = record { is_wide = true; is_whole = true; is_sized = true; is_timely = true; is_kind = true }; is_late = false; greatest = None }
   unfolding rows_so_far
   no_rows = refl
 
-  low_max : SFits w64 w → int_max w lowest ≡ w
-  low_max h = let fits = h.sfits in grind (arith, ints)
+  -- what the rows bring
+  rows_bring : (bound : Option ℤ) (found : List (List (Option ℤ))) → brought bound (greatest_of (column_of time (map record_of found))) ≡ (marked_of bound columns time (rows found)).mark
+  rows_bring None found = refl
+  rows_bring (Some b) found = refl
 
-  rows_by : (count : ℕ) (ds : List Data) (all : RowSeen) (o : Option (List (List (Option ℤ)))) → SFits w64 w → each (list_text cell_text) ds ≡ o → count ≡ length ds → Some all ≡ option_map rows_so_far o
-      → Some (of_rows all count w) ≡ option_map (rows_seen columns time w) o
+  -- and what a watermark brings
+  pub watermark_brings : (bound : Option ℤ) (cell : Option ℤ) → cond (is_some bound) lowest (number_of cell) ≡ (marked_of bound columns time (watermark cell)).mark
+  watermark_brings None cell = refl
+  watermark_brings (Some b) cell = refl
+
+  abbrev behind : Option ℤ → RowSeen → ℤ
+  behind bound all = int_max w (brought bound all.greatest)
+
+  rows_by : (bound : Option ℤ) (count : ℕ) (ds : List Data) (all : RowSeen) (o : Option (List (List (Option ℤ)))) → each (list_text cell_text) ds ≡ o → count ≡ length ds → Some all ≡ option_map rows_so_far o
+      → Some (of_rows all count (behind bound all)) ≡ option_map (rows_seen bound columns time w) o
   unfolding rows_so_far
-  rows_by count ds all None low is counted h = absurd (cc)
-  rows_by count ds all (Some found) low is counted h =
+  rows_by bound count ds all None is counted h = absurd (cc)
+  rows_by bound count ds all (Some found) is counted h =
       let all_is : all ≡ rows_so_far found = same_some all (rows_so_far found) h in
       let long : count ≡ length found = counted ∙ sym (each_length (list_text cell_text) ds found is) in
-      ap (λ s. Some s) (ap (λ a. of_rows a count w) all_is ∙ ap (λ n. of_rows (rows_so_far found) n w) long ∙ (λ o. record {
-        met = (rows_seen columns time w found).met;
+      ap (λ s. Some s) (ap (λ a. of_rows a count (behind bound a)) all_is ∙ ap (λ n. of_rows (rows_so_far found) n (behind bound (rows_so_far found))) long ∙ (λ o. record {
+        met = record { is_wide = (rows_seen bound columns time w found).met.is_wide; is_whole = (rows_seen bound columns time w found).met.is_whole; is_sized = (rows_seen bound columns time w found).met.is_sized; is_timely = (rows_seen bound columns time w found).met.is_timely; is_kind = all_true found o };
         is_late = sym (any_map (λ r. is_late_time w (at time r)) record_of found) o;
-        watermark = sym (low_max low) o;
+        watermark = ap (int_max w) (rows_bring bound found) o;
         records = sym (length-map found record_of) o;
       }))
 
-  pub rows_over : (count : ℕ) (ds : List Data) (all : RowSeen) → SFits w64 w → count ≡ length ds → Some all ≡ option_map rows_so_far (each (list_text cell_text) ds)
-      → Some (of_rows all count w) ≡ option_map (rows_seen columns time w) (each (list_text cell_text) ds)
-  rows_over count ds all low counted h = rows_by count ds all (each (list_text cell_text) ds) low refl counted h
+  pub rows_over : (bound : Option ℤ) (count : ℕ) (ds : List Data) (all : RowSeen) → count ≡ length ds → Some all ≡ option_map rows_so_far (each (list_text cell_text) ds)
+      → Some (of_rows all count (behind bound all)) ≡ option_map (rows_seen bound columns time w) (each (list_text cell_text) ds)
+  rows_over bound count ds all counted h = rows_by bound count ds all (each (list_text cell_text) ds) refl counted h

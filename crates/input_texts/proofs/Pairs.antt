@@ -106,22 +106,22 @@ module _ {X : Type 0} (uid k : List ℕ) (x : X) where
   under-put_pair [] = under_cons uid (bytes_eq k uid) (k, x) None
   under-put_pair (p ∷ ps) = under_by (slice_cmp nat_cmp k p.0) p ps (put_pair k x ps) refl (under-put_pair ps)
 
--- ---- a value for each of some names
+-- ---- a value for each of some names, which its name may change
 
-module _ {S X Y : Type 0} (name : S → List ℕ) (g : X → Y) (k : List ℕ) (x : X) (ps : List (List ℕ × X)) where
+module _ {S X Y : Type 0} (name : S → List ℕ) (g : List ℕ → X → Y) (k : List ℕ) (x : X) (ps : List (List ℕ × X)) where
   abbrev value_at : List (List ℕ × X) → S → Option Y
-  value_at qs s = option_map g (under (name s) qs)
+  value_at qs s = option_map (g (name s)) (under (name s) qs)
 
-  mapped : (b : Bool) (o : Option X) → option_map g (cond b (Some x) o) ≡ cond b (Some (g x)) (option_map g o)
-  mapped true o = refl
-  mapped false o = refl
+  mapped : (b : Bool) (l : List ℕ) (o : Option X) → bytes_eq k l ≡ b → option_map (g l) (cond b (Some x) o) ≡ cond b (Some (g k x)) (option_map (g l) o)
+  mapped true l o equal = ap (λ n. Some (g n x)) (sym ((bytes_eq-Decides k l).0 equal))
+  mapped false l o apart = refl
 
-  after : (s : S) → value_at (put_pair k x ps) s ≡ cond (bytes_eq (name s) k) (Some (g x)) (value_at ps s)
-  after s = ap (option_map g) (under-put_pair (name s) k x ps) ∙ mapped (bytes_eq k (name s)) (under (name s) ps) ∙ ap (λ b. cond b (Some (g x)) (value_at ps s)) (nat_list_eq_equiv.symm k (name s))
+  after : (s : S) → value_at (put_pair k x ps) s ≡ cond (bytes_eq (name s) k) (Some (g k x)) (value_at ps s)
+  after s = ap (option_map (g (name s))) (under-put_pair (name s) k x ps) ∙ mapped (bytes_eq k (name s)) (name s) (under (name s) ps) refl ∙ ap (λ b. cond b (Some (g k x)) (value_at ps s)) (nat_list_eq_equiv.symm k (name s))
 
   pub one_replaced : (ss : List S) (place : ℕ) (d : S) → place < length ss → bytes_eq (name (get_or ss place d)) k ≡ true → are_distinct (map name ss) ≡ true
-      → map (value_at (put_pair k x ps)) ss ≡ set (map (value_at ps) ss) place (Some (g x))
-  one_replaced ss place d within found distinct = replaced.one_replaced name (value_at ps) (value_at (put_pair k x ps)) k (Some (g x)) after ss place d within found distinct
+      → map (value_at (put_pair k x ps)) ss ≡ set (map (value_at ps) ss) place (Some (g k x))
+  one_replaced ss place d within found distinct = replaced.one_replaced name (value_at ps) (value_at (put_pair k x ps)) k (Some (g k x)) after ss place d within found distinct
 
 pub distinct_front : (xs ys : List (List ℕ)) → are_distinct (xs ++ ys) ≡ true → are_distinct xs ≡ true
 distinct_front [] ys h = refl

@@ -91,7 +91,7 @@ module _ (plan : PlanData) where
   found : (j : List ℕ) (d : Data) (ms : Members) → unknown j ≡ true → get_member j ms ≡ Some d → list_any (bytes_eq j) (unknown_names plan ms) ≡ true
   found j d ms lacks got = is_member-filter nat_list_eq_equiv unknown j (same_unknown j) (names_of ms) ∙ rw (named j d ms got, lacks) refl
 
-  other_got : (j : List ℕ) (o : Option Data) → option_map_or (λ d. not (is_some (slot_of plan d))) o false ≡ true → (d : Data) × (o ≡ Some d)
+  other_got : (j : List ℕ) (o : Option Data) → option_map_or (λ d. not (is_some (slot_of plan j d))) o false ≡ true → (d : Data) × (o ≡ Some d)
   other_got j None h = absurd (cc)
   other_got j (Some d) h = (d, refl)
 
@@ -101,7 +101,7 @@ module _ (plan : PlanData) where
         let here : unknown j ≡ true = same_unknown j k equal ∙ ap not lacks in
         found j d (put k d ms) here (got_after j k d ms ∙ ap (λ b. cond b (Some d) (get_member j ms)) equal)
     found_by false j apart lacks others =
-        let parts = and_parts (unknown j) (option_map_or (λ e. not (is_some (slot_of plan e))) (get_member j ms) false) (others refl) in
+        let parts = and_parts (unknown j) (option_map_or (λ e. not (is_some (slot_of plan j e))) (get_member j ms) false) (others refl) in
         let there = other_got j (get_member j ms) parts.1 in
         found j there.0 (put k d ms) parts.0 (got_after j k d ms ∙ ap (λ b. cond b (Some d) (get_member j ms)) apart ∙ there.1)
 

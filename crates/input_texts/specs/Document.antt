@@ -19,7 +19,7 @@ use Rattle.input_texts.specs.declared.fault.InputFault.TheVariants.{NotJson, Mem
 use Rattle.input_texts.specs.Requirements.{has_sources}
 use Rattle.stream_model.specs.InputData.{InputData}
 use Rattle.input_texts.specs.Said.{partitions_under}
-use Rattle.input_texts.specs.Seen.{SourceSeen, source_seen, slot_of, slots_of}
+use Rattle.input_texts.specs.Seen.{SourceSeen, bound_under, source_seen, slot_of, slots_of}
 pub use Rattle.input_texts.specs.declared.finding.Document.{Document}
 
 -- the members' names and values
@@ -41,7 +41,7 @@ unknown_names plan ms = filter (λ k. not (is_source plan k)) (names_of ms)
 
 -- whether the plan lacks the name, and the member that has it has another form
 abbrev pub is_other : PlanData → Members → List ℕ → Bool
-is_other plan ms k = not (is_source plan k) && option_map_or (λ d. not (is_some (slot_of plan d))) (get_member k ms) false
+is_other plan ms k = not (is_source plan k) && option_map_or (λ d. not (is_some (slot_of plan k d))) (get_member k ms) false
 
 -- whether the member of a source has another form
 abbrev pub is_other_slot : Option (Option SourceSeen) → Bool
@@ -85,4 +85,4 @@ Checks plan most value (Err fault) = Fails is_memory fault (said_of plan value)
 pub record AreSeen (plan : PlanData) (text : InputText) (found : List SourceSeen) : Type 0 where
   pub ordered : is_sorted (slice_cmp nat_cmp) text ≡ true
   pub named : has_sources plan text ≡ true
-  pub seen : found ≡ map (λ s. source_seen plan.columns plan.window.time (partitions_under s.uid text)) plan.sources
+  pub seen : found ≡ map (λ s. source_seen (bound_under plan s.uid) plan.columns plan.window.time (partitions_under s.uid text)) plan.sources

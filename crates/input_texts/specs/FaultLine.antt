@@ -13,6 +13,7 @@ input_line input.Width = codes "I5 Width"
 input_line input.Number = codes "I6 Number"
 input_line input.Rows = codes "I7 Rows"
 input_line input.TimeRange = codes "I8 TimeRange"
+input_line input.Kind = codes "I12 Kind"
 input_line (input.LateRecord source partition entry) = codes "I9 LateRecord " ++ decimal source ++ codes " " ++ decimal partition ++ codes " " ++ decimal entry
 input_line input.TooMany = codes "I10 TooMany"
 input_line input.Memory = codes "memory"

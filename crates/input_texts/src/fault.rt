@@ -28,6 +28,8 @@ pub enum InputFault {
     Rows,
     /// A row's time or a watermark is not from -2^62 to 2^62 - 1.
     TimeRange,
+    /// A watermark stands in a source that makes its own.
+    Kind,
     /// A row comes after a watermark of its partition that is not below its time. It is the first such
     /// row by the places, from 0, of its source in the plan, its partition and its entry.
     LateRecord {
@@ -57,6 +59,7 @@ impl fmt::Display for InputFault {
             InputFault::Number => write!(f, "I6 Number"),
             InputFault::Rows => write!(f, "I7 Rows"),
             InputFault::TimeRange => write!(f, "I8 TimeRange"),
+            InputFault::Kind => write!(f, "I12 Kind"),
             InputFault::LateRecord {
                 source,
                 partition,

@@ -19,7 +19,7 @@ ghost use Rattle.input_texts.specs.Seen.{slot_of};
 use crate::fault::InputFault;
 use crate::noting::next_source;
 use crate::seen::SourceSeen;
-use crate::slots::{empty_slots, place_of, put};
+use crate::slots::{bound_of, empty_slots, place_of, put};
 use json::{Reader, Scratch};
 use json_tokens::{MOST_DEPTH, Miss, open_object};
 use plan_model::{MOST_RECORDS, Plan, SourceSpec};
@@ -77,7 +77,7 @@ fn put_member(
 ) -> Result<(), Miss>
     requires { length document.old.slots.items ≡ length plan.now.sources }
     ensures refused { IfErr result (λ miss. miss ≡ Miss.Memory) }
-    ensures said { OnOk result ((ms : Members) → (d : Data) → IsNoted plan.now most ms document.old → source ≡ slot_of plan.now d → IsNoted plan.now most (with_member name.now d ms) document.new) }
+    ensures said { OnOk result ((ms : Members) → (d : Data) → IsNoted plan.now most ms document.old → source ≡ slot_of plan.now name.now d → IsNoted plan.now most (with_member name.now d ms) document.new) }
 {
     if let Some(place) = place_of(plan.sources(), name.as_bytes()) {
         put(&mut document.slots, place, source);
@@ -119,7 +119,8 @@ fn members_noted(
         are_more: false,
     };
     'members: while let Some(name) = next_name(reader)? {
-        let source = next_source(plan, reader, depth)?;
+        let bound = bound_of(plan, name.as_bytes());
+        let source = next_source(plan, bound, reader, depth)?;
         put_member(alloc, plan, &mut document, name, source, most)?;
     }
     Ok(document)
@@ -213,6 +214,13 @@ fn are_timely(sources: &[SourceSeen]) -> bool
     sources.iter().all(|source| source.met.is_timely)
 }
 
+/// Whether no watermark stands in a source that makes its own.
+fn are_of_kind(sources: &[SourceSeen]) -> bool
+    ensures { result ≡ list_all (λ source. source.met.is_kind) sources.now }
+{
+    sources.iter().all(|source| source.met.is_kind)
+}
+
 /// The first record that comes too late, by the place of its source.
 fn late_in(sources: &[SourceSeen]) -> Option<InputFault>
     requires few { length sources.now < 2 ^ 32 }
@@ -262,6 +270,9 @@ fn first_fault(plan: &Plan, sources: &[SourceSeen]) -> Option<InputFault>
     }
     if !are_timely(sources) {
         return Some(InputFault::TimeRange);
+    }
+    if !are_of_kind(sources) {
+        return Some(InputFault::Kind);
     }
     if let Some(fault) = late_in(sources) {
         return Some(fault);

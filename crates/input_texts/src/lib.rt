@@ -19,5 +19,5 @@ mod text;
 pub use fault::InputFault;
 pub use finding::check_text;
 pub use numbers::{number_at, number_of};
-pub use slots::{empty_slots, place_of, put};
+pub use slots::{bound_of, empty_slots, place_of, put};
 pub use text::{EntryText, SourceText, partitions_of, text_of_input};

@@ -1,6 +1,7 @@
 //! What is noted of entries, where nothing of them is kept.
 
-ghost use Rattle.std.specs.Prelude.{◌≡◌, ◌<◌, ◌+◌, ◌==◌, ℤ, List, Option, Some, None, cond, length, IfOk, IfErr, OnOk};
+ghost use Rattle.std.specs.Prelude.{◌≡◌, ◌<◌, ◌+◌, ◌==◌, ◌-ℤ◌, ℤ, pos, List, Option, Some, None, cond, is_some, length, IfOk, IfErr, OnOk};
+ghost use Rattle.std.specs.Int.{int_max};
 ghost use Rattle.std.specs.Option.{option_map, option_or};
 ghost use Rattle.json.specs.Token.{Token as SpecToken};
 ghost use Rattle.json.specs.Json.{read_key};
@@ -8,10 +9,12 @@ ghost use Rattle.serde_json.specs.Data.{Data, Members, no_members, object};
 ghost use Rattle.json_parts.specs.Parts.{whole, cell_text, list_text, each};
 ghost use Rattle.json_tokens.specs.Ahead.{parts};
 ghost use Rattle.json_tokens.specs.Passed.{IsNoValue, MembersRead, Passes, after};
+ghost use Rattle.plain_data.specs.Times.{lowest};
+ghost use Rattle.plan_model.specs.PlanData.{IsBound};
 ghost use Rattle.input_texts.specs.InputText.{entry_text};
 ghost use Rattle.input_texts.specs.Said as said;
 ghost use Rattle.input_texts.specs.Seen as seen;
-ghost use Rattle.input_texts.specs.Seen.{Notes, joined, member_text, named_by, slot_of};
+ghost use Rattle.input_texts.specs.Seen.{Notes, joined, member_text, named_by, noted_source};
 
 use crate::numbers::number_of as number_or_zero;
 use crate::seen::{EntrySeen, Named, PartitionSeen, RowSeen, Seen, SourceSeen, both, nothing};
@@ -67,10 +70,12 @@ fn cells_noted(
         is_whole,
         is_sized: true,
         is_timely: is_time(time),
+        is_kind: true,
     };
     Ok(RowSeen {
         met,
         is_late: is_late_time(watermark, time),
+        greatest: Some(time),
     })
 }
 
@@ -93,6 +98,17 @@ fn next_row(
     Ok(Some(row))
 }
 
+/// The greater of two times, where there are two.
+fn greater(time: Option<i64>, other: Option<i64>) -> Option<i64>
+    ensures { result ≡ seen.greater time other }
+{
+    match (time, other) {
+        (Some(time), Some(other)) => Some(time.max(other)),
+        (Some(time), None) => Some(time),
+        (None, other) => other,
+    }
+}
+
 fn with_row(rows: Option<RowSeen>, row: Option<RowSeen>) -> Option<RowSeen>
     ensures { result ≡ joined seen.with_row rows row }
 {
@@ -101,7 +117,28 @@ fn with_row(rows: Option<RowSeen>, row: Option<RowSeen>) -> Option<RowSeen>
     Some(RowSeen {
         met: both(rows.met, row.met),
         is_late: rows.is_late | row.is_late,
+        greatest: greater(rows.greatest, row.greatest),
     })
+}
+
+/// The watermark behind a record with this time, in a source with this bound. It moves nothing where it is too early
+/// for 64 bits.
+fn behind(watermark: i64, bound: i64, time: i64) -> i64
+    requires bounded { IsBound (Some bound) }
+    ensures { result ≡ int_max watermark (time -ℤ bound -ℤ pos 1) }
+{
+    watermark.max(time.saturating_sub(bound + 1))
+}
+
+/// The watermark behind rows of a source with this bound, of which this is the greatest time.
+fn watermark_after(watermark: i64, bound: Option<i64>, greatest: Option<i64>) -> i64
+    requires bounded { IsBound bound }
+    ensures { result ≡ int_max watermark (seen.brought bound greatest) }
+{
+    match (bound, greatest) {
+        (Some(bound), Some(time)) => behind(watermark, bound, time),
+        _ => watermark,
+    }
 }
 
 /// An entry of so many rows.
@@ -121,18 +158,21 @@ fn entry_of_rows(rows: RowSeen, count: u64, watermark: i64) -> EntrySeen
 /// The rows of an entry up to the closing bracket. None: one of them has another form.
 fn rows_noted(
     plan: &Plan,
+    bound: Option<i64>,
     reader: &mut Reader<'_>,
     watermark: i64,
     depth: usize,
 ) -> Result<Option<EntrySeen>, Miss>
+    requires bounded { IsBound bound }
     ensures said { IfOk result (λ entry. (ds : List Data) × (parts Some depth reader.old ≡ Some (ds, reader.new))
-        × (entry ≡ option_map (seen.rows_seen plan.now.columns plan.now.window.time watermark) (each (list_text cell_text) ds))) }
+        × (entry ≡ option_map (seen.rows_seen bound plan.now.columns plan.now.window.time watermark) (each (list_text cell_text) ds))) }
     ensures refused { IfErr result (λ miss. miss ≡ Miss.Other → parts Some depth reader.old ≡ None) }
     ensures shorter { OnOk result (length reader.new < length reader.old) }
 {
     let mut rows = Some(RowSeen {
         met: nothing(),
         is_late: false,
+        greatest: None,
     });
     let mut count: u64 = 0;
     'rows: while !reader.take_end_array() {
@@ -143,17 +183,20 @@ fn rows_noted(
     let Some(rows) = rows else {
         return Ok(None);
     };
-    Ok(Some(entry_of_rows(rows, count, watermark)))
+    let behind = watermark_after(watermark, bound, rows.greatest);
+    Ok(Some(entry_of_rows(rows, count, behind)))
 }
 
 /// The next value as the rows of an entry. None: it has another form.
 fn next_rows(
     plan: &Plan,
+    bound: Option<i64>,
     reader: &mut Reader<'_>,
     watermark: i64,
     depth: usize,
 ) -> Result<Option<EntrySeen>, Miss>
-    ensures said { IfOk result (λ entry. Notes (list_text (list_text cell_text)) (seen.rows_seen plan.now.columns plan.now.window.time watermark) depth reader.old entry reader.new) }
+    requires bounded { IsBound bound }
+    ensures said { IfOk result (λ entry. Notes (list_text (list_text cell_text)) (seen.rows_seen bound plan.now.columns plan.now.window.time watermark) depth reader.old entry reader.new) }
     ensures refused { IfErr result (λ miss. miss ≡ Miss.Other → IsNoValue depth reader.old) }
     ensures shorter { OnOk result (length reader.new < length reader.old) }
 {
@@ -161,17 +204,28 @@ fn next_rows(
     if !is_open {
         return Ok(None);
     }
-    rows_noted(plan, reader, watermark, depth - 1)
+    rows_noted(plan, bound, reader, watermark, depth - 1)
+}
+
+/// The watermark behind one that stands in a source with this bound. It moves nothing where the source makes its own.
+fn watermark_with(watermark: i64, bound: Option<i64>, time: i64) -> i64
+    ensures { result ≡ int_max watermark (cond (is_some bound) lowest time) }
+{
+    match bound {
+        Some(_) => watermark,
+        None => watermark.max(time),
+    }
 }
 
 /// The next value as a watermark, behind another.
 fn next_watermark(
     plan: &Plan,
+    bound: Option<i64>,
     reader: &mut Reader<'_>,
     watermark: i64,
     depth: usize,
 ) -> Result<EntrySeen, Miss>
-    ensures said { IfOk result (λ entry. (d : Data) × Passes depth reader.old d reader.new × (entry ≡ seen.watermark_seen plan.now.columns plan.now.window.time watermark (whole d))) }
+    ensures said { IfOk result (λ entry. (d : Data) × Passes depth reader.old d reader.new × (entry ≡ seen.watermark_seen bound plan.now.columns plan.now.window.time watermark (whole d))) }
     ensures refused { IfErr result (λ miss. miss ≡ Miss.Other → IsNoValue depth reader.old) }
     ensures shorter { OnOk result (length reader.new < length reader.old) }
 {
@@ -180,10 +234,11 @@ fn next_watermark(
     let mut met = nothing();
     met.is_whole = cell.is_some();
     met.is_timely = is_time(time);
+    met.is_kind = bound.is_none();
     Ok(EntrySeen {
         met,
         is_late: false,
-        watermark: watermark.max(time),
+        watermark: watermark_with(watermark, bound, time),
         records: 0,
     })
 }
@@ -204,19 +259,21 @@ fn named_by(name: &str) -> Named
 /// The next value as that of an entry's only member. None: it has another form.
 fn next_member(
     plan: &Plan,
+    bound: Option<i64>,
     reader: &mut Reader<'_>,
     watermark: i64,
     named: Named,
     depth: usize,
 ) -> Result<Option<EntrySeen>, Miss>
-    ensures said { IfOk result (λ entry. Notes (member_text named) (seen.entry_seen plan.now.columns plan.now.window.time watermark) depth reader.old entry reader.new) }
+    requires bounded { IsBound bound }
+    ensures said { IfOk result (λ entry. Notes (member_text named) (seen.entry_seen bound plan.now.columns plan.now.window.time watermark) depth reader.old entry reader.new) }
     ensures refused { IfErr result (λ miss. miss ≡ Miss.Other → IsNoValue depth reader.old) }
     ensures shorter { OnOk result (length reader.new < length reader.old) }
 {
     match named {
-        Named::Rows => next_rows(plan, reader, watermark, depth),
+        Named::Rows => next_rows(plan, bound, reader, watermark, depth),
         Named::Watermark => {
-            let entry = next_watermark(plan, reader, watermark, depth)?;
+            let entry = next_watermark(plan, bound, reader, watermark, depth)?;
             Ok(Some(entry))
         }
         Named::Nothing | Named::Others => {
@@ -252,12 +309,14 @@ fn noted_as(named: Named, member: Option<EntrySeen>) -> Option<EntrySeen>
 /// watermark.
 fn members_noted(
     plan: &Plan,
+    bound: Option<i64>,
     reader: &mut Reader<'_>,
     watermark: i64,
     depth: usize,
 ) -> Result<Option<EntrySeen>, Miss>
+    requires bounded { IsBound bound }
     ensures said { IfOk result (λ entry. (ms : Members) × (rest : List SpecToken) × MembersRead depth reader.old ms rest × (read_key rest ≡ Some (None, reader.new))
-        × (entry ≡ option_map (seen.entry_seen plan.now.columns plan.now.window.time watermark) (entry_text (object ms)))) }
+        × (entry ≡ option_map (seen.entry_seen bound plan.now.columns plan.now.window.time watermark) (entry_text (object ms)))) }
     ensures refused { IfErr result (λ miss. miss ≡ Miss.Other → after depth no_members (length reader.old) reader.old ≡ None) }
     ensures shorter { OnOk result (length reader.new < length reader.old) }
 {
@@ -265,7 +324,7 @@ fn members_noted(
     let mut entry = None;
     'members: while let Some(name) = reader.next_key()? {
         let next = named_by(name);
-        let member = next_member(plan, reader, watermark, next, depth)?;
+        let member = next_member(plan, bound, reader, watermark, next, depth)?;
         named = with_member(named, next);
         entry = noted_as(named, member);
     }
@@ -275,11 +334,13 @@ fn members_noted(
 /// The next value as an entry behind others with this watermark. None: it has another form.
 fn next_entry(
     plan: &Plan,
+    bound: Option<i64>,
     reader: &mut Reader<'_>,
     watermark: i64,
     depth: usize,
 ) -> Result<Option<EntrySeen>, Miss>
-    ensures said { IfOk result (λ entry. Notes entry_text (seen.entry_seen plan.now.columns plan.now.window.time watermark) depth reader.old entry reader.new) }
+    requires bounded { IsBound bound }
+    ensures said { IfOk result (λ entry. Notes entry_text (seen.entry_seen bound plan.now.columns plan.now.window.time watermark) depth reader.old entry reader.new) }
     ensures refused { IfErr result (λ miss. miss ≡ Miss.Other → IsNoValue depth reader.old) }
     ensures shorter { OnOk result (length reader.new < length reader.old) }
 {
@@ -287,7 +348,7 @@ fn next_entry(
     if !is_open {
         return Ok(None);
     }
-    members_noted(plan, reader, watermark, depth - 1)
+    members_noted(plan, bound, reader, watermark, depth - 1)
 }
 
 /// The first late entry, where one more has this place.
@@ -333,11 +394,13 @@ fn watermark_behind(entry: &Option<EntrySeen>, watermark: i64) -> i64
 /// The entries of a partition up to the closing bracket. None: one of them has another form.
 fn entries_noted(
     plan: &Plan,
+    bound: Option<i64>,
     reader: &mut Reader<'_>,
     depth: usize,
 ) -> Result<Option<PartitionSeen>, Miss>
+    requires bounded { IsBound bound }
     ensures said { IfOk result (λ partition. (ds : List Data) × (parts Some depth reader.old ≡ Some (ds, reader.new))
-        × (partition ≡ option_map (seen.partition_seen plan.now.columns plan.now.window.time) (each entry_text ds))) }
+        × (partition ≡ option_map (seen.partition_seen bound plan.now.columns plan.now.window.time) (each entry_text ds))) }
     ensures refused { IfErr result (λ miss. miss ≡ Miss.Other → parts Some depth reader.old ≡ None) }
     ensures shorter { OnOk result (length reader.new < length reader.old) }
 {
@@ -349,7 +412,7 @@ fn entries_noted(
     let mut watermark = i64::MIN;
     let mut place: u64 = 0;
     'entries: while !reader.take_end_array() {
-        let entry = next_entry(plan, reader, watermark, depth)?;
+        let entry = next_entry(plan, bound, reader, watermark, depth)?;
         watermark = watermark_behind(&entry, watermark);
         partition = with_entry(partition, entry, place)?;
         place = sum(place, 1)?;
@@ -360,10 +423,12 @@ fn entries_noted(
 /// The next value as a partition. None: it has another form.
 fn next_partition(
     plan: &Plan,
+    bound: Option<i64>,
     reader: &mut Reader<'_>,
     depth: usize,
 ) -> Result<Option<PartitionSeen>, Miss>
-    ensures said { IfOk result (λ partition. Notes (list_text entry_text) (seen.partition_seen plan.now.columns plan.now.window.time) depth reader.old partition reader.new) }
+    requires bounded { IsBound bound }
+    ensures said { IfOk result (λ partition. Notes (list_text entry_text) (seen.partition_seen bound plan.now.columns plan.now.window.time) depth reader.old partition reader.new) }
     ensures refused { IfErr result (λ miss. miss ≡ Miss.Other → IsNoValue depth reader.old) }
     ensures shorter { OnOk result (length reader.new < length reader.old) }
 {
@@ -371,7 +436,7 @@ fn next_partition(
     if !is_open {
         return Ok(None);
     }
-    entries_noted(plan, reader, depth - 1)
+    entries_noted(plan, bound, reader, depth - 1)
 }
 
 /// The first late entry, where one more partition is the last.
@@ -408,11 +473,13 @@ fn with_partition(
 /// The partitions of a source up to the closing bracket. None: one of them has another form.
 fn partitions_noted(
     plan: &Plan,
+    bound: Option<i64>,
     reader: &mut Reader<'_>,
     depth: usize,
 ) -> Result<Option<SourceSeen>, Miss>
+    requires bounded { IsBound bound }
     ensures said { IfOk result (λ source. (ds : List Data) × (parts Some depth reader.old ≡ Some (ds, reader.new))
-        × (source ≡ option_map (seen.source_seen plan.now.columns plan.now.window.time) (each (list_text entry_text) ds))) }
+        × (source ≡ option_map (seen.source_seen bound plan.now.columns plan.now.window.time) (each (list_text entry_text) ds))) }
     ensures refused { IfErr result (λ miss. miss ≡ Miss.Other → parts Some depth reader.old ≡ None) }
     ensures shorter { OnOk result (length reader.new < length reader.old) }
 {
@@ -423,7 +490,7 @@ fn partitions_noted(
         records: 0,
     });
     'partitions: while !reader.take_end_array() {
-        let partition = next_partition(plan, reader, depth)?;
+        let partition = next_partition(plan, bound, reader, depth)?;
         source = with_partition(source, partition)?;
     }
     Ok(source)
@@ -432,10 +499,12 @@ fn partitions_noted(
 /// The next value as the partitions of a source. None: it has another form.
 pub fn next_source(
     plan: &Plan,
+    bound: Option<i64>,
     reader: &mut Reader<'_>,
     depth: usize,
 ) -> Result<Option<SourceSeen>, Miss>
-    ensures said { IfOk result (λ source. (d : Data) × Passes depth reader.old d reader.new × (source ≡ slot_of plan.now d)) }
+    requires bounded { IsBound bound }
+    ensures said { IfOk result (λ source. (d : Data) × Passes depth reader.old d reader.new × (source ≡ noted_source bound plan.now d)) }
     ensures refused { IfErr result (λ miss. miss ≡ Miss.Other → IsNoValue depth reader.old) }
     ensures shorter { OnOk result (length reader.new < length reader.old) }
 {
@@ -443,5 +512,5 @@ pub fn next_source(
     if !is_open {
         return Ok(None);
     }
-    partitions_noted(plan, reader, depth - 1)
+    partitions_noted(plan, bound, reader, depth - 1)
 }

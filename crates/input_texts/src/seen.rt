@@ -10,13 +10,15 @@ pub struct Seen {
     pub is_whole: bool,
     pub is_sized: bool,
     pub is_timely: bool,
+    pub is_kind: bool,
 }
 
-/// The same of a row, and whether it comes too late.
+/// The same of rows, whether one of them comes too late, and their greatest time.
 #[derive(Clone, Copy, Debug, PartialEq, Eq)]
 pub struct RowSeen {
     pub met: Seen,
     pub is_late: bool,
+    pub greatest: Option<i64>,
 }
 
 /// The same of an entry, the watermark behind it, and how many records it has.
@@ -57,13 +59,14 @@ pub enum Named {
 
 /// Of no part yet.
 pub fn nothing() -> Seen
-    ensures { result ≡ record { is_wide = true; is_whole = true; is_sized = true; is_timely = true } }
+    ensures { result ≡ record { is_wide = true; is_whole = true; is_sized = true; is_timely = true; is_kind = true } }
 {
     Seen {
         is_wide: true,
         is_whole: true,
         is_sized: true,
         is_timely: true,
+        is_kind: true,
     }
 }
 
@@ -76,5 +79,6 @@ pub fn both(one: Seen, other: Seen) -> Seen
         is_whole: one.is_whole & other.is_whole,
         is_sized: one.is_sized & other.is_sized,
         is_timely: one.is_timely & other.is_timely,
+        is_kind: one.is_kind & other.is_kind,
     }
 }

@@ -51,6 +51,7 @@ plan_told said plan.WindowSlide is = inr (plan.WindowSlide, is, refl)
 plan_told said plan.WindowOffset is = inr (plan.WindowOffset, is, refl)
 plan_told said plan.Panes is = inr (plan.Panes, is, refl)
 plan_told said plan.Aggregates is = inr (plan.Aggregates, is, refl)
+plan_told said plan.Bound is = inr (plan.Bound, is, refl)
 
 pub input_told : {X : Type 0} (said : Result X InputFault) (fault : InputFault) → inputs.Fails inputs.is_memory fault said → IsToldOf said Input (input_fault fault)
 input_told said input.Memory is = inl refl
@@ -62,6 +63,7 @@ input_told said input.Width is = inr (input.Width, is, refl)
 input_told said input.Number is = inr (input.Number, is, refl)
 input_told said input.Rows is = inr (input.Rows, is, refl)
 input_told said input.TimeRange is = inr (input.TimeRange, is, refl)
+input_told said input.Kind is = inr (input.Kind, is, refl)
 input_told said input.TooMany is = inr (input.TooMany, is, refl)
 input_told said (input.LateRecord s p n) is = inr (input.LateRecord s p n, is, refl)
 

@@ -1,6 +1,6 @@
 -- Why legs of a job have no answer, by the way in which they run.
 use Rattle.std.proofs.Common.{◌≡◌, ℕ, true, List, [], ◌∷◌, length, Result, Ok, Err, MatchResult, refl, sym, subst, inl, inr}
-use Rattle.stream_model.specs.declared.entry.Entry.{Entry}
+use Rattle.stream_model.specs.declared.entry.Marked.{Marked}
 use Rattle.stream_model.specs.InputData.{InputData}
 use Rattle.stream_model.specs.Watermarks.{empty_cut}
 use Rattle.dataflow_laws.specs.Compiled.{cut_to}
@@ -14,7 +14,7 @@ use Rattle.job_legs.specs.Running.{Forbids, ForbidsLegs, IsRunRefusal}
 use Rattle.job_legs.specs.Ending.{IsLegsRefusal, IsThreadsRefusal}
 
 -- a fault for which no leg is forbidden to run is none for which legs are
-none_so : (i : InputData) (begin : List (List ℕ)) (legs : List LegSpec) (f : LegFault) → ((sources : List (List (List Entry))) (begin : List (List ℕ)) (saves : List (List (List ℕ))) (stop : Stop) → Forbids sources begin saves stop f → ⊥) → ForbidsLegs i begin legs f → ⊥
+none_so : (i : InputData) (begin : List (List ℕ)) (legs : List LegSpec) (f : LegFault) → ((sources : List (List (List Marked))) (begin : List (List ℕ)) (saves : List (List (List ℕ))) (stop : Stop) → Forbids sources begin saves stop f → ⊥) → ForbidsLegs i begin legs f → ⊥
 none_so i begin [] f none forbids = forbids
 none_so i begin (leg ∷ legs) f none (inl forbids) = none i.sources begin (counts_of leg.saves) leg.stop forbids
 none_so i begin (leg ∷ legs) f none (inr later) = none_so i (cut_to i (until_of leg.stop)) legs f none later.1

@@ -3,7 +3,7 @@ use Rattle.std.proofs.Common.{◌≡◌, ℕ, ◌+◌, ◌≤◌, List, [], ◌�
 use Rattle.std.specs.List.{AllZip}
 use Rattle.plan_model.specs.PlanData.{PlanData}
 use Rattle.plan_model.specs.Rows.{AreRowsOf}
-use Rattle.stream_model.specs.declared.entry.Entry.{Entry}
+use Rattle.stream_model.specs.declared.entry.Marked.{Marked}
 use Rattle.stream_model.specs.InputData.{InputData, IsInput}
 use Rattle.stream_model.specs.Watermarks.{IsCut, IsBefore, full_cut}
 use Rattle.stream_model.specs.PlanRows.{due_rows}
@@ -26,7 +26,7 @@ turned P Q f each [] (y ∷ ys) all = absurd all
 turned P Q f each (x ∷ xs) [] all = absurd all
 turned P Q f each (x ∷ xs) (y ∷ ys) all = (each x y all.0, turned P Q f each xs ys all.1)
 
-before_full : (ss : List (List (List Entry))) (cut : List (List ℕ)) → IsCut ss cut → IsBefore cut (full_cut ss)
+before_full : (ss : List (List (List Marked))) (cut : List (List ℕ)) → IsCut ss cut → IsBefore cut (full_cut ss)
 before_full ss cut is = turned (AllZip (λ p n. n ≤ length p)) (AllZip (λ m n. m ≤ n)) (map (λ p. length p)) (λ ps ns. turned (λ p n. n ≤ length p) (λ m n. m ≤ n) (λ p. length p) (λ p n h. h) ps ns) ss cut is
 
 pub before_end : (i : InputData) (cut : List (List ℕ)) (stop : Stop) → IsCut i.sources cut → CanStop i.sources cut stop → IsBefore cut (cut_to i (until_of stop))

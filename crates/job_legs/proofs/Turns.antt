@@ -6,7 +6,7 @@ use Rattle.std.specs.List.{AllByRecursion}
 use Rattle.plan_model.specs.PlanData.{PlanData}
 use Rattle.plan_model.specs.Rows.{AreRowsOf}
 use Rattle.plan_model.specs.declared.spec.Row.{Row}
-use Rattle.stream_model.specs.declared.entry.Entry.{Entry}
+use Rattle.stream_model.specs.declared.entry.Marked.{Marked}
 use Rattle.stream_model.specs.InputData.{InputData, IsInput}
 use Rattle.stream_model.specs.Watermarks.{IsBefore, IsCut}
 use Rattle.stream_model.specs.PlanRows.{due_rows}
@@ -79,7 +79,7 @@ can_behind i begin saves stop n few can = (
     )
 
 -- what can run so is not forbidden
-allowed : (sources : List (List (List Entry))) (begin : List (List ℕ)) (saves : List (List (List ℕ))) (stop : Stop) (f : LegFault) → CanRunFrom sources begin saves stop → Forbids sources begin saves stop f → ⊥
+allowed : (sources : List (List (List Marked))) (begin : List (List ℕ)) (saves : List (List (List ℕ))) (stop : Stop) (f : LegFault) → CanRunFrom sources begin saves stop → Forbids sources begin saves stop f → ⊥
 allowed sources begin saves stop fault.StopRange can forbids = forbids can.0
 allowed sources begin saves stop fault.SaveRange can forbids = forbids.1 can.1
 allowed sources begin saves stop fault.Memory can forbids = forbids

@@ -7,7 +7,7 @@ use Rattle.std.specs.Option.{option_to_list}
 use Rattle.plan_model.specs.declared.spec.Pane.{Pane}
 use Rattle.plan_model.specs.Rows.{row_is_at}
 use Rattle.plan_model.specs.PlanData.{PlanData, IsPlan}
-use Rattle.stream_model.specs.declared.entry.Entry.{Entry}
+use Rattle.stream_model.specs.declared.entry.Marked.{Marked}
 use Rattle.stream_model.specs.InputData.{InputData, IsInput, BelongsTo}
 use Rattle.stream_model.specs.Watermarks.{empty_cut}
 use Rattle.stream_model.specs.PlanRows.{due_rows}
@@ -131,7 +131,7 @@ below : (n done k : ℕ) (leg : LegSpec) (legs : List LegSpec) → n ≤ 1025 * 
 below n done k leg legs most some few = omega (arith, most, some, few)
 
 -- a leg takes few savepoints
-few_of : (sources : List (List (List Entry))) (cut : List (List ℕ)) (leg : LegSpec) → CanSaveAt sources cut (counts_of leg.saves) (until_of leg.stop) → savepoints_of leg ≤ 1025
+few_of : (sources : List (List (List Marked))) (cut : List (List ℕ)) (leg : LegSpec) → CanSaveAt sources cut (counts_of leg.saves) (until_of leg.stop) → savepoints_of leg ≤ 1025
 few_of sources cut leg save = of_stop leg.stop
   where
     of_stop : (at : Stop) → savepoints_to (counts_of leg.saves) at ≤ 1025

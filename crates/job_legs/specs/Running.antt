@@ -1,7 +1,7 @@
 -- Legs that run one after the other.
 use Rattle.std.specs.Prelude.{◌≡◌, ◌⊎◌, ℕ, ◌+◌, List, [], ◌∷◌}
 use Rattle.plan_model.specs.PlanData.{PlanData}
-use Rattle.stream_model.specs.declared.entry.Entry.{Entry}
+use Rattle.stream_model.specs.declared.entry.Marked.{Marked}
 use Rattle.stream_model.specs.InputData.{InputData}
 use Rattle.stream_model.specs.Watermarks.{empty_cut}
 use Rattle.dataflow_laws.specs.Compiled.{cut_to}
@@ -36,11 +36,11 @@ savepoints_in [] = 0
 savepoints_in (leg ∷ legs) = savepoints_of leg + savepoints_in legs
 
 -- a leg that begins at a cut can stop as it is to, and take its savepoints on the way there
-abbrev pub CanRunFrom : List (List (List Entry)) → List (List ℕ) → List (List (List ℕ)) → Stop → Type 0
+abbrev pub CanRunFrom : List (List (List Marked)) → List (List ℕ) → List (List (List ℕ)) → Stop → Type 0
 CanRunFrom sources begin saves stop = CanStop sources begin stop × CanSaveAt sources begin saves (until_of stop)
 
 -- why it cannot: it cannot stop so, or else it cannot take its savepoints so
-abbrev pub Forbids : List (List (List Entry)) → List (List ℕ) → List (List (List ℕ)) → Stop → LegFault → Type 0
+abbrev pub Forbids : List (List (List Marked)) → List (List ℕ) → List (List (List ℕ)) → Stop → LegFault → Type 0
 Forbids sources begin saves stop StopRange = ¬ CanStop sources begin stop
 Forbids sources begin saves stop SaveRange = CanStop sources begin stop × ¬ CanSaveAt sources begin saves (until_of stop)
 Forbids sources begin saves stop other = ⊥

@@ -7,7 +7,7 @@ use Rattle.legs.specs.declared.fault.LegFault.{LegFault}
 use Rattle.legs.specs.declared.stop.Stop.{Stop}
 use Rattle.legs.specs.Stops.{counts_of, until_of}
 use Rattle.plan_model.specs.PlanData.{PlanData}
-use Rattle.stream_model.specs.declared.entry.Entry.{Entry}
+use Rattle.stream_model.specs.declared.entry.Marked.{Marked}
 use Rattle.stream_model.specs.InputData.{InputData, BelongsTo}
 use Rattle.redistribute.specs.Begins.{IsStartIn}
 use Rattle.redistribute.specs.StartData.{StartData, offsets_of}
@@ -20,7 +20,7 @@ abbrev pub CanRunLeg : PlanData → InputData → StartData → ScaleData → Ty
 CanRunLeg p i start scale = BelongsTo p i × IsScale p scale × IsStartIn p i start
 
 -- why a way to run legs has no answer of one: what no leg could be run for, or what this way may answer besides
-abbrev pub IsWayRefusal : (LegFault → Type 0) → List (List (List Entry)) → List (List ℕ) → List (List (List ℕ)) → Stop → LegFault → Type 0
+abbrev pub IsWayRefusal : (LegFault → Type 0) → List (List (List Marked)) → List (List ℕ) → List (List (List ℕ)) → Stop → LegFault → Type 0
 IsWayRefusal other sources begin saves stop fault = IsRefusal sources begin saves (until_of stop) fault ⊎ other fault
 
 -- what a leg answers that is run so: its end, or what it had sealed when it was given up, where it can stop and take its savepoints so; else why it has none

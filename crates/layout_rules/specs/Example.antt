@@ -16,7 +16,7 @@ use Rattle.layout_rules.specs.Layouts.{partition_counts, Entries, abstract_layou
 
 -- a plan with two sources of 5 partitions and two filters
 abbrev pub five_partitions : List ℕ → SourceSpec
-five_partitions uid = record { uid = uid; partitions = 5 }
+five_partitions uid = record { uid = uid; partitions = 5; bound = None }
 
 abbrev pub two_sources : List ℕ → List ℕ → FilterSpec → FilterSpec → WindowSpec → PlanData
 two_sources s r f g w = plan_data_of 3 128 (five_partitions s ∷ five_partitions r ∷ []) (f ∷ g ∷ []) w

@@ -13,7 +13,7 @@ use Rattle.plan_model.specs.Aggregates.{Aggregated}
 use Rattle.plan_model.specs.PlanData.{PlanData, IsPlan}
 use Rattle.plan_model.specs.Rows.{pane_cmp}
 use Rattle.plan_model.proofs.Facts.{pane_cmp_total}
-use Rattle.stream_model.specs.declared.entry.Entry.{Entry}
+use Rattle.stream_model.specs.declared.entry.Marked.{Marked}
 use Rattle.stream_model.specs.InputData.{InputData, BelongsTo, partition_at}
 use Rattle.stream_model.specs.Watermarks.{partition_watermark, IsCut}
 use Rattle.stream_model.specs.PlanRows.{snapshot}
@@ -76,7 +76,7 @@ any_at test f a (suc n) k l m h =
     ]
 
 -- a partition at a place of a source, as a cut leaves it
-abbrev saved_there_of : List (List (List Entry)) → List (List ℕ) → ℕ → ℕ → SavedPartition
+abbrev saved_there_of : List (List (List Marked)) → List (List ℕ) → ℕ → ℕ → SavedPartition
 saved_there_of sources cut x k = saved_partition (partition_at sources x k) (count_at cut x k)
 
 all_places : {X : Type 0} (P : X → Type 0) (f : ℕ → X) (n : ℕ) → ((k : ℕ) → k < n → P (f k)) → All P (map f (range_with_len 0 n))

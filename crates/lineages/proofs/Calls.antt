@@ -11,7 +11,7 @@ use Rattle.byte_fields.proofs.Exact.{IsBytes, whole_again, whole_takes}
 use Rattle.plan_model.specs.PlanData.{PlanData}
 use Rattle.plan_model.specs.Rows.{AreRowsOf}
 use Rattle.plan_model.specs.declared.spec.Row.{Row}
-use Rattle.stream_model.specs.declared.entry.Entry.{Entry}
+use Rattle.stream_model.specs.declared.entry.Marked.{Marked}
 use Rattle.stream_model.specs.InputData.{InputData}
 use Rattle.stream_model.specs.PlanRows.{due_rows}
 use Rattle.stream_model.specs.Watermarks.{IsBefore, IsCut, IsOrderly, empty_cut}
@@ -82,11 +82,11 @@ calls_are_answered plan input scale from saves stop old new left (job, said, run
 
 -- ---- a start from nothing
 
-unread : (ps : List (List Entry)) → map (λ p. p.offset) (saved_source ps (map (λ p. 0) ps)) ≡ map (λ p. 0) ps
+unread : (ps : List (List Marked)) → map (λ p. p.offset) (saved_source ps (map (λ p. 0) ps)) ≡ map (λ p. 0) ps
 unread [] = refl
 unread (p ∷ ps) = ap (λ z. 0 ∷ z) (unread ps)
 
-all_unread : (ss : List (List (List Entry))) → offsets_of (start_at ss (empty_cut ss) 0) ≡ empty_cut ss
+all_unread : (ss : List (List (List Marked))) → offsets_of (start_at ss (empty_cut ss) 0) ≡ empty_cut ss
 all_unread [] = refl
 all_unread (s ∷ ss) = λ j. unread s j ∷ all_unread ss j
 
@@ -98,8 +98,9 @@ said_nothing p i s e = subst (IsFromNothing i) (ok_is (start_at i.sources (empty
 
 are_fit : SaidIsPlan → SaidIsInput → (plan input : List ℕ) (p : PlanData) (i : InputData) → AreRead plan input p i → AreFit p i
 are_fit of_plan of_input plan input p i read =
-    let is = of_input p input i read.input_said in
-    record { plan = of_plan plan p read.plan_said; input = is.0; orderly = subst (λ t. IsOrderly t i.sources) is.2.time is.1; belongs = is.2 }
+    let sound = of_plan plan p read.plan_said in
+    let is = of_input p input i sound read.input_said in
+    record { plan = sound; input = is.0; orderly = subst (λ t. IsOrderly t i.sources) is.2.time is.1; belongs = is.2 }
 
 -- texts of which a call has answered Ok say an input by the plan that they say
 said_input : (plan input : List ℕ) (p : PlanData) (c : LegCall) → plan_of_bytes plan ≡ Ok p → IsAnswered plan input c → (i : InputData) × AreRead plan input p i

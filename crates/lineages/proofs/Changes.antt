@@ -7,7 +7,7 @@ use Rattle.answers.proofs.Facts.{met_first, no_fault}
 use Rattle.plan_model.specs.PlanData.{PlanData, IsPlan}
 use Rattle.plan_model.specs.declared.spec.Pane.{Pane}
 use Rattle.plan_model.specs.Rows.{is_due}
-use Rattle.stream_model.specs.declared.entry.Entry.{Entry}
+use Rattle.stream_model.specs.declared.entry.Marked.{Marked}
 use Rattle.stream_model.specs.InputData.{InputData, IsInput, BelongsTo}
 use Rattle.stream_model.specs.Watermarks.{IsCut, IsOrderly, partition_watermark}
 use Rattle.stream_model.specs.PlanRows.{due_rows}
@@ -51,7 +51,7 @@ has_passed p i s d accepted =
 
 -- ---- watermarks that are saved are those of the cut
 
-marks_in : (ps rs : List (List Entry)) (ns : List ℕ) → AllZip (λ p n. n ≤ length p) ps ns → AllZip (λ p n. n ≤ length p) rs ns → list_all is_watermark (zip (saved_source ps ns) rs) ≡ true → watermarks_at_in ps ns ≡ watermarks_at_in rs ns
+marks_in : (ps rs : List (List Marked)) (ns : List ℕ) → AllZip (λ p n. n ≤ length p) ps ns → AllZip (λ p n. n ≤ length p) rs ns → list_all is_watermark (zip (saved_source ps ns) rs) ≡ true → watermarks_at_in ps ns ≡ watermarks_at_in rs ns
 marks_in [] [] [] here there h = refl
 marks_in (p ∷ ps) (r ∷ rs) (n ∷ ns) here there h =
     let parts = and_parts _ (list_all is_watermark (zip (saved_source ps ns) rs)) h in
@@ -62,7 +62,7 @@ marks_in (p ∷ ps) rs [] here there h = absurd here
 marks_in (p ∷ ps) [] (n ∷ ns) here there h = absurd there
 marks_in [] (r ∷ rs) [] here there h = absurd there
 
-marks : (ss rs : List (List (List Entry))) (cs : List (List ℕ)) → IsCut ss cs → IsCut rs cs → every_partition is_watermark (saved_sources ss cs) rs ≡ true → watermarks_at ss cs ≡ watermarks_at rs cs
+marks : (ss rs : List (List (List Marked))) (cs : List (List ℕ)) → IsCut ss cs → IsCut rs cs → every_partition is_watermark (saved_sources ss cs) rs ≡ true → watermarks_at ss cs ≡ watermarks_at rs cs
 marks [] [] [] here there h = refl
 marks (s ∷ ss) (r ∷ rs) (c ∷ cs) here there h =
     let parts = and_parts _ (every_partition is_watermark (saved_sources ss cs) rs) h in
@@ -73,7 +73,7 @@ marks (s ∷ ss) [] (c ∷ cs) here there h = absurd there
 marks [] (r ∷ rs) [] here there h = absurd there
 
 -- and what is saved of partitions is their counts and watermarks
-saved_in : (ps rs : List (List Entry)) (ns : List ℕ) → AllZip (λ p n. n ≤ length p) ps ns → AllZip (λ p n. n ≤ length p) rs ns → watermarks_at_in ps ns ≡ watermarks_at_in rs ns → saved_source ps ns ≡ saved_source rs ns
+saved_in : (ps rs : List (List Marked)) (ns : List ℕ) → AllZip (λ p n. n ≤ length p) ps ns → AllZip (λ p n. n ≤ length p) rs ns → watermarks_at_in ps ns ≡ watermarks_at_in rs ns → saved_source ps ns ≡ saved_source rs ns
 saved_in [] [] [] here there same = refl
 saved_in (p ∷ ps) (r ∷ rs) (n ∷ ns) here there same =
     let mark : partition_watermark p n ≡ partition_watermark r n = cc in
@@ -84,7 +84,7 @@ saved_in (p ∷ ps) rs [] here there same = absurd here
 saved_in (p ∷ ps) [] (n ∷ ns) here there same = absurd there
 saved_in [] (r ∷ rs) [] here there same = absurd there
 
-saved_in_all : (ss rs : List (List (List Entry))) (cs : List (List ℕ)) → IsCut ss cs → IsCut rs cs → watermarks_at ss cs ≡ watermarks_at rs cs → saved_sources ss cs ≡ saved_sources rs cs
+saved_in_all : (ss rs : List (List (List Marked))) (cs : List (List ℕ)) → IsCut ss cs → IsCut rs cs → watermarks_at ss cs ≡ watermarks_at rs cs → saved_sources ss cs ≡ saved_sources rs cs
 saved_in_all [] [] [] here there same = refl
 saved_in_all (s ∷ ss) (r ∷ rs) (c ∷ cs) here there same =
     let first : watermarks_at_in s c ≡ watermarks_at_in r c = cc in

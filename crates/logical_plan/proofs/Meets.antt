@@ -1,5 +1,5 @@
 -- A text that meets every requirement is a plan's.
-use Rattle.std.proofs.Common.{FitsSigned, ◌≡◌, ℕ, ◌<◌, ◌≤◌, ℤ, pos, negsuc, neg_ℤ, ◌*ℤ◌, ◌≤ℤ◌, ◌<ℤ◌, Bool, true, false, ◌&&◌, List, map, length, get_or, ◌++◌, [], ◌∷◌, None, refl, ap, sym, ◌∙◌, arith}
+use Rattle.std.proofs.Common.{FitsSigned, ◌≡◌, ℕ, ◌<◌, ◌≤◌, ℤ, pos, negsuc, neg_ℤ, ◌*ℤ◌, ◌≤ℤ◌, ◌<ℤ◌, Bool, true, false, ◌&&◌, List, map, length, get_or, ◌++◌, [], ◌∷◌, Option, Some, None, refl, ap, sym, ◌∙◌, arith}
 use Rattle.std.specs.Int.{w64}
 use Rattle.std.specs.Prelude.{unsigned_abs, int_lt, int_le, nat_le}
 use Rattle.std.specs.List.{All, list_all}
@@ -14,15 +14,15 @@ use Rattle.std.specs.Int.Signed.{le_z_yes, lt_z_yes}
 use Rattle.answers.specs.Answer.{first_unmet}
 use Rattle.answers.proofs.Facts.{met_first}
 use Rattle.json_parts.specs.Tests.{is_within, is_place}
-use Rattle.plan_model.specs.declared.limits.TheConstants.{MOST_PARTITIONS, LONGEST_WINDOW}
+use Rattle.plan_model.specs.declared.limits.TheConstants.{MOST_PARTITIONS, GREATEST_BOUND, LONGEST_WINDOW}
 use Rattle.plan_model.specs.Uids.{is_nat_within, is_uid, are_distinct}
 use Rattle.logical_plan.specs.declared.text.SourceText.{SourceText}
 use Rattle.logical_plan.specs.declared.text.FilterText.{FilterText}
 use Rattle.logical_plan.specs.declared.text.AggregateText.{AggregateText}
 use Rattle.logical_plan.specs.declared.text.AggregateText.TheVariants as text
 use Rattle.logical_plan.specs.declared.text.PlanText.{PlanText}
-use Rattle.plan_model.specs.PlanData.{IsPlan, IsWindow, has_column, uids}
-use Rattle.logical_plan.specs.Requirements.{is_aggregate_of, text_uids, requirements, has_columns, has_column_indices, has_max, has_sources, has_partitions, has_uids, has_distinct_uids, has_filters, has_size, has_slide, has_offset, has_panes, has_aggregates}
+use Rattle.plan_model.specs.PlanData.{IsBound, IsPlan, IsWindow, has_column, uids}
+use Rattle.logical_plan.specs.Requirements.{is_aggregate_of, text_uids, requirements, has_columns, has_column_indices, has_max, has_sources, has_partitions, has_uids, has_distinct_uids, has_filters, has_size, has_slide, has_offset, has_panes, has_aggregates, is_bound, has_bounds}
 use Rattle.logical_plan.specs.Answer.{source_data, filter_data, aggregate_data, having_data, plan_data}
 use Rattle.byte_fields.proofs.Exact.{both}
 
@@ -47,9 +47,10 @@ pub record Meets (t : PlanText) : Type 0 where
   pub panes : int_le t.window.size (pos 256 *ℤ t.window.slide) ≡ true
   pub aggregates : is_nat_within 1 8 (length t.window.aggregates) ≡ true
   pub places : list_all (λ h. is_place (pos (length t.window.aggregates)) h.aggregate) t.window.having ≡ true
+  pub bounds : list_all (λ s. is_bound s.bound) t.sources ≡ true
 
 pub meets : (t : PlanText) → first_unmet requirements t ≡ None → Meets t
-unfolding requirements has_columns has_column_indices has_max has_sources has_partitions has_uids has_distinct_uids has_filters has_size has_slide has_offset has_panes has_aggregates
+unfolding requirements has_columns has_column_indices has_max has_sources has_partitions has_uids has_distinct_uids has_filters has_size has_slide has_offset has_panes has_aggregates has_bounds
 meets t h =
     let columns = met_first _ (has_columns t) _ h in
     let indices = met_first _ (has_column_indices t) _ columns.1 in
@@ -64,6 +65,7 @@ meets t h =
     let offset = met_first _ (has_offset t) _ slide.1 in
     let panes = met_first _ (has_panes t) _ offset.1 in
     let aggregates = met_first _ (has_aggregates t) _ panes.1 in
+    let bounds = met_first _ (has_bounds t) _ aggregates.1 in
     let on_aggregates = both (is_place t.columns t.time && is_place t.columns t.key && list_all (λ (f : FilterText). is_place t.columns f.column) t.filters) _ indices.0 in
     let on_filters = both (is_place t.columns t.time && is_place t.columns t.key) _ on_aggregates.0 in
     let on_window = both (is_place t.columns t.time) (is_place t.columns t.key) on_filters.0 in
@@ -90,6 +92,7 @@ meets t h =
       panes = panes.0;
       aggregates = kinds.0;
       places = kinds.1;
+      bounds = bounds.0;
     }
 
 -- the uids of sources, filters and window, each a uid
@@ -138,6 +141,10 @@ column_within columns (text.Sum c) h = place_within columns c h
 column_within columns (text.Least c) h = place_within columns c h
 column_within columns (text.Greatest c) h = place_within columns c h
 
+bound_meets : (bound : Option ℤ) → is_bound bound ≡ true → IsBound bound
+bound_meets None h = tt
+bound_meets (Some b) h = let parts = both (int_le (pos 0) b) (int_le b GREATEST_BOUND) h in (le_from _ _ parts.0, le_from _ _ parts.1)
+
 source_uids : (ss : List SourceText) → map (λ s. s.uid) (map source_data ss) ≡ map (λ (s : SourceText). s.uid) ss
 source_uids [] = refl
 source_uids (s ∷ ss) = ap (λ (xs : List (List ℕ)). s.uid ∷ xs) (source_uids ss)
@@ -182,6 +189,7 @@ is_plan t m filter_values having_values =
       sources_few = rw length-map sources.1;
       partitioned = all_map (λ s. is_within (pos 1) (pos MOST_PARTITIONS) s.partitions) source_data (λ s. 1 ≤ s.partitions) t.sources (λ s h. (within 1 MOST_PARTITIONS s.partitions h).0) m.partitions;
       partitions_few = all_map (λ s. is_within (pos 1) (pos MOST_PARTITIONS) s.partitions) source_data (λ s. s.partitions ≤ MOST_PARTITIONS) t.sources (λ s h. (within 1 MOST_PARTITIONS s.partitions h).1) m.partitions;
+      bounded = all_map (λ s. is_bound s.bound) source_data (λ s. IsBound s.bound) t.sources (λ s h. bound_meets s.bound h) m.bounds;
       named = rw (same_uids t) (AllPass-from_list_all is_uid (text_uids t) m.uids);
       distinct = rw (same_uids t) m.distinct;
       filters_few = rw length-map (leb-true _ _ m.filters);

@@ -27,7 +27,7 @@ use Rattle.logical_plan.specs.declared.fault.PlanFault.{PlanFault}
 use Rattle.logical_plan.specs.declared.fault.PlanFault.TheVariants.{NotJson, Member, Memory}
 
 abbrev pub source_data : SourceText → SourceSpec
-source_data s = record { uid = s.uid; partitions = unsigned_abs s.partitions }
+source_data s = record { uid = s.uid; partitions = unsigned_abs s.partitions; bound = s.bound }
 
 abbrev pub filter_data : FilterText → FilterSpec
 filter_data f = record { uid = f.uid; column = unsigned_abs f.column; cmp = f.cmp; value = f.value }

@@ -1,5 +1,6 @@
 -- What a JSON value says as a plan. None: a member is missing, unknown or of another form.
 use Rattle.std.specs.Prelude.{ℕ, ℤ, pos, List, [], ◌∷◌, Option, Some, None, codes}
+use Rattle.std.specs.Option.{option_map_or}
 use Rattle.serde_json.specs.Data.{Data}
 use Rattle.serde_json.specs.Find.{get}
 use Rattle.json_parts.specs.Parts.{◌>>=◌, whole_at, whole_or, text_at, each_at, each_or_empty, object_of, named}
@@ -22,11 +23,22 @@ cmp_text d = do
   name ← text_at (codes "op") d
   cmp_named name
 
+-- the bound by which the watermarks of a source are behind
+unfoldable pub watermarks_text : Data → Option (Option ℤ)
+watermarks_text d = object_of (codes "bound" ∷ []) d do
+  bound ← whole_at (codes "bound") d
+  Some (Some bound)
+
+-- without watermarks there is none
+unfoldable pub bound_at : Data → Option (Option ℤ)
+bound_at d = option_map_or watermarks_text (get (codes "watermarks") d) (Some None)
+
 unfoldable pub source_text : Data → Option SourceText
-source_text d = object_of (codes "uid" ∷ codes "partitions" ∷ []) d do
+source_text d = object_of (codes "uid" ∷ codes "partitions" ∷ codes "watermarks" ∷ []) d do
   uid ← text_at (codes "uid") d
   partitions ← whole_at (codes "partitions") d
-  Some (record { uid = uid; partitions = partitions })
+  bound ← bound_at d
+  Some (record { uid = uid; partitions = partitions; bound = bound })
 
 unfoldable pub filter_text : Data → Option FilterText
 filter_text d = object_of (codes "uid" ∷ codes "column" ∷ codes "op" ∷ codes "value" ∷ []) d do

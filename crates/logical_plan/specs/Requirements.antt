@@ -1,17 +1,17 @@
 -- What a plan must meet, and the fault where it does not, in the order in which they are decided.
-use Rattle.std.specs.Prelude.{ℕ, ℤ, pos, neg_ℤ, ◌*ℤ◌, int_le, int_lt, Bool, true, ◌&&◌, nat_le, List, [], ◌∷◌, ◌++◌, map, length, Option}
+use Rattle.std.specs.Prelude.{ℕ, ℤ, pos, neg_ℤ, ◌*ℤ◌, int_le, int_lt, Bool, true, ◌&&◌, nat_le, List, [], ◌∷◌, ◌++◌, map, length, Option, Some, None}
 use Rattle.std.specs.List.{list_all}
 use Rattle.answers.specs.Answer.{otherwise}
 use Rattle.json_parts.specs.Tests.{is_within, is_place}
 use Rattle.key_groups.specs.declared.limits.TheConstants.{MOST_GROUPS}
 use Rattle.plain_data.specs.declared.limits.TheConstants.{MOST_COLUMNS}
-use Rattle.plan_model.specs.declared.limits.TheConstants.{MOST_SOURCES, MOST_PARTITIONS, MOST_CONDITIONS, LONGEST_WINDOW, MOST_WINDOWS, MOST_AGGREGATES}
+use Rattle.plan_model.specs.declared.limits.TheConstants.{MOST_SOURCES, MOST_PARTITIONS, MOST_CONDITIONS, GREATEST_BOUND, LONGEST_WINDOW, MOST_WINDOWS, MOST_AGGREGATES}
 use Rattle.plan_model.specs.Uids.{is_nat_within, is_uid, are_distinct}
 use Rattle.logical_plan.specs.declared.text.AggregateText.{AggregateText}
 use Rattle.logical_plan.specs.declared.text.AggregateText.TheVariants.{Count, Sum, Least, Greatest}
 use Rattle.logical_plan.specs.declared.text.PlanText.{PlanText}
 use Rattle.logical_plan.specs.declared.fault.PlanFault.{PlanFault}
-use Rattle.logical_plan.specs.declared.fault.PlanFault.TheVariants.{Columns, ColumnIndex, MaxParallelism, Sources, Partitions, Uid, UidTwice, Filters, WindowSize, WindowSlide, WindowOffset, Panes, Aggregates}
+use Rattle.logical_plan.specs.declared.fault.PlanFault.TheVariants.{Columns, ColumnIndex, MaxParallelism, Sources, Partitions, Uid, UidTwice, Filters, WindowSize, WindowSlide, WindowOffset, Panes, Aggregates, Bound}
 
 abbrev pub is_aggregate_of : ℤ → AggregateText → Bool
 is_aggregate_of columns Count = true
@@ -65,5 +65,12 @@ has_panes t = int_le t.window.size (MOST_WINDOWS *ℤ t.window.slide)
 unfoldable pub has_aggregates : PlanText → Bool
 has_aggregates t = is_nat_within 1 MOST_AGGREGATES (length t.window.aggregates) && list_all (λ h. is_place (pos (length t.window.aggregates)) h.aggregate) t.window.having
 
+abbrev pub is_bound : Option ℤ → Bool
+is_bound None = true
+is_bound (Some b) = is_within (pos 0) GREATEST_BOUND b
+
+unfoldable pub has_bounds : PlanText → Bool
+has_bounds t = list_all (λ s. is_bound s.bound) t.sources
+
 unfoldable pub requirements : List (PlanText → Option PlanFault)
-requirements = otherwise Columns has_columns ∷ otherwise ColumnIndex has_column_indices ∷ otherwise MaxParallelism has_max ∷ otherwise Sources has_sources ∷ otherwise Partitions has_partitions ∷ otherwise Uid has_uids ∷ otherwise UidTwice has_distinct_uids ∷ otherwise Filters has_filters ∷ otherwise WindowSize has_size ∷ otherwise WindowSlide has_slide ∷ otherwise WindowOffset has_offset ∷ otherwise Panes has_panes ∷ otherwise Aggregates has_aggregates ∷ []
+requirements = otherwise Columns has_columns ∷ otherwise ColumnIndex has_column_indices ∷ otherwise MaxParallelism has_max ∷ otherwise Sources has_sources ∷ otherwise Partitions has_partitions ∷ otherwise Uid has_uids ∷ otherwise UidTwice has_distinct_uids ∷ otherwise Filters has_filters ∷ otherwise WindowSize has_size ∷ otherwise WindowSlide has_slide ∷ otherwise WindowOffset has_offset ∷ otherwise Panes has_panes ∷ otherwise Aggregates has_aggregates ∷ otherwise Bound has_bounds ∷ []

@@ -32,10 +32,15 @@ fn source_spec(source: SourceText) -> SourceSpec
     requires partitions { is_within (pos 1) (pos MOST_PARTITIONS) source.partitions ≡ true }
     ensures { result ≡ source_data source }
 {
-    let SourceText { uid, partitions } = source;
+    let SourceText {
+        uid,
+        partitions,
+        bound,
+    } = source;
     SourceSpec {
         uid: Uid::from_text(uid),
         partitions: partitions as u32,
+        bound,
     }
 }
 

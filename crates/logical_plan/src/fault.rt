@@ -42,6 +42,8 @@ pub enum PlanFault {
     Panes,
     /// There are not 1 to 8 aggregates, or a having condition names none of them.
     Aggregates,
+    /// The bound of a source's watermarks is not 0 to 2^40.
+    Bound,
     /// An allocation was refused.
     Memory,
 }
@@ -69,6 +71,7 @@ impl fmt::Display for PlanFault {
             PlanFault::WindowOffset => write!(f, "P13 WindowOffset"),
             PlanFault::Panes => write!(f, "P14 Panes"),
             PlanFault::Aggregates => write!(f, "P15 Aggregates"),
+            PlanFault::Bound => write!(f, "P17 Bound"),
             PlanFault::Memory => write!(f, "memory"),
         }
     }

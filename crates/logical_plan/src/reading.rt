@@ -81,6 +81,9 @@ fn fault_after_uids(text: &PlanText) -> Option<PlanFault>
     if !requirements::has_aggregates(text) {
         return Some(PlanFault::Aggregates);
     }
+    if !requirements::has_bounds(text) {
+        return Some(PlanFault::Bound);
+    }
     None
 }
 

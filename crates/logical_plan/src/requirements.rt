@@ -11,8 +11,8 @@ use crate::text::{AggregateText, FilterText, HavingText, PlanText, SourceText};
 use key_groups::MOST_GROUPS;
 use plain_data::MOST_COLUMNS;
 use plan_model::{
-    LONGEST_WINDOW, MOST_AGGREGATES, MOST_CONDITIONS, MOST_PARTITIONS, MOST_SOURCES, MOST_WINDOWS,
-    is_uid,
+    GREATEST_BOUND, LONGEST_WINDOW, MOST_AGGREGATES, MOST_CONDITIONS, MOST_PARTITIONS,
+    MOST_SOURCES, MOST_WINDOWS, is_uid,
 };
 
 #[tactic(auto, unfolding(crate::specs::Requirements::has_columns))]
@@ -163,4 +163,26 @@ pub fn has_aggregates(text: &PlanText) -> bool
     1 <= count
         && count <= MOST_AGGREGATES
         && name_aggregates(count as i64, text.window.having.as_slice())
+}
+
+fn is_bound(bound: Option<i64>) -> bool
+    ensures { result ≡ required.is_bound bound }
+{
+    match bound {
+        None => true,
+        Some(bound) => 0 <= bound && bound <= GREATEST_BOUND,
+    }
+}
+
+fn are_bounded(sources: &[SourceText]) -> bool
+    ensures { result ≡ list_all (λ s. required.is_bound s.bound) sources.now }
+{
+    sources.iter().all(|s| is_bound(s.bound))
+}
+
+#[tactic(auto, unfolding(crate::specs::Requirements::has_bounds))]
+pub fn has_bounds(text: &PlanText) -> bool
+    ensures { result ≡ required.has_bounds text.now }
+{
+    are_bounded(text.sources.as_slice())
 }

@@ -3,7 +3,7 @@
 ghost use Rattle.std.specs.Prelude.{◌≡◌};
 ghost use Rattle.serde_json.specs.View.{view};
 ghost use Rattle.json_parts.specs.Parts.{Gives};
-ghost use Rattle.logical_plan.specs.PlanText.{cmp_text, source_text, filter_text, aggregate_text, count_text, column_text, having_text, window_text, window_at, plan_text};
+ghost use Rattle.logical_plan.specs.PlanText.{cmp_text, watermarks_text, bound_at, source_text, filter_text, aggregate_text, count_text, column_text, having_text, window_text, window_at, plan_text};
 
 use json_parts::{
     FromValue, PartError, has_only, list_of, list_or_empty, text, text_of, whole, whole_or,
@@ -17,6 +17,7 @@ use std::alloc::Global;
 pub struct SourceText {
     pub uid: Text,
     pub partitions: i64,
+    pub bound: Option<i64>,
 }
 
 #[derive(Debug, Drop)]
@@ -118,17 +119,38 @@ fn cmp_of(value: &Value) -> Result<Cmp, PartError>
     }
 }
 
+#[tactic(auto, unfolding(crate::specs::PlanText::watermarks_text))]
+fn watermarks_of(value: &Value) -> Result<Option<i64>, PartError>
+    ensures { Gives (λ bound. bound) result (watermarks_text (view value.now)) }
+{
+    if !has_only(value, &["bound"]) {
+        return Err(PartError::Form);
+    }
+    Ok(Some(whole(value, "bound")?))
+}
+
+#[tactic(auto, unfolding(crate::specs::PlanText::bound_at))]
+fn bound_in(value: &Value) -> Result<Option<i64>, PartError>
+    ensures { Gives (λ bound. bound) result (bound_at (view value.now)) }
+{
+    match value.get("watermarks") {
+        None => Ok(None),
+        Some(watermarks) => watermarks_of(watermarks),
+    }
+}
+
 #[tactic(auto, unfolding(crate::specs::PlanText::source_text))]
 fn source_of(alloc: Global, value: &Value) -> Result<SourceText, PartError>
     ensures { Gives (λ source. source) result (source_text (view value.now)) }
 {
-    if !has_only(value, &["uid", "partitions"]) {
+    if !has_only(value, &["uid", "partitions", "watermarks"]) {
         return Err(PartError::Form);
     }
     let uid = text(alloc, value, "uid")?;
     Ok(SourceText {
         uid,
         partitions: whole(value, "partitions")?,
+        bound: bound_in(value)?,
     })
 }
 

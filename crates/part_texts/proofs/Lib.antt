@@ -1,2 +1,3 @@
 mod Commas
 mod Steps
+mod Unmarked

@@ -3,7 +3,7 @@ use Rattle.std.proofs.Common.{◌≡◌, ℕ, ◌<◌, ◌≤◌, ◌+◌, Bool,
 use Rattle.std.specs.Prelude.{codes}
 use Rattle.std.specs.List.{join_with_byte, range_with_len}
 use Rattle.std.proofs.lemmas.Bool.{cases_eq}
-use Rattle.std.proofs.lemmas.List.{get_or-set_same, get_or-set_other, append-nil, ext_get_or, length-map, get_or-map, get_or-replicate, length-replicate, take_more}
+use Rattle.std.proofs.lemmas.List.{get_or-set_same, get_or-set_other, append-nil, ext_get_or, length-map, get_or-map, get_or-replicate, length-replicate, map-append, take_more}
 use Rattle.std.proofs.lemmas.List.Concat.{flat_map-append}
 use Rattle.std.proofs.lemmas.List.FromFn.{length-map-range_with_len, get_or-map-range_with_len}
 use Rattle.std.proofs.lemmas.List.Sums.{fold-append}
@@ -11,7 +11,8 @@ use Rattle.plain_data.specs.Record.{Record}
 use Rattle.cut_texts.specs.Words.{before_part}
 use Rattle.cut_texts.proofs.Spelled.{part_more}
 use Rattle.stream_model.specs.declared.entry.Entry.{Entry}
-use Rattle.input_parts.specs.Parts.{entry_kept, entries_kept}
+use Rattle.stream_model.specs.declared.entry.Marked.{Marked}
+use Rattle.input_parts.specs.Parts.{entry_kept, entries_kept, entries_left, unmarked}
 use Rattle.part_texts.specs.InputTexts.{entry_text, entries_text, partition_text}
 use Rattle.part_texts.specs.PartTexts.{Growing, growing, nothing, with_words, with_entry, with_entries, Each, Grow}
 
@@ -80,35 +81,39 @@ first text (e ∷ d ∷ es) =
     ∙ append_assoc text (entry_text e) (44 ∷ entries_text (d ∷ es))
 
 -- the entries of a partition, as far as they are gone through
-abbrev pub kept_of : (ℕ → Record → Bool) → List Entry → ℕ → Growing → Growing
-kept_of keep es i p = with_entries p (entries_kept (keep i) es)
+abbrev pub kept_of : (ℕ → Record → Bool) → List Marked → ℕ → Growing → Growing
+kept_of keep es i p = with_entries p (entries_left (keep i) es)
 
-pub no_entries : (keep : ℕ → Record → Bool) (es : List Entry) (old : List Growing) → Each (kept_of keep (take 0 es)) old old
+pub no_entries : (keep : ℕ → Record → Bool) (es : List Marked) (old : List Growing) → Each (kept_of keep (take 0 es)) old old
 no_entries keep es old = same_each old
 
-pub entries_more : (keep : ℕ → Record → Bool) (es : List Entry) (place : ℕ) (d : Entry) (a b c : List Growing) → place < length es
-    → Each (kept_of keep (take place es)) a b → Each (λ i p. with_entries p (entry_kept (keep i) (get_or es place d))) b c → Each (kept_of keep (take (place + 1) es)) a c
+pub entries_more : (keep : ℕ → Record → Bool) (es : List Marked) (place : ℕ) (d : Marked) (a b c : List Growing) → place < length es
+    → Each (kept_of keep (take place es)) a b → Each (λ i p. with_entries p (entry_kept (keep i) (get_or es place d).entry)) b c → Each (kept_of keep (take (place + 1) es)) a c
 entries_more keep es place d a b c within so_far next =
-    each_is (λ i p. with_entries (kept_of keep (take place es) i p) (entry_kept (keep i) e)) (kept_of keep (take (place + 1) es)) a c (λ i l p. is i p)
-    (then_step (kept_of keep (take place es)) (λ i p. with_entries p (entry_kept (keep i) e)) a b c so_far next)
+    each_is (λ i p. with_entries (kept_of keep (take place es) i p) (entry_kept (keep i) e.entry)) (kept_of keep (take (place + 1) es)) a c (λ i l p. is i p)
+    (then_step (kept_of keep (take place es)) (λ i p. with_entries p (entry_kept (keep i) e.entry)) a b c so_far next)
   where
-    e : Entry
+    e : Marked
     e = get_or es place d
 
-    kept : (i : ℕ) → entries_kept (keep i) (take (place + 1) es) ≡ entries_kept (keep i) (take place es) ++ entry_kept (keep i) e
-    kept i = ap (entries_kept (keep i)) (take_more es place d within) ∙ flat_map-append (entry_kept (keep i)) (take place es) (e ∷ []) ∙ ap (λ l. entries_kept (keep i) (take place es) ++ l) (append-nil (entry_kept (keep i) e))
+    kept : (i : ℕ) → entries_left (keep i) (take (place + 1) es) ≡ entries_left (keep i) (take place es) ++ entry_kept (keep i) e.entry
+    kept i =
+        ap (entries_left (keep i)) (take_more es place d within)
+        ∙ ap (entries_kept (keep i)) (map-append (λ m. m.entry) (take place es) (e ∷ []))
+        ∙ flat_map-append (entry_kept (keep i)) (unmarked (take place es)) (e.entry ∷ [])
+        ∙ ap (λ l. entries_left (keep i) (take place es) ++ l) (append-nil (entry_kept (keep i) e.entry))
 
-    is : (i : ℕ) (p : Growing) → with_entries (kept_of keep (take place es) i p) (entry_kept (keep i) e) ≡ kept_of keep (take (place + 1) es) i p
-    is i p = sym (ap (with_entries p) (kept i) ∙ fold-append with_entry p (entries_kept (keep i) (take place es)) (entry_kept (keep i) e))
+    is : (i : ℕ) (p : Growing) → with_entries (kept_of keep (take place es) i p) (entry_kept (keep i) e.entry) ≡ kept_of keep (take (place + 1) es) i p
+    is i p = sym (ap (with_entries p) (kept i) ∙ fold-append with_entry p (entries_left (keep i) (take place es)) (entry_kept (keep i) e.entry))
 
-pub partition_more : (keep : ℕ → Record → Bool) (es : List Entry) (a b c d : List Growing) → Each (λ i p. with_words (codes "[") p) a b → Each (kept_of keep es) b c
-    → Each (λ i p. with_words (codes "]") p) c d → Grow (λ i. partition_text (entries_kept (keep i) es)) a d
+pub partition_more : (keep : ℕ → Record → Bool) (es : List Marked) (a b c d : List Growing) → Each (λ i p. with_words (codes "[") p) a b → Each (kept_of keep es) b c
+    → Each (λ i p. with_words (codes "]") p) c d → Grow (λ i. partition_text (entries_left (keep i) es)) a d
 partition_more keep es a b c d opened filled closed =
     record { same = closed.same ∙ filled.same ∙ opened.same; each = λ i h. at i h }
   where
-    at : (i : ℕ) → i < length a → (get_or d i nothing).text ≡ (get_or a i nothing).text ++ partition_text (entries_kept (keep i) es)
+    at : (i : ℕ) → i < length a → (get_or d i nothing).text ≡ (get_or a i nothing).text ++ partition_text (entries_left (keep i) es)
     at i h =
-        let kept = entries_kept (keep i) es in
+        let kept = entries_left (keep i) es in
         let text = (get_or a i nothing).text in
         ap (λ (p : Growing). p.text) (closed.each i (omega (arith, h, filled.same, opened.same)))
         ∙ ap (λ (p : Growing). p.text ++ codes "]") (filled.each i (omega (arith, h, opened.same)) ∙ ap (λ p. with_entries p kept) (opened.each i h))

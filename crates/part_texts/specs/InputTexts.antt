@@ -6,6 +6,7 @@ use Rattle.plain_data.specs.Record.{Record, at}
 use Rattle.columns.specs.Table.{Table}
 use Rattle.plan_model.specs.PlanData.{PlanData}
 use Rattle.plan_model.specs.declared.spec.SourceSpec.{SourceSpec}
+use Rattle.input_parts.specs.Parts.{unmarked}
 use Rattle.stream_model.specs.InputData.{InputData}
 use Rattle.stream_model.specs.declared.entry.Entry.{Entry}
 use Rattle.stream_model.specs.declared.entry.Entry.TheVariants.{Rows, Watermark}
@@ -49,6 +50,6 @@ source_text s = codes "\"" ++ (s.0.uid ++ (codes "\":[" ++ (partitions_text s.1 
 abbrev pub sources_text : List (SourceSpec × List (List Entry)) → List ℕ
 sources_text sources = join_with_byte 44 (map source_text sources)
 
--- the sources in the order of the plan, and a line feed
+-- the sources in the order of the plan, and a line feed. A watermark that a source makes stands in no text
 abbrev pub input_text : PlanData → InputData → List ℕ
-input_text plan input = codes "{" ++ (sources_text (zip plan.sources input.sources) ++ codes "}\n")
+input_text plan input = codes "{" ++ (sources_text (zip plan.sources (map (map unmarked) input.sources)) ++ codes "}\n")

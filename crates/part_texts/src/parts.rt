@@ -3,8 +3,9 @@
 ghost use Rattle.std.specs.Prelude.{◌≡◌, ◌≤◌, codes, length, map, replicate, zip, IfOk, OnOk};
 ghost use Rattle.std.specs.List.{All, filter, range_with_len};
 ghost use Rattle.stream_model.specs.InputData.{BelongsTo, IsEntry};
+ghost use Rattle.stream_model.specs.Marks.{IsEntryOf};
 ghost use Rattle.cut_texts.specs.Words.{before_part};
-ghost use Rattle.input_parts.specs.Parts.{is_in_part, entry_of_rows, entry_kept, entries_kept, part_of_input};
+ghost use Rattle.input_parts.specs.Parts.{is_in_part, entry_of_rows, entry_kept, entries_left, part_of_input};
 ghost use Rattle.part_texts.specs.InputTexts.{mark_entry, partition_text, partitions_text, source_text, sources_text, input_text};
 ghost use Rattle.part_texts.specs.PartTexts.{Each, Grow, nothing, with_words, with_text, with_entries, piece_at};
 
@@ -14,7 +15,7 @@ use key_dealing::pieces_of;
 use key_groups::{MaxParallelism, Parallelism};
 use plan_model::{Plan, SourceSpec};
 use std::alloc::{AllocError, Global};
-use stream_model::{Entry, Input, Partition, Source};
+use stream_model::{Entry, Input, Marked, Partition, Source};
 
 /// The key groups of a plan.
 fn groups_of(plan: &Plan) -> MaxParallelism
@@ -31,10 +32,10 @@ fn bytes_of_entry(entry: &Entry) -> usize {
     }
 }
 
-fn bytes_of_entries(entries: &[Entry]) -> usize {
+fn bytes_of_entries(entries: &[Marked]) -> usize {
     let mut bytes = 0usize;
-    for entry in entries {
-        bytes = bytes.saturating_add(bytes_of_entry(entry));
+    for marked in entries {
+        bytes = bytes.saturating_add(bytes_of_entry(&marked.entry));
     }
     bytes
 }
@@ -132,7 +133,7 @@ fn push_entry(
     entry: &Entry,
 ) -> Result<(), AllocError>
     requires fits { parts ≤ plan.now.max }
-    requires sound { IsEntry plan.now.columns plan.now.window.time entry.now }
+    requires sound { IsEntryOf plan.now.columns plan.now.window.time entry.now }
     requires all { length texts.old ≡ parts }
     ensures { OnOk result (Each (λ place text. with_entries text (entry_kept (is_in_part plan.now parts place) entry.now)) texts.old texts.new) }
 {
@@ -147,15 +148,15 @@ fn push_entries(
     plan: &Plan,
     parts: Parallelism,
     texts: &mut [PartText],
-    entries: &[Entry],
+    entries: &[Marked],
 ) -> Result<(), AllocError>
     requires fits { parts ≤ plan.now.max }
     requires sound { All (IsEntry plan.now.columns plan.now.window.time) entries.now }
     requires all { length texts.old ≡ parts }
-    ensures { OnOk result (Each (λ place text. with_entries text (entries_kept (is_in_part plan.now parts place) entries.now)) texts.old texts.new) }
+    ensures { OnOk result (Each (λ place text. with_entries text (entries_left (is_in_part plan.now parts place) entries.now)) texts.old texts.new) }
 {
-    for entry in entries {
-        push_entry(alloc, plan, parts, texts, entry)?;
+    for marked in entries {
+        push_entry(alloc, plan, parts, texts, &marked.entry)?;
     }
     Ok(())
 }
@@ -165,12 +166,12 @@ fn push_partition(
     plan: &Plan,
     parts: Parallelism,
     texts: &mut [PartText],
-    entries: &[Entry],
+    entries: &[Marked],
 ) -> Result<(), AllocError>
     requires fits { parts ≤ plan.now.max }
     requires sound { All (IsEntry plan.now.columns plan.now.window.time) entries.now }
     requires all { length texts.old ≡ parts }
-    ensures { OnOk result (Grow (λ place. partition_text (entries_kept (is_in_part plan.now parts place) entries.now)) texts.old texts.new) }
+    ensures { OnOk result (Grow (λ place. partition_text (entries_left (is_in_part plan.now parts place) entries.now)) texts.old texts.new) }
 {
     push_all(texts, "[")?;
     push_entries(alloc, plan, parts, texts, entries)?;
@@ -187,7 +188,7 @@ fn push_partitions(
     requires fits { parts ≤ plan.now.max }
     requires sound { All (λ entries. All (IsEntry plan.now.columns plan.now.window.time) entries) partitions.now }
     requires all { length texts.old ≡ parts }
-    ensures { OnOk result (Grow (λ place. partitions_text (map (entries_kept (is_in_part plan.now parts place)) partitions.now)) texts.old texts.new) }
+    ensures { OnOk result (Grow (λ place. partitions_text (map (entries_left (is_in_part plan.now parts place)) partitions.now)) texts.old texts.new) }
 {
     for (place, entries) in partitions.iter().enumerate() {
         separate_all(texts, place)?;
@@ -208,7 +209,7 @@ fn push_source(
     requires fits { parts ≤ plan.now.max }
     requires sound { All (λ entries. All (IsEntry plan.now.columns plan.now.window.time) entries) partitions.now }
     requires all { length texts.old ≡ parts }
-    ensures { OnOk result (Grow (λ place. source_text (spec.now, map (entries_kept (is_in_part plan.now parts place)) partitions.now)) texts.old texts.new) }
+    ensures { OnOk result (Grow (λ place. source_text (spec.now, map (entries_left (is_in_part plan.now parts place)) partitions.now)) texts.old texts.new) }
 {
     push_all(texts, "\"")?;
     push_all(texts, spec.uid.as_str())?;
@@ -229,7 +230,7 @@ fn push_sources(
     requires sound { All (λ partitions. All (λ entries. All (IsEntry plan.now.columns plan.now.window.time) entries) partitions) sources.now }
     requires alike { length specs.now ≡ length sources.now }
     requires all { length texts.old ≡ parts }
-    ensures { OnOk result (Grow (λ place. sources_text (zip specs.now (map (map (entries_kept (is_in_part plan.now parts place))) sources.now))) texts.old texts.new) }
+    ensures { OnOk result (Grow (λ place. sources_text (zip specs.now (map (map (entries_left (is_in_part plan.now parts place))) sources.now))) texts.old texts.new) }
 {
     for place in 0..specs.len() {
         separate_all(texts, place)?;

@@ -1,10 +1,10 @@
 -- A plan as contracts see it.
-use Rattle.std.specs.Prelude.{◌≡◌, ℕ, pos, neg_ℤ, ◌*ℤ◌, ◌<◌, ◌≤◌, ◌≤ℤ◌, ◌<ℤ◌, FitsSigned, true, List, [], ◌∷◌, ◌++◌, map, length}
+use Rattle.std.specs.Prelude.{◌≡◌, ℕ, ℤ, pos, neg_ℤ, ◌*ℤ◌, ◌<◌, ◌≤◌, ◌≤ℤ◌, ◌<ℤ◌, FitsSigned, true, Option, Some, None, List, [], ◌∷◌, ◌++◌, map, length}
 use Rattle.std.specs.Int.{w64}
 use Rattle.std.specs.List.{All}
 use Rattle.key_groups.specs.declared.limits.TheConstants.{MOST_GROUPS}
 use Rattle.plain_data.specs.declared.limits.TheConstants.{MOST_COLUMNS}
-use Rattle.plan_model.specs.declared.limits.TheConstants.{MOST_SOURCES, MOST_PARTITIONS, MOST_CONDITIONS, LONGEST_WINDOW, MOST_WINDOWS, MOST_AGGREGATES}
+use Rattle.plan_model.specs.declared.limits.TheConstants.{MOST_SOURCES, MOST_PARTITIONS, MOST_CONDITIONS, GREATEST_BOUND, LONGEST_WINDOW, MOST_WINDOWS, MOST_AGGREGATES}
 use Rattle.plan_model.specs.Uids.{is_uid, are_distinct}
 use Rattle.plan_model.specs.declared.spec.SourceSpec.{SourceSpec}
 use Rattle.plan_model.specs.declared.spec.FilterSpec.{FilterSpec}
@@ -43,6 +43,11 @@ pub record IsWindow (w : WindowSpec) : Type 0 where
   pub offset_below : w.offset <ℤ w.slide
   pub panes : w.size ≤ℤ (MOST_WINDOWS *ℤ w.slide)
 
+-- the bound of a source that makes its own watermarks: from 0 to 2^40
+abbrev pub IsBound : Option ℤ → Type 0
+IsBound None = Unit {0}
+IsBound (Some b) = (pos 0 ≤ℤ b) × (b ≤ℤ GREATEST_BOUND)
+
 -- what every plan that is read meets
 pub record IsPlan (p : PlanData) : Type 0 where
   pub columned : 1 ≤ p.columns
@@ -57,6 +62,7 @@ pub record IsPlan (p : PlanData) : Type 0 where
   pub sources_few : length p.sources ≤ MOST_SOURCES
   pub partitioned : All (λ s. 1 ≤ s.partitions) p.sources
   pub partitions_few : All (λ s. s.partitions ≤ MOST_PARTITIONS) p.sources
+  pub bounded : All (λ s. IsBound s.bound) p.sources
   pub named : All (λ uid. is_uid uid ≡ true) (uids p)
   pub distinct : are_distinct (uids p) ≡ true
   pub filters_few : length p.filters ≤ MOST_CONDITIONS

@@ -16,6 +16,9 @@ pub const MOST_CONDITIONS: usize = 32;
 /// A time is at least -2^62, and less than 2^62, this limit.
 pub const TIME_LIMIT: i64 = 1 << 62;
 
+/// The greatest bound of a source that makes its own watermarks.
+pub const GREATEST_BOUND: i64 = 1 << 40;
+
 /// The greatest size of a window, and the greatest slide.
 pub const LONGEST_WINDOW: i64 = 1 << 40;
 

@@ -6,11 +6,13 @@ use lane_kernels::Cmp;
 use plain_data::Items;
 use std::alloc::{AllocError, Global};
 
-/// A source of the plan, with so many partitions.
+/// A source of the plan, with so many partitions. With a `bound` it makes its own watermarks, as Flink's bounded
+/// out-of-orderness does: behind the greatest time so far by the bound and 1. With none they stand in its partitions.
 #[derive(Debug, Drop)]
 pub struct SourceSpec {
     pub uid: Uid,
     pub partitions: u32,
+    pub bound: Option<i64>,
 }
 
 /// A filter: the records that pass are those whose number in `column` compares so with `value`.

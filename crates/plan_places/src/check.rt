@@ -9,7 +9,7 @@ use std::alloc::AllocError;
 use text_places::Placed;
 
 /// The faults of a plan that is JSON, in the order of their requirements.
-const FAULTS: [PlanFault; 14] = [
+const FAULTS: [PlanFault; 15] = [
     PlanFault::Member,
     PlanFault::Columns,
     PlanFault::ColumnIndex,
@@ -24,6 +24,7 @@ const FAULTS: [PlanFault; 14] = [
     PlanFault::WindowOffset,
     PlanFault::Panes,
     PlanFault::Aggregates,
+    PlanFault::Bound,
 ];
 
 /// Tells of the places at which a plan, which is JSON, does not meet the requirement of a fault, the first that it does not meet,
@@ -62,5 +63,6 @@ fn check_one(notes: &mut Notes, plan: &Placed<'_>, fault: PlanFault) -> Result<(
         PlanFault::WindowOffset => window::check_offset(notes, plan),
         PlanFault::Panes => window::check_panes(notes, plan),
         PlanFault::Aggregates => counts::check_aggregates(notes, plan),
+        PlanFault::Bound => numbers::check_bounds(notes, plan),
     }
 }

@@ -7,6 +7,7 @@ use place_notes::{Form, Rule, Shape};
 pub(crate) enum Kind {
     Plan,
     Source,
+    Watermarks,
     Filter,
     Window,
     Count,
@@ -44,7 +45,13 @@ const PLAN_MEMBERS: [Rule; 7] = [
     optional!("filters", List),
 ];
 
-const SOURCE_MEMBERS: [Rule; 2] = [needed!("uid", Text), needed!("partitions", Whole)];
+const SOURCE_MEMBERS: [Rule; 3] = [
+    needed!("uid", Text),
+    needed!("partitions", Whole),
+    optional!("watermarks", Object),
+];
+
+const WATERMARK_MEMBERS: [Rule; 1] = [needed!("bound", Whole)];
 
 const FILTER_MEMBERS: [Rule; 4] = [
     needed!("uid", Text),
@@ -77,6 +84,7 @@ impl Kind {
         match self {
             Kind::Plan => &PLAN_MEMBERS,
             Kind::Source => &SOURCE_MEMBERS,
+            Kind::Watermarks => &WATERMARK_MEMBERS,
             Kind::Filter => &FILTER_MEMBERS,
             Kind::Window => &WINDOW_MEMBERS,
             Kind::Count => &COUNT_MEMBERS,
@@ -89,7 +97,8 @@ impl Kind {
         match self {
             Kind::Plan =>
                 "columns, maxParallelism, time, key, sources and window, and perhaps filters",
-            Kind::Source => "uid and partitions",
+            Kind::Source => "uid and partitions, and perhaps watermarks",
+            Kind::Watermarks => "bound",
             Kind::Filter => "uid, column, op and value",
             Kind::Window => "uid, size and aggregates, and perhaps slide, offset and having",
             Kind::Count => "fn alone, as a count",

@@ -7,7 +7,7 @@ use place_notes::{
     Member, Notes, Owner, Range, check_range, items_of, member_of, tell_value, whole_of,
 };
 use plain_data::MOST_COLUMNS;
-use plan_model::MOST_PARTITIONS;
+use plan_model::{GREATEST_BOUND, MOST_PARTITIONS};
 use std::alloc::{AllocError, Global};
 use std::fmt;
 use text_places::{Part, Placed};
@@ -163,6 +163,28 @@ pub(crate) fn check_partitions(notes: &mut Notes, plan: &Placed<'_>) -> Result<(
             name: "partitions",
         };
         check_range(notes, member, Range { least: 1, most })?;
+    }
+    Ok(())
+}
+
+/// Tells of bounds of watermarks that are not 0 to 2^40.
+pub(crate) fn check_bounds(notes: &mut Notes, plan: &Placed<'_>) -> Result<(), AllocError>
+    ensures { TellsMore notes.old notes.new }
+{
+    let range = Range {
+        least: 0,
+        most: GREATEST_BOUND,
+    };
+    let sources = items_of(notes.alloc(), plan, "sources")?;
+    for (i, source) in sources.iter().enumerate() {
+        if let Some(watermarks) = member_of(notes.alloc(), &source.value, "watermarks")? {
+            let member = Member {
+                owner: Owner::Listed("the `watermarks` of source", i),
+                object: &watermarks,
+                name: "bound",
+            };
+            check_range(notes, member, range)?;
+        }
     }
     Ok(())
 }

@@ -40,6 +40,29 @@ fn check_listed(
     check_objects(notes, noun, &items, kind.shape())
 }
 
+/// Tells of the watermarks of the sources in a list.
+fn check_watermarks(notes: &mut Notes, sources: &[Part<'_>]) -> Result<(), AllocError>
+    ensures { TellsMore notes.old notes.new }
+{
+    let shape = Kind::Watermarks.shape();
+    for (i, source) in sources.iter().enumerate() {
+        if let Some(watermarks) = member_of(notes.alloc(), &source.value, "watermarks")? {
+            let owner = Owner::Listed("the `watermarks` of source", i);
+            check_object(notes, owner, &watermarks, shape)?;
+        }
+    }
+    Ok(())
+}
+
+/// Tells of the sources, and of the watermarks of each.
+fn check_sources(notes: &mut Notes, plan: &Placed<'_>) -> Result<(), AllocError>
+    ensures { TellsMore notes.old notes.new }
+{
+    let sources = items_of(notes.alloc(), plan, "sources")?;
+    check_objects(notes, "source", &sources, Kind::Source.shape())?;
+    check_watermarks(notes, &sources)
+}
+
 fn check_window(notes: &mut Notes, window: &Placed<'_>) -> Result<(), AllocError>
     ensures { TellsMore notes.old notes.new }
 {
@@ -59,7 +82,7 @@ pub(crate) fn check_shape(notes: &mut Notes, plan: &Placed<'_>) -> Result<(), Al
     ensures { TellsMore notes.old notes.new }
 {
     check_object(notes, Owner::One("the plan"), plan, Kind::Plan.shape())?;
-    check_listed(notes, plan, "sources", "source", Kind::Source)?;
+    check_sources(notes, plan)?;
     check_listed(notes, plan, "filters", "filter", Kind::Filter)?;
     match member_of(notes.alloc(), plan, "window")? {
         Some(window) => check_window(notes, &window),

@@ -18,10 +18,11 @@ use Rattle.plan_record.specs.declared.record.Condition.{Condition}
 use Rattle.plan_model.specs.PlanData.{IsWindow}
 use Rattle.plan_model.specs.Windows.{passes, is_start, is_window_of}
 use Rattle.plan_model.specs.Rows.{keeps}
-use Rattle.plan_record.specs.PlanRecord.{ascending, cmp_code, filter_condition, having_condition, condition_cmp, RecordParts, parts_of, record_field, plan_record}
+use Rattle.plan_record.specs.PlanRecord.{ascending, cmp_code, filter_condition, having_condition, condition_cmp, RecordParts, bounds_bytes, bounds_of, parts_of, record_field, plan_record}
 use Rattle.plan_record.specs.Alike.{EqualRecords}
-use Rattle.byte_fields.proofs.Exact.{one_value}
+use Rattle.byte_fields.proofs.Exact.{ok_is}
 use Rattle.plan_model.proofs.Facts.{lifted, natural, pos_same}
+use Rattle.plan_record.proofs.EqualBounds.{bounds_alike}
 use Rattle.plan_record.proofs.RecordExact.{plan_record_exact, parts_fit}
 use Rattle.plan_record.proofs.Members.{all_ascending, any_ascending, conditions_apart, uids_apart}
 
@@ -106,7 +107,11 @@ same_windows w v sound size slide offset t s =
 pub equal_records : EqualRecords
 unfolding plan_record
 equal_records p q sp sq e =
-    let same = one_value record_field plan_record_exact (parts_of p) (parts_of q) (parts_fit p sp) (parts_fit q sq) e in
+    let read_p = plan_record_exact.again (parts_of p) (bounds_bytes (bounds_of p)) (parts_fit p sp) in
+    let read_q = plan_record_exact.again (parts_of q) (bounds_bytes (bounds_of q)) (parts_fit q sq) in
+    let both = ok_is (parts_of p, bounds_bytes (bounds_of p)) (parts_of q, bounds_bytes (bounds_of q)) (sym read_p ∙ ap record_field.read e ∙ read_q) in
+    let same = ap (λ (r : RecordParts × List ℕ). r.0) both in
+    let bounds = ap (λ (r : RecordParts × List ℕ). r.1) both in
     let size = ap (λ (r : RecordParts). r.1.0.0) same in
     let filters = ap (λ (r : RecordParts). r.1.1.1.0) same in
     let having = ap (λ (r : RecordParts). r.1.1.1.1.1) same in
@@ -117,6 +122,7 @@ equal_records p q sp sq e =
       key = ap (λ (r : RecordParts). r.0.1.1.1) same;
       size = size;
       sources = λ uid. same_uids (bytes_eq uid) (map (λ s. s.uid) p.sources) (map (λ s. s.uid) q.sources) (ap (λ (r : RecordParts). r.1.1.0) same);
+      bounds = bounds_alike p q sp sq (ap (λ (r : RecordParts). r.1.1.0) same) bounds;
       passing = λ r. passes_by p.filters r ∙ same_conditions (meets (λ c. at c r)) (map filter_condition p.filters) (map filter_condition q.filters) filters ∙ sym (passes_by q.filters r);
       windows = same_windows p.window q.window sp.window size (ap (λ (r : RecordParts). r.1.0.1.0) same) (ap (λ (r : RecordParts). r.1.0.1.1) same);
       aggregates = ap (λ (r : RecordParts). r.1.1.1.1.0) same;

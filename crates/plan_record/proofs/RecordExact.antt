@@ -67,7 +67,7 @@ plan_record_exact =
 
 -- ---- each plan's parts have a spelling
 
-byte : (n : ℕ) → n < 256 → u8_field.fits n ≡ true
+pub byte : (n : ℕ) → n < 256 → u8_field.fits n ≡ true
 unfolding u8_field
 byte n h = lt-ltb n 256 h
 
@@ -80,7 +80,7 @@ unfolding i64_field
 number (pos n) h = lt-ltb n (2 ^ 63) h.sfits
 number (negsuc n) h = lt-ltb n (2 ^ 63) h.sfits
 
-small : (z : ℤ) → pos 0 ≤ℤ z → z ≤ℤ pos (2 ^ 40) → i64_field.fits z ≡ true
+pub small : (z : ℤ) → pos 0 ≤ℤ z → z ≤ℤ pos (2 ^ 40) → i64_field.fits z ≡ true
 unfolding i64_field
 small (pos n) low high = lt-ltb n (2 ^ 63) (omega (arith, ints))
 small (negsuc n) low high = absurd (omega (arith, ints))

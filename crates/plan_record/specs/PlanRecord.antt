@@ -1,7 +1,8 @@
 -- The canonical record of a plan: plans with equal records count, keep and group alike.
 -- Partitions, the uids of filters and window, and the order of filters are not in it.
-use Rattle.std.specs.Prelude.{ℕ, zero, suc, ℤ, Bool, true, false, ◌==◌, List, [], map, fold}
+use Rattle.std.specs.Prelude.{ℕ, zero, suc, ℤ, Bool, true, false, bytes_eq, ◌==◌, List, [], ◌∷◌, ◌++◌, map, fold, Option, Some, None, option_and_then}
 use Rattle.std.specs.Int.{int_rem_euclid}
+use Rattle.std.specs.List.{find}
 use Rattle.std.specs.Ordering.{nat_cmp, int_cmp, ordering_then}
 use Rattle.std.specs.Cmp.Lexicographic.{slice_cmp}
 use Rattle.std.specs.BTreeSet.{insert_key}
@@ -12,6 +13,7 @@ use Rattle.byte_fields.specs.declared.fault.FieldFault.TheVariants.{Range}
 use Rattle.byte_fields.specs.Format.{Format, where_it, before, as_record}
 use Rattle.byte_fields.specs.Lists.{listed}
 use Rattle.byte_fields.specs.Fields.{u8_field, u16_field, i64_field}
+use Rattle.plan_model.specs.declared.spec.SourceSpec.{SourceSpec}
 use Rattle.plan_model.specs.declared.spec.FilterSpec.{FilterSpec}
 use Rattle.plan_model.specs.declared.spec.Aggregate.{Aggregate}
 use Rattle.plan_model.specs.declared.spec.Aggregate.TheVariants.{Count, Sum, Least, Greatest}
@@ -102,5 +104,27 @@ unfoldable pub record_field : Format RecordParts
 record_field =
     before head_field (λ _. before span_field (λ _. before (listed u8_field uid_field) (λ _. before (listed u8_field condition_field) (λ _. before (listed u8_field aggregate_field) (λ _. listed u8_field condition_field)))))
 
+-- the bound of the source with a uid; a uid that no source has has none
+abbrev pub bound_of : List SourceSpec → List ℕ → Option ℤ
+bound_of sources uid = option_and_then (λ s. s.bound) (find (λ s. bytes_eq s.uid uid) sources)
+
+-- those that are there, each with its place, where the first has the place i
+abbrev pub placed : ℕ → List (Option ℤ) → List (ℕ × ℤ)
+placed i [] = []
+placed i (None ∷ bounds) = placed (suc i) bounds
+placed i (Some b ∷ bounds) = (i, b) ∷ placed (suc i) bounds
+
+-- the bounds of the sources, each with the place of its uid among those of the record
+abbrev pub bounds_of : PlanData → List (ℕ × ℤ)
+bounds_of p = placed 0 (map (bound_of p.sources) (ascending (slice_cmp nat_cmp) (map (λ s. s.uid) p.sources)))
+
+unfoldable pub bound_field : Format (ℕ × ℤ)
+bound_field = before u8_field (λ _. i64_field)
+
+-- nothing where no source has a bound
+abbrev pub bounds_bytes : List (ℕ × ℤ) → List ℕ
+bounds_bytes [] = []
+bounds_bytes (b ∷ bounds) = (listed u8_field bound_field).spell (b ∷ bounds)
+
 unfoldable pub plan_record : PlanData → List ℕ
-plan_record p = record_field.spell (parts_of p)
+plan_record p = record_field.spell (parts_of p) ++ bounds_bytes (bounds_of p)

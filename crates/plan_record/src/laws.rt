@@ -9,7 +9,8 @@ pub fn ascending_is_in_order()
 {}
 
 /// Plans with equal records have the same columns, key groups, time and key, the same source uids, the
-/// same aggregates, windows and size of windows, and pass and keep the same.
+/// same bound or none under each of them, the same aggregates, windows and size of windows, and pass and
+/// keep the same.
 pub fn equal_records()
     ensures { EqualRecords }
 {}

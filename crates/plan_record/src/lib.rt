@@ -1,6 +1,7 @@
 //! The canonical record of a plan, by which a savepoint knows it again.
 #![tactic(auto)]
 
+mod bounds;
 pub mod laws;
 mod record;
 

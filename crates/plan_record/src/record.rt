@@ -12,6 +12,7 @@ ghost use Rattle.byte_fields.specs.Fields.{u8_field};
 ghost use Rattle.plan_model.specs.Uids.{uid_field};
 ghost use Rattle.plan_record.specs.PlanRecord.{cmp_code, filter_condition, having_condition, condition_field, condition_cmp, ascending, aggregate_code, aggregate_field, head_of, head_field, span_of, span_field};
 
+use crate::bounds::{bounds_at, put_bounds};
 use byte_fields::{put_i64, put_u8, put_u16};
 use lane_kernels::Cmp;
 use plan_model::{Aggregate, FilterSpec, Having, Plan, SourceSpec, WindowSpec, put_uid};
@@ -207,6 +208,8 @@ pub trait Recorded {
     /// 4. How many distinct filter conditions, and each, ascending: column, comparison, value.
     /// 5. How many aggregates, and each in plan order: kind and column, which is 0 for a count.
     /// 6. How many distinct having conditions, and each, ascending: aggregate, comparison, value.
+    /// 7. Where a source has a bound: how many have one, and for each, ascending by uid, the uid's place
+    ///    from 0 among those of part 3 in one byte, and the bound as an i64.
     ///
     /// Comparisons are 0 to 5 for `eq`, `ne`, `lt`, `le`, `gt`, `ge`, and kinds 0 to 3 for `count`, `sum`,
     /// `least`, `greatest`.
@@ -229,13 +232,15 @@ impl Recorded for Plan {
         let mut out = Vec::new(alloc);
         put_head(&mut out, self)?;
         put_span(&mut out, window)?;
-        put_uids(&mut out, &source_uids(alloc, self.sources())?)?;
+        let uids = source_uids(alloc, self.sources())?;
+        put_uids(&mut out, &uids)?;
         put_conditions(&mut out, &filter_conditions(alloc, self.filters())?)?;
         put_aggregates(&mut out, window.aggregates.as_slice())?;
         put_conditions(
             &mut out,
             &having_conditions(alloc, window.having.as_slice())?,
         )?;
+        put_bounds(&mut out, &bounds_at(alloc, self.sources(), &uids)?)?;
         Ok(out)
     }
 }

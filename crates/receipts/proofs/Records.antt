@@ -1,7 +1,7 @@
 -- Records that are counted partition by partition.
 use Rattle.std.proofs.Common.{◌≡◌, ℕ, ◌+◌, ◌-◌, ◌^◌, ◌≤◌, min, List, [], ◌∷◌, length, ap, ◌∙◌, take, arith, length-append}
 use Rattle.std.specs.List.{fold, zip}
-use Rattle.stream_model.specs.declared.entry.Entry.{Entry}
+use Rattle.stream_model.specs.declared.entry.Marked.{Marked}
 use Rattle.stream_model.specs.InputData.{records_in}
 use Rattle.stream_model.specs.Watermarks.{records_before_in, records_before}
 use Rattle.receipts.specs.Counts.{with_partition}
@@ -19,7 +19,7 @@ within r n = omega arith
 twice : (r n m k : ℕ) → k ≡ n + m → past (past r n) m ≡ past r k
 twice r n m k e = omega (arith, e)
 
-in_source : (ps : List (List Entry)) (ns : List ℕ) (r : ℕ) → r ≤ 2 ^ 64 - 1 → fold with_partition r (zip ps ns) ≡ past r (length (records_before_in ps ns))
+in_source : (ps : List (List Marked)) (ns : List ℕ) (r : ℕ) → r ≤ 2 ^ 64 - 1 → fold with_partition r (zip ps ns) ≡ past r (length (records_before_in ps ns))
 in_source [] ns r h = still r h
 in_source (p ∷ ps) [] r h = still r h
 in_source (p ∷ ps) (n ∷ ns) r h =
@@ -27,7 +27,7 @@ in_source (p ∷ ps) (n ∷ ns) r h =
     let rest = records_before_in ps ns in
     in_source ps ns (past r (length here)) (within r (length here)) ∙ twice r (length here) (length rest) _ (length-append here rest)
 
-in_sources : (ss : List (List (List Entry))) (cut : List (List ℕ)) (r : ℕ) → r ≤ 2 ^ 64 - 1 → fold (λ n x. fold with_partition n (zip x.0 x.1)) r (zip ss cut) ≡ past r (length (records_before ss cut))
+in_sources : (ss : List (List (List Marked))) (cut : List (List ℕ)) (r : ℕ) → r ≤ 2 ^ 64 - 1 → fold (λ n x. fold with_partition n (zip x.0 x.1)) r (zip ss cut) ≡ past r (length (records_before ss cut))
 in_sources [] cut r h = still r h
 in_sources (s ∷ ss) [] r h = still r h
 in_sources (s ∷ ss) (c ∷ cs) r h =
@@ -39,5 +39,5 @@ in_sources (s ∷ ss) (c ∷ cs) r h =
 from_none : (n : ℕ) → past 0 n ≡ min n (2 ^ 64 - 1)
 from_none n = omega arith
 
-pub all_counted : (ss : List (List (List Entry))) (cut : List (List ℕ)) → fold (λ n x. fold with_partition n (zip x.0 x.1)) 0 (zip ss cut) ≡ min (length (records_before ss cut)) (2 ^ 64 - 1)
+pub all_counted : (ss : List (List (List Marked))) (cut : List (List ℕ)) → fold (λ n x. fold with_partition n (zip x.0 x.1)) 0 (zip ss cut) ≡ min (length (records_before ss cut)) (2 ^ 64 - 1)
 all_counted ss cut = in_sources ss cut 0 (omega arith) ∙ from_none (length (records_before ss cut))

@@ -7,26 +7,26 @@ ghost use Rattle.stream_model.specs.Watermarks.{records_before};
 ghost use Rattle.receipts.specs.Counts as said;
 
 use plain_data::Items;
-use stream_model::{Entry, Partition, Source};
+use stream_model::{Entry, Marked, Partition, Source};
 
 /// The first entries of a partition.
-fn first(entries: &[Entry], count: u64) -> &[Entry]
+fn first(entries: &[Marked], count: u64) -> &[Marked]
     ensures { result.now ≡ take count entries.now }
 {
     &entries[..count.min(entries.len() as u64) as usize]
 }
 
-fn records_of(entry: &Entry) -> u64
-    ensures { result ≡ length (records_of_entry entry.now) }
+fn records_of(marked: &Marked) -> u64
+    ensures { result ≡ length (records_of_entry marked.now) }
 {
-    match entry {
+    match &marked.entry {
         Entry::Rows(batch) => batch.len() as u64,
         Entry::Watermark(_) => 0,
     }
 }
 
 /// So many records and those of entries, as far as they can be counted.
-fn with_entries(count: u64, entries: &[Entry]) -> u64
+fn with_entries(count: u64, entries: &[Marked]) -> u64
     ensures { result ≡ min (count + length (records_in entries.now)) (2 ^ 64 - 1) }
 {
     let mut total = count;

@@ -13,7 +13,7 @@ use legs::Cut;
 use plain_data::Items;
 use sha2::{Digest as Hash, Sha256};
 use std::alloc::{AllocError, Global};
-use stream_model::{Entry, Input, Partition, Source};
+use stream_model::{Input, Marked, Partition, Source};
 
 /// A SHA-256 digest.
 pub type Digest = [u8; 32];
@@ -26,7 +26,7 @@ pub struct Counted {
 }
 
 /// The digest of the lines of entries.
-fn digest_of(alloc: Global, entries: &[Entry]) -> Result<Digest, AllocError>
+fn digest_of(alloc: Global, entries: &[Marked]) -> Result<Digest, AllocError>
     ensures { IfOk result (λ digest. digest ≡ sha256 (lines_of entries.now)) }
 {
     let mut hasher = Sha256::new();
@@ -39,7 +39,7 @@ fn digest_of(alloc: Global, entries: &[Entry]) -> Result<Digest, AllocError>
     Ok(hasher.finalize())
 }
 
-fn partition_read(alloc: Global, entries: &[Entry], count: u64) -> Result<Counted, AllocError>
+fn partition_read(alloc: Global, entries: &[Marked], count: u64) -> Result<Counted, AllocError>
     requires { count ≤ length entries.now }
     ensures { IfOk result (λ read. read ≡ was_read_of (take count entries.now)) }
 {

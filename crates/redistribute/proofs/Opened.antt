@@ -8,7 +8,7 @@ use Rattle.std.proofs.lemmas.List.{length-map}
 use Rattle.plan_model.specs.Aggregates.{Aggregated}
 use Rattle.plan_model.specs.PlanData.{PlanData, IsPlan}
 use Rattle.plan_model.proofs.Facts.{pane_cmp_total}
-use Rattle.stream_model.specs.declared.entry.Entry.{Entry}
+use Rattle.stream_model.specs.declared.entry.Marked.{Marked}
 use Rattle.stream_model.specs.InputData.{InputData, BelongsTo, partition_at}
 use Rattle.stream_model.specs.Watermarks.{partition_watermark, records_before, IsCut, IsBefore}
 use Rattle.dataflow_model.specs.declared.role.Role.{Role}
@@ -49,13 +49,13 @@ use Rattle.redistribute.proofs.Owned.{owns}
 
 -- ---- what a cut leaves of a partition
 
-saved_in : (ps : List (List Entry)) (ns : List ℕ) (k : ℕ) → AllZip (λ p n. n ≤ length p) ps ns → k < length ps → slice_index_or (saved_source ps ns) k at_first ≡ saved_partition (get_or ps k []) (slice_index ns k)
+saved_in : (ps : List (List Marked)) (ns : List ℕ) (k : ℕ) → AllZip (λ p n. n ≤ length p) ps ns → k < length ps → slice_index_or (saved_source ps ns) k at_first ≡ saved_partition (get_or ps k []) (slice_index ns k)
 saved_in [] ns k cut l = absurd (omega (arith, l))
 saved_in (p ∷ ps) [] k cut l = absurd cut
 saved_in (p ∷ ps) (n ∷ ns) zero cut l = refl
 saved_in (p ∷ ps) (n ∷ ns) (suc k) cut l = saved_in ps ns k cut.1 (omega (arith, l))
 
-pub saved_there : (ss : List (List (List Entry))) (cs : List (List ℕ)) (x k : ℕ) → IsCut ss cs → x < length ss → k < length (get_or ss x [])
+pub saved_there : (ss : List (List (List Marked))) (cs : List (List ℕ)) (x k : ℕ) → IsCut ss cs → x < length ss → k < length (get_or ss x [])
     → slice_index_or (slice_index_or (saved_sources ss cs) x []) k at_first ≡ saved_partition (partition_at ss x k) (count_at cs x k)
 saved_there [] cs x k cut l m = absurd (omega (arith, l))
 saved_there (s ∷ ss) [] x k cut l m = absurd cut
@@ -109,7 +109,7 @@ route i cut saves until is_cut can save = record {
 }
 
 -- a leg without savepoints on its way
-pub no_saves : (sources : List (List (List Entry))) (begin : List (List ℕ)) (until : Until) → CanSaveAt sources begin [] until
+pub no_saves : (sources : List (List (List Marked))) (begin : List (List ℕ)) (until : Until) → CanSaveAt sources begin [] until
 no_saves sources begin until = record { few = omega arith; cuts = tt; rises = tt; before = λ end e. tt; asked = λ e. refl }
 
 -- ---- opening states

@@ -9,7 +9,7 @@ use plan_model::Plan;
 use savepoint_codec::{SavedGroup, SavedPartition};
 use std::alloc::{AllocError, Global};
 use std::marker::Model;
-use stream_model::{Entry, Input, Partition};
+use stream_model::{Input, Marked, Partition};
 
 /// What a leg of a job begins with: the number of the savepoint that it goes on from, how far each partition of each
 /// source was read, with its watermark there, and what stands in the windows, by key group. Sources stand in plan order.
@@ -124,7 +124,7 @@ impl Start {
 }
 
 /// A partition of which no entry was read.
-fn unread(entries: &[Entry]) -> SavedPartition
+fn unread(entries: &[Marked]) -> SavedPartition
     ensures { result ≡ saved_partition entries.now 0 }
 {
     let watermark = if entries.is_empty() {

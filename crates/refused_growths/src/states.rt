@@ -21,14 +21,9 @@ const WATERMARK: i64 = 14;
 
 /// The first entry of an input, if it has rows.
 fn first_rows(input: &Input) -> Option<&Batch> {
-    match input
-        .sources()
-        .first()?
-        .as_slice()
-        .first()?
-        .as_slice()
-        .first()?
-    {
+    let source = input.sources().first()?;
+    let partition = source.as_slice().first()?;
+    match &partition.as_slice().first()?.entry {
         Entry::Rows(batch) => Some(batch),
         Entry::Watermark(_) => None,
     }

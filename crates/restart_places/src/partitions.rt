@@ -8,7 +8,7 @@ use plan_model::Plan;
 use savepoint_codec::{Contents, SavedPartition};
 use std::alloc::{AllocError, Global};
 use std::fmt;
-use stream_model::{Entry, Input, Partition, greatest_watermark};
+use stream_model::{Entry, Input, Marked, Partition, greatest_watermark};
 use text_places::Findings;
 
 /// What is asked of a partition.
@@ -48,14 +48,14 @@ impl fmt::Display for Mark {
 }
 
 /// The first entries of a partition.
-fn first(entries: &[Entry], count: u64) -> &[Entry]
+fn first(entries: &[Marked], count: u64) -> &[Marked]
     ensures { result.now ≡ take count entries.now }
 {
     &entries[..count.min(entries.len() as u64) as usize]
 }
 
 /// The watermark of a partition after its first entries.
-fn watermark_at(entries: &[Entry], count: u64) -> i64
+fn watermark_at(entries: &[Marked], count: u64) -> i64
     ensures { result ≡ partition_watermark entries.now count }
 {
     if count == entries.len() as u64 {
@@ -71,7 +71,7 @@ fn check_offset(
     found: &mut Findings,
     named: Named<'_>,
     saved: SavedPartition,
-    entries: &[Entry],
+    entries: &[Marked],
 ) -> Result<(), AllocError> {
     let (offset, count) = (saved.offset, entries.len());
     if offset <= count as u64 {
@@ -88,7 +88,7 @@ fn watermark_sentence(
     alloc: Global,
     named: Named<'_>,
     saved: SavedPartition,
-    entries: &[Entry],
+    entries: &[Marked],
     mark: i64,
 ) -> Result<String, AllocError> {
     let offset = saved.offset;
@@ -115,7 +115,7 @@ fn check_watermark(
     found: &mut Findings,
     named: Named<'_>,
     saved: SavedPartition,
-    entries: &[Entry],
+    entries: &[Marked],
 ) -> Result<(), AllocError> {
     let mark = watermark_at(entries, saved.offset);
     if mark == saved.watermark {
@@ -130,7 +130,7 @@ fn check_partition(
     found: &mut Findings,
     named: Named<'_>,
     saved: SavedPartition,
-    entries: &[Entry],
+    entries: &[Marked],
     test: Test,
 ) -> Result<(), AllocError> {
     match test {
@@ -171,8 +171,8 @@ pub(crate) fn check_partitions(
     Ok(())
 }
 
-fn records_of(entry: &Entry) -> u64 {
-    match entry {
+fn records_of(marked: &Marked) -> u64 {
+    match &marked.entry {
         Entry::Rows(batch) => batch.len() as u64,
         Entry::Watermark(_) => 0,
     }

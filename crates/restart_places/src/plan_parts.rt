@@ -17,13 +17,15 @@ const NUMBERS: [&str; 6] = [
     "`offset` of the window, less whole slides,",
 ];
 
-/// A plan's record: its numbers, and the bytes of its lists of conditions of filters, of aggregates and of conditions of having.
+/// A plan's record: its numbers, the bytes of its lists of conditions of filters, of aggregates and of conditions of having, and
+/// those of the bounds of its sources, which are none where no source has one.
 #[derive(Clone, Copy)]
 struct Parts<'r> {
     numbers: [i64; 6],
     filters: &'r [u8],
     aggregates: &'r [u8],
     having: &'r [u8],
+    bounds: &'r [u8],
 }
 
 /// The numbers, and the bytes behind them.
@@ -79,12 +81,13 @@ fn parts_of(bytes: &[u8]) -> Result<Parts<'_>, FieldFault> {
     let rest = behind_texts(rest)?;
     let (filters, rest) = conditions_in(rest)?;
     let (aggregates, rest) = aggregates_in(rest)?;
-    let (having, _) = conditions_in(rest)?;
+    let (having, bounds) = conditions_in(rest)?;
     Ok(Parts {
         numbers,
         filters,
         aggregates,
         having,
+        bounds,
     })
 }
 
@@ -153,6 +156,13 @@ fn check_parts(
         "conditions of `having`",
         saved.having,
         planned.having,
+    )?;
+    check_list(
+        alloc,
+        found,
+        "bounds of `watermarks`",
+        saved.bounds,
+        planned.bounds,
     )
 }
 

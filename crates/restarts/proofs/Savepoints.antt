@@ -19,11 +19,10 @@ use Rattle.plan_model.specs.declared.spec.Pane.{Pane}
 use Rattle.plan_model.specs.Aggregates.{Aggregated, aggregate_of}
 use Rattle.plan_model.specs.PlanData.{PlanData}
 use Rattle.plan_model.specs.Rows.{pane_cmp, records_of}
-use Rattle.plan_model.specs.Windows.{IsTime, is_at, passes}
+use Rattle.plan_model.specs.Windows.{is_at, passes}
 use Rattle.aggregates.specs.Kinds.{kind_of}
-use Rattle.stream_model.specs.declared.entry.Entry.{Entry}
-use Rattle.stream_model.specs.declared.entry.Entry.TheVariants.{Rows, Watermark}
-use Rattle.stream_model.specs.InputData.{InputData, IsEntry}
+use Rattle.stream_model.specs.declared.entry.Marked.{Marked}
+use Rattle.stream_model.specs.InputData.{InputData, IsEntry, IsMark}
 use Rattle.stream_model.specs.Watermarks.{partition_watermark, records_before, watermark_of_entry}
 use Rattle.stream_model.specs.PlanRows.{passing}
 use Rattle.savepoint_codec.specs.Fields.{pane_field}
@@ -48,25 +47,27 @@ chosen : (b : Bool) (y z : ℤ) → is_i64 y ≡ true → is_i64 z ≡ true → 
 chosen true y z h k = h
 chosen false y z h k = k
 
-time_fits : (t : ℤ) → IsTime t → is_i64 t ≡ true
-time_fits t h = grind (arith, ints)
+mark_is_wide : (w : ℤ) → IsMark w → is_i64 w ≡ true
+mark_is_wide w h =
+    let low = h.0 in
+    let high = h.1 in
+    grind (arith, ints)
 
 module _ (columns time : ℕ) where
-  abbrev E : Entry → Type 0
+  abbrev E : Marked → Type 0
   E = IsEntry columns time
 
-  entry_fits : (e : Entry) → E e → is_i64 (watermark_of_entry e) ≡ true
-  entry_fits (Rows batch) h = refl
-  entry_fits (Watermark t) h = time_fits t h
+  entry_fits : (e : Marked) → E e → is_i64 (watermark_of_entry e) ≡ true
+  entry_fits e h = mark_is_wide e.mark h.1
 
-  fold_fits : (es : List Entry) (w : ℤ) → is_i64 w ≡ true → All E es → is_i64 (fold (λ w e. int_max w (watermark_of_entry e)) w es) ≡ true
+  fold_fits : (es : List Marked) (w : ℤ) → is_i64 w ≡ true → All E es → is_i64 (fold (λ w e. int_max w (watermark_of_entry e)) w es) ≡ true
   fold_fits [] w f h = f
   fold_fits (e ∷ es) w f h = fold_fits es (int_max w (watermark_of_entry e)) (chosen _ w (watermark_of_entry e) f (entry_fits e (All-head E e es h))) (All-tail E e es h)
 
-  mark_fits : (es : List Entry) (n : ℕ) → All E es → is_i64 (partition_watermark es n) ≡ true
+  mark_fits : (es : List Marked) (n : ℕ) → All E es → is_i64 (partition_watermark es n) ≡ true
   mark_fits es n h = chosen _ highest (fold (λ w e. int_max w (watermark_of_entry e)) lowest (take n es)) refl (fold_fits (take n es) lowest refl (All-take E n es h))
 
-  typed_source : (ps : List (List Entry)) (ns : List ℕ) → All (All E) ps → All (λ n. n < 2 ^ 64) ns → AreTyped (saved_source ps ns)
+  typed_source : (ps : List (List Marked)) (ns : List ℕ) → All (All E) ps → All (λ n. n < 2 ^ 64) ns → AreTyped (saved_source ps ns)
   typed_source [] ns h k = All-nil IsTypedPartition
   typed_source (p ∷ ps) [] h k = All-nil IsTypedPartition
   typed_source (p ∷ ps) (n ∷ ns) h k =
@@ -74,7 +75,7 @@ module _ (columns time : ℕ) where
       (record { offset = All-head (λ m. m < 2 ^ 64) n ns k; watermark = fits_long (partition_watermark p n) (mark_fits p n (All-head (All E) p ps h)) })
       (typed_source ps ns (All-tail (All E) p ps h) (All-tail (λ m. m < 2 ^ 64) n ns k))
 
-  typed : (ss : List (List (List Entry))) (cs : List (List ℕ)) → All (All (All E)) ss → All (All (λ n. n < 2 ^ 64)) cs → All AreTyped (saved_sources ss cs)
+  typed : (ss : List (List (List Marked))) (cs : List (List ℕ)) → All (All (All E)) ss → All (All (λ n. n < 2 ^ 64)) cs → All AreTyped (saved_sources ss cs)
   typed [] cs h k = All-nil AreTyped
   typed (s ∷ ss) [] h k = All-nil AreTyped
   typed (s ∷ ss) (c ∷ cs) h k =

@@ -49,7 +49,7 @@ abbrev keys : PlanData → List (List ℕ)
 keys p = map (λ s. s.uid) p.sources
 
 abbrev no_source : SourceSpec
-no_source = record { uid = []; partitions = 0 }
+no_source = record { uid = []; partitions = 0; bound = None }
 
 -- the partitions under the uid of a source are those of the source
 partitions_at : (p : PlanData) (ss : List (List SavedPartition)) → are_distinct (uids p) ≡ true → (k : ℕ) → k < length p.sources → partitions_under p ss (get_or (keys p) k []) ≡ get_or ss k []

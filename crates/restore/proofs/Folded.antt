@@ -5,7 +5,7 @@ use Rattle.std.specs.List.{fold, zip}
 use Rattle.std.proofs.lemmas.Int.{ints}
 use Rattle.plain_data.specs.Times.{highest}
 use Rattle.savepoint_codec.specs.declared.savepoint.SavedPartition.{SavedPartition}
-use Rattle.stream_model.specs.declared.entry.Entry.{Entry}
+use Rattle.stream_model.specs.declared.entry.Marked.{Marked}
 use Rattle.stream_model.specs.InputData.{records_in}
 use Rattle.stream_model.specs.Watermarks.{partition_watermark, source_watermark, merged_watermark, records_before_in, records_before}
 use Rattle.restore.specs.declared.partitions.Reached.{Reached}
@@ -29,7 +29,7 @@ below a b h = grind (arith, ints)
 top : highest ≤ℤ highest
 top = grind (arith, ints)
 
-merged_below : (ss : List (List (List Entry))) (cut : List (List ℕ)) → merged_watermark ss cut ≤ℤ highest
+merged_below : (ss : List (List (List Marked))) (cut : List (List ℕ)) → merged_watermark ss cut ≤ℤ highest
 merged_below [] cut = top
 merged_below (s ∷ ss) [] = top
 merged_below (s ∷ ss) (c ∷ cs) = below (source_watermark s c) (merged_watermark ss cs) (merged_below ss cs)
@@ -64,7 +64,7 @@ on r w n h = record { watermark = less r.watermark w highest h.watermark; record
 twice : (r : Reached) (w v : ℤ) (n m k : ℕ) → k ≡ n + m → past (past r w n) v m ≡ past r (int_min w v) k
 twice r w v n m k e = λ i. record { watermark = regroup r.watermark w v i; records = (capped r.records n m ∙ ap (λ z. min (r.records + z) (2 ^ 64 - 1)) (sym e)) i }
 
-in_source : (qs : List SavedPartition) (ps : List (List Entry)) (r : Reached) → IsReached r
+in_source : (qs : List SavedPartition) (ps : List (List Marked)) (r : Reached) → IsReached r
     → fold with_partition r (zip qs ps) ≡ past r (source_watermark ps (map (λ q. q.offset) qs)) (length (records_before_in ps (map (λ q. q.offset) qs)))
 in_source [] [] r h = still r h
 in_source [] (p ∷ ps) r h = still r h
@@ -76,7 +76,7 @@ in_source (q ∷ qs) (p ∷ ps) r h =
     let rest = records_before_in ps (map (λ x. x.offset) qs) in
     in_source qs ps (past r w (length here)) (on r w (length here) h) ∙ twice r w v (length here) (length rest) _ (length-append here rest)
 
-in_sources : (qss : List (List SavedPartition)) (ss : List (List (List Entry))) (r : Reached) → IsReached r
+in_sources : (qss : List (List SavedPartition)) (ss : List (List (List Marked))) (r : Reached) → IsReached r
     → fold (λ r x. fold with_partition r (zip x.0 x.1)) r (zip qss ss) ≡ past r (merged_watermark ss (cut_of qss)) (length (records_before ss (cut_of qss)))
 in_sources [] [] r h = still r h
 in_sources [] (s ∷ ss) r h = still r h
@@ -96,7 +96,7 @@ none = record { watermark = highest; records = 0 }
 none_reached : IsReached none
 none_reached = record { watermark = top; records = omega arith }
 
-pub all_reached : (qss : List (List SavedPartition)) (ss : List (List (List Entry))) (r : Reached) → r ≡ fold (λ r x. fold with_partition r (zip x.0 x.1)) none (zip qss ss)
+pub all_reached : (qss : List (List SavedPartition)) (ss : List (List (List Marked))) (r : Reached) → r ≡ fold (λ r x. fold with_partition r (zip x.0 x.1)) none (zip qss ss)
     → (r.watermark ≡ merged_watermark ss (cut_of qss)) × (r.records ≡ min (length (records_before ss (cut_of qss))) (2 ^ 64 - 1))
 all_reached qss ss r e =
     let all = e ∙ in_sources qss ss none none_reached in

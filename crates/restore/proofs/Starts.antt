@@ -22,7 +22,7 @@ use Rattle.savepoint_codec.specs.EntriesData.{EntryData}
 use Rattle.savepoint_codec.specs.declared.savepoint.Contents.{Contents}
 use Rattle.savepoint_codec.specs.declared.savepoint.SavedGroup.{SavedGroup}
 use Rattle.savepoint_codec.specs.declared.savepoint.SavedPartition.{SavedPartition}
-use Rattle.stream_model.specs.declared.entry.Entry.{Entry}
+use Rattle.stream_model.specs.declared.entry.Marked.{Marked}
 use Rattle.stream_model.specs.InputData.{InputData, BelongsTo}
 use Rattle.stream_model.specs.Watermarks.{IsCut, partition_watermark, merged_watermark, records_before}
 use Rattle.redistribute.specs.Begins.{IsStartIn, IsOpenEntry, AreOpenGroups}
@@ -38,13 +38,13 @@ use Rattle.restore.proofs.Windows.{starts_within}
 
 -- ---- how far each partition was read
 
-fits_in : (ps : List SavedPartition) (es : List (List Entry)) → length ps ≡ length es → list_all is_within (zip ps es) ≡ true → AllZip (λ e n. n ≤ length e) es (map (λ p. p.offset) ps)
+fits_in : (ps : List SavedPartition) (es : List (List Marked)) → length ps ≡ length es → list_all is_within (zip ps es) ≡ true → AllZip (λ e n. n ≤ length e) es (map (λ p. p.offset) ps)
 fits_in [] [] l h = tt
 fits_in [] (e ∷ es) l h = absurd (omega (arith, l))
 fits_in (p ∷ ps) [] l h = absurd (omega (arith, l))
 fits_in (p ∷ ps) (e ∷ es) l h = let parts = and_parts (is_within (p, e)) (list_all is_within (zip ps es)) h in (leb-true p.offset (length e) parts.0, fits_in ps es (omega (arith, l)) parts.1)
 
-pub cut_fits : (saved : List (List SavedPartition)) (sources : List (List (List Entry))) → map (λ ps. length ps) saved ≡ map (λ es. length es) sources → every_partition is_within saved sources ≡ true → IsCut sources (cut_of saved)
+pub cut_fits : (saved : List (List SavedPartition)) (sources : List (List (List Marked))) → map (λ ps. length ps) saved ≡ map (λ es. length es) sources → every_partition is_within saved sources ≡ true → IsCut sources (cut_of saved)
 cut_fits [] [] l h = tt
 cut_fits [] (s ∷ ss) l h = absurd cc
 cut_fits (s ∷ ss) [] l h = absurd cc
@@ -54,7 +54,7 @@ cut_fits (ps ∷ saved) (es ∷ sources) l h =
     let rest : map (λ xs. length xs) saved ≡ map (λ xs. length xs) sources = ap (drop 1) l in
     (fits_in ps es first parts.0, cut_fits saved sources rest parts.1)
 
-marks_in : (ps : List SavedPartition) (es : List (List Entry)) → length ps ≡ length es → list_all is_watermark (zip ps es) ≡ true → ps ≡ saved_source es (map (λ p. p.offset) ps)
+marks_in : (ps : List SavedPartition) (es : List (List Marked)) → length ps ≡ length es → list_all is_watermark (zip ps es) ≡ true → ps ≡ saved_source es (map (λ p. p.offset) ps)
 marks_in [] [] l h = refl
 marks_in [] (e ∷ es) l h = absurd (omega (arith, l))
 marks_in (p ∷ ps) [] l h = absurd (omega (arith, l))
@@ -64,7 +64,7 @@ marks_in (p ∷ ps) (e ∷ es) l h =
     let rest = marks_in ps es (omega (arith, l)) parts.1 in
     λ j. record { offset = p.offset; watermark = mark j } ∷ rest j
 
-pub marks_fit : (saved : List (List SavedPartition)) (sources : List (List (List Entry))) → map (λ ps. length ps) saved ≡ map (λ es. length es) sources → every_partition is_watermark saved sources ≡ true → saved ≡ saved_sources sources (cut_of saved)
+pub marks_fit : (saved : List (List SavedPartition)) (sources : List (List (List Marked))) → map (λ ps. length ps) saved ≡ map (λ es. length es) sources → every_partition is_watermark saved sources ≡ true → saved ≡ saved_sources sources (cut_of saved)
 marks_fit [] [] l h = refl
 marks_fit [] (s ∷ ss) l h = absurd cc
 marks_fit (s ∷ ss) [] l h = absurd cc

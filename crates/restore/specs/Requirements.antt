@@ -18,7 +18,7 @@ use Rattle.savepoint_codec.specs.EntriesData.{EntryData}
 use Rattle.savepoint_codec.specs.declared.savepoint.SavedPartition.{SavedPartition}
 use Rattle.savepoint_codec.specs.declared.savepoint.SavedGroup.{SavedGroup}
 use Rattle.savepoint_codec.specs.declared.savepoint.Contents.{Contents}
-use Rattle.stream_model.specs.declared.entry.Entry.{Entry}
+use Rattle.stream_model.specs.declared.entry.Marked.{Marked}
 use Rattle.stream_model.specs.InputData.{InputData}
 use Rattle.stream_model.specs.Watermarks.{partition_watermark, merged_watermark, records_before}
 use Rattle.restore.specs.declared.fault.RestoreFault.{RestoreFault}
@@ -50,15 +50,15 @@ unfoldable pub has_partitions : PlanData → Contents → Bool
 has_partitions plan s = list_all (λ source. length (saved_under source.uid s.sources) == source.partitions) plan.sources
 
 -- what is saved of each partition passes a test with the entries of the partition
-abbrev pub every_partition : (SavedPartition × List Entry → Bool) → List (List SavedPartition) → List (List (List Entry)) → Bool
+abbrev pub every_partition : (SavedPartition × List Marked → Bool) → List (List SavedPartition) → List (List (List Marked)) → Bool
 every_partition test saved sources = list_all (λ x. list_all test (zip x.0 x.1)) (zip saved sources)
 
 -- no more entries were read than there are
-abbrev pub is_within : SavedPartition × List Entry → Bool
+abbrev pub is_within : SavedPartition × List Marked → Bool
 is_within x = nat_le x.0.offset (length x.1)
 
 -- the watermark is the one that the entries have brought that were read
-abbrev pub is_watermark : SavedPartition × List Entry → Bool
+abbrev pub is_watermark : SavedPartition × List Marked → Bool
 is_watermark x = int_eq x.0.watermark (partition_watermark x.1 x.0.offset)
 
 unfoldable pub has_offsets : PlanData → InputData → Contents → Bool

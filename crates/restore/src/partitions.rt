@@ -10,17 +10,17 @@ ghost use Rattle.restore.specs.Requirements as required;
 
 use plain_data::Items;
 use savepoint_codec::SavedPartition;
-use stream_model::{Entry, Partition, Source, greatest_watermark};
+use stream_model::{Entry, Marked, Partition, Source, greatest_watermark};
 
 /// The first entries of a partition.
-fn first(entries: &[Entry], count: u64) -> &[Entry]
+fn first(entries: &[Marked], count: u64) -> &[Marked]
     ensures { result.now ≡ take count entries.now }
 {
     &entries[..count.min(entries.len() as u64) as usize]
 }
 
 /// The watermark of a partition after its first entries.
-fn watermark_at(entries: &[Entry], count: u64) -> i64
+fn watermark_at(entries: &[Marked], count: u64) -> i64
     ensures { result ≡ partition_watermark entries.now count }
 {
     if count == entries.len() as u64 {
@@ -47,7 +47,7 @@ pub fn have_offsets(saved: &[Items<SavedPartition>], sources: &[Source]) -> bool
     ))
 }
 
-fn is_watermark(partition: &SavedPartition, entries: &[Entry]) -> bool
+fn is_watermark(partition: &SavedPartition, entries: &[Marked]) -> bool
     ensures { result ≡ required.is_watermark (partition.now, entries.now) }
 {
     partition.watermark == watermark_at(entries, partition.offset)
@@ -72,17 +72,17 @@ pub fn have_watermarks(saved: &[Items<SavedPartition>], sources: &[Source]) -> b
     ))
 }
 
-fn records_of(entry: &Entry) -> u64
-    ensures { result ≡ length (records_of_entry entry.now) }
+fn records_of(marked: &Marked) -> u64
+    ensures { result ≡ length (records_of_entry marked.now) }
 {
-    match entry {
+    match &marked.entry {
         Entry::Rows(batch) => batch.len() as u64,
         Entry::Watermark(_) => 0,
     }
 }
 
 /// So many records and those of entries, as far as they can be counted.
-fn with_entries(count: u64, entries: &[Entry]) -> u64
+fn with_entries(count: u64, entries: &[Marked]) -> u64
     ensures { result ≡ min (count + length (records_in entries.now)) (2 ^ 64 - 1) }
 {
     let mut total = count;
@@ -100,7 +100,7 @@ pub struct Reached {
 }
 
 /// How far partitions were read, with one more.
-fn with_partition(reached: Reached, saved: &SavedPartition, entries: &[Entry]) -> Reached
+fn with_partition(reached: Reached, saved: &SavedPartition, entries: &[Marked]) -> Reached
     ensures { result ≡ said.with_partition reached (saved.now, entries.now) }
 {
     let watermark = watermark_at(entries, saved.offset);

@@ -8,7 +8,7 @@ use Rattle.serde_json.specs.Read.{read}
 use Rattle.json_parts.specs.Parts.{json_of}
 use Rattle.plan_model.specs.declared.limits.TheConstants.{MOST_RECORDS}
 use Rattle.plan_model.specs.PlanData.{PlanData}
-use Rattle.stream_model.specs.declared.entry.Entry.{Entry}
+use Rattle.stream_model.specs.declared.entry.Marked.{Marked}
 use Rattle.input_texts.specs.declared.fault.InputFault.TheVariants.{NotJson, Member, TooMany}
 use Rattle.stream_model.specs.InputData.{input_data_of, all_records}
 use Rattle.input_texts.specs.InputText.{InputText, input_text}
@@ -20,26 +20,26 @@ use Rattle.input_texts.specs.Document.{said_by, said_in}
 use Rattle.std.specs.Option.{ok_or, option_map_or}
 use Rattle.stream_input.specs.Fit.{AreOf}
 
-pub late_said : (plan : PlanData) (sources : List (List (List Entry))) (text : InputText) (place : ℕ × (ℕ × ℕ)) → AreOf plan sources text → first_late plan.window.time sources ≡ Some place
+pub late_said : (plan : PlanData) (sources : List (List (List Marked))) (text : InputText) (place : ℕ × (ℕ × ℕ)) → AreOf plan sources text → first_late plan.window.time sources ≡ Some place
     → input_or_fault plan text ≡ Err (late_fault place)
 unfolding requirements late_record
-late_said plan sources text place of h = let late = rw of.1 at h in rw (of.0.named, of.0.counted, of.0.wide, of.0.whole, of.0.sized, of.0.timely, late) refl
+late_said plan sources text place of h = let late = rw of.1 at h in rw (of.0.named, of.0.counted, of.0.wide, of.0.whole, of.0.sized, of.0.timely, of.0.kinds, late) refl
 
-pub many_said : (plan : PlanData) (sources : List (List (List Entry))) (text : InputText) → AreOf plan sources text → first_late plan.window.time sources ≡ None
+pub many_said : (plan : PlanData) (sources : List (List (List Marked))) (text : InputText) → AreOf plan sources text → first_late plan.window.time sources ≡ None
     → nat_le (length (all_records sources)) MOST_RECORDS ≡ false → input_or_fault plan text ≡ Err TooMany
 unfolding requirements late_record is_few
 many_said plan sources text of none h =
     let late = rw of.1 at none in
     let many = rw of.1 at h in
-    rw (of.0.named, of.0.counted, of.0.wide, of.0.whole, of.0.sized, of.0.timely, late, many) refl
+    rw (of.0.named, of.0.counted, of.0.wide, of.0.whole, of.0.sized, of.0.timely, of.0.kinds, late, many) refl
 
-pub none_said : (plan : PlanData) (sources : List (List (List Entry))) (text : InputText) → AreOf plan sources text → first_late plan.window.time sources ≡ None
+pub none_said : (plan : PlanData) (sources : List (List (List Marked))) (text : InputText) → AreOf plan sources text → first_late plan.window.time sources ≡ None
     → nat_le (length (all_records sources)) MOST_RECORDS ≡ true → input_or_fault plan text ≡ Ok (input_data_of plan.columns plan.window.time sources)
 unfolding requirements late_record is_few
 none_said plan sources text of none h =
     let late = rw of.1 at none in
     let few = rw of.1 at h in
-    rw (of.1, of.0.named, of.0.counted, of.0.wide, of.0.whole, of.0.sized, of.0.timely, late, few) refl
+    rw (of.1, of.0.named, of.0.counted, of.0.wide, of.0.whole, of.0.sized, of.0.timely, of.0.kinds, late, few) refl
 
 pub json_of_text : (bytes : List ℕ) → IsUtf8 bytes → json_of bytes ≡ read bytes
 unfolding json_of

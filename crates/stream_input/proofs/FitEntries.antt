@@ -9,7 +9,7 @@ use Rattle.json_tokens.specs.Rows.{row_text}
 use Rattle.plain_data.specs.Record.{Record}
 use Rattle.stream_model.specs.declared.entry.Entry.{Entry}
 use Rattle.stream_model.specs.declared.entry.Entry.TheVariants.{Watermark}
-use Rattle.input_texts.specs.declared.text.EntryText.TheVariants.{Rows as rows, Watermark as watermark}
+use Rattle.input_texts.specs.declared.text.EntryText.TheVariants.{Rows as rows}
 use Rattle.input_texts.specs.InputText.{rows_text, entry_text}
 use Rattle.input_texts.specs.Said.{record_of}
 use Rattle.plan_model.specs.Windows.{is_time}

@@ -3,5 +3,8 @@ mod Sound
 mod Refines
 mod FitRows
 mod FitEntries
+mod Asked
+mod Marked
+mod OwnEntries
 mod FitSources
 mod FitAnswers

@@ -7,11 +7,9 @@ use Rattle.serde_json.specs.Data.{Data}
 use Rattle.serde_json.specs.Find.{as_array}
 use Rattle.json_parts.specs.Parts.{whole, list_of, each, list_text, cell_text}
 use Rattle.json_tokens.specs.Rows.{of_width, row_text}
-use Rattle.stream_model.specs.declared.entry.Entry.{Entry}
-use Rattle.input_texts.specs.declared.text.EntryText.{EntryText}
 use Rattle.input_texts.specs.InputText.{entry_text}
-use Rattle.input_texts.specs.Said.{number_of, record_of, entry_of}
-use Rattle.stream_input.specs.Fit.{is_fit, if_fit, fit_entry}
+use Rattle.input_texts.specs.Said.{number_of, record_of, entry_of, marked_of}
+use Rattle.stream_input.specs.Fit.{is_fit, if_fit, fit_entry, is_own, if_own, own_entry}
 use Rattle.input_texts.proofs.Facts.{and_then_parts, same_some}
 
 -- where `strict` says x, `wide` says what x is built of, and that is good
@@ -59,13 +57,20 @@ row_refines width d row e =
     let long : length cells.0 ≡ width = sym (length-map cells.0 number_of) ∙ ap (length {A = ℤ}) (sym cells.2) ∙ eqb-true (length read.0) width wide.1 in
     (cells.0, cells.1, sym wide.0 ∙ cells.2, rw (eq-eqb (length cells.0) width long, cells.3) refl)
 
-if_fit_parts : (columns time : ℕ) (e : EntryText) (x : Entry) (b : Bool) → is_fit columns time e ≡ b → cond b (Some (entry_of columns e)) None ≡ Some x → (x ≡ entry_of columns e) × (is_fit columns time e ≡ true)
-if_fit_parts columns time e x true is h = (sym (same_some (entry_of columns e) x h), is)
-if_fit_parts columns time e x false is h = absurd (cc)
+if_parts : {X : Type 0} (y x : X) (t b : Bool) → t ≡ b → cond b (Some y) None ≡ Some x → (x ≡ y) × (t ≡ true)
+if_parts y x t true is h = (sym (same_some y x h), is)
+if_parts y x t false is h = absurd (cc)
 
 pub entry_refines : (columns time : ℕ) → Refines (fit_entry columns time) entry_text (is_fit columns time) (entry_of columns)
 unfolding fit_entry
 entry_refines columns time d x e =
     let read = and_then_parts (if_fit columns time) (entry_text d) x e in
-    let fit = if_fit_parts columns time read.0 x (is_fit columns time read.0) refl read.2 in
+    let fit = if_parts (entry_of columns read.0) x (is_fit columns time read.0) (is_fit columns time read.0) refl read.2 in
     (read.0, read.1, fit.0, fit.1)
+
+pub own_refines : (bound : Option ℤ) (columns time : ℕ) → Refines (own_entry bound columns time) entry_text (is_own bound columns time) (marked_of bound columns time)
+unfolding own_entry
+own_refines bound columns time d x e =
+    let read = and_then_parts (if_own bound columns time) (entry_text d) x e in
+    let own = if_parts (marked_of bound columns time read.0) x (is_own bound columns time read.0) (is_own bound columns time read.0) refl read.2 in
+    (read.0, read.1, own.0, own.1)

@@ -1,53 +1,51 @@
 -- What is read of a text that meets every requirement is an input of the plan.
-use Rattle.std.proofs.Common.{option_map, ◌≡◌, ℕ, ◌≤◌, true, ◌==◌, map, length, get_or, List, [], ◌∷◌, Option, Some, None, Result, Ok, Err, IsOk, subst, refl, ◌∙◌, arith}
+use Rattle.std.proofs.Common.{option_map, ◌≡◌, ℕ, ℤ, ◌≤◌, true, ◌==◌, map, length, get_or, List, [], ◌∷◌, Option, Some, None, Result, Ok, Err, IsOk, subst, refl, ◌∙◌, arith}
 use Rattle.std.proofs.lemmas.Bool.{and_parts, eqb-true, leb-true}
 use Rattle.std.proofs.lemmas.List.{length-map}
 use Rattle.std.proofs.lemmas.List.Elements.{All-map}
 use Rattle.std.proofs.lemmas.List.Sums.{AllPass-from_list_all}
-use Rattle.std.specs.List.{All, list_all}
+use Rattle.std.specs.List.{All, AllZip, list_all}
 use Rattle.std.specs.Option.{option_map_or, option_or}
-use Rattle.plain_data.specs.Record.{at}
 use Rattle.plan_model.specs.declared.limits.TheConstants.{MOST_SOURCES, MOST_PARTITIONS, MOST_RECORDS}
 use Rattle.plan_model.specs.declared.spec.SourceSpec.{SourceSpec}
-use Rattle.plan_model.specs.PlanData.{PlanData, IsPlan}
-use Rattle.plan_model.specs.Windows.{is_time}
-use Rattle.stream_model.specs.declared.entry.Entry.{Entry}
+use Rattle.plan_model.specs.PlanData.{PlanData, IsPlan, IsBound}
+use Rattle.stream_model.specs.declared.entry.Marked.{Marked}
 use Rattle.input_texts.specs.declared.fault.InputFault.{InputFault}
 use Rattle.answers.specs.Answer.{first_unmet}
 use Rattle.answers.proofs.Facts.{met_first, no_fault}
-use Rattle.stream_model.specs.InputData.{InputData, IsTime, IsEntry, IsInput, BelongsTo, all_records}
+use Rattle.stream_model.specs.InputData.{InputData, IsEntry, IsInput, BelongsTo, all_records}
 use Rattle.input_texts.specs.declared.text.EntryText.{EntryText}
-use Rattle.input_texts.specs.declared.text.EntryText.TheVariants.{Rows as rows, Watermark as watermark}
 use Rattle.input_texts.specs.InputText.{InputText}
-use Rattle.input_texts.specs.Said.{record_of, entry_of, partitions_under, sources_of, input_of}
-use Rattle.input_texts.specs.Requirements.{is_timely, requirements, has_sources, has_partitions, has_width, has_numbers, has_rows, has_times, late_record, is_few}
+use Rattle.input_texts.specs.Said.{marked_of, partitions_under, sources_of, input_of}
+use Rattle.input_texts.specs.Requirements.{is_timely, requirements, has_sources, has_partitions, has_width, has_numbers, has_rows, has_times, has_kinds, late_record, is_few}
 use Rattle.stream_model.specs.Watermarks.{IsOrderly}
 use Rattle.stream_model.specs.Late.{first_late}
 use Rattle.input_texts.specs.Fault.{late_fault}
 use Rattle.input_texts.specs.Answer.{if_ok, text_of_bytes, input_or_fault, input_of_bytes}
 use Rattle.stream_model.proofs.Facts.{orderly}
+use Rattle.stream_model.specs.Marks.{IsMarked}
+use Rattle.stream_input.proofs.Marked.{marked_sound}
 use Rattle.stream_input.proofs.Tables.{passes_under}
 
-entry_sound : (columns time : ℕ) (e : EntryText) → is_timely time e ≡ true → IsEntry columns time (entry_of columns e)
-entry_sound columns time (rows found) timely =
-    (refl, All-map (λ r. IsTime (at time r)) record_of found (λ k d h. AllPass-from_list_all (λ row. is_time (at time (record_of row))) found timely k d h))
-entry_sound columns time (watermark t) timely = timely
+entries_sound : (bound : Option ℤ) (columns time : ℕ) (es : List EntryText) → IsBound bound → list_all (is_timely time) es ≡ true → All (IsEntry columns time) (map (marked_of bound columns time) es)
+entries_sound bound columns time es bounded timely =
+    All-map (IsEntry columns time) (marked_of bound columns time) es (λ k d h. marked_sound bound columns time (get_or es k d) bounded (AllPass-from_list_all (is_timely time) es timely k d h))
 
-entries_sound : (columns time : ℕ) (es : List EntryText) → list_all (is_timely time) es ≡ true → All (IsEntry columns time) (map (entry_of columns) es)
-entries_sound columns time es timely =
-    All-map (IsEntry columns time) (entry_of columns) es (λ k d h. entry_sound columns time (get_or es k d) (AllPass-from_list_all (is_timely time) es timely k d h))
+partitions_sound : (bound : Option ℤ) (columns time : ℕ) (ps : List (List EntryText)) → IsBound bound → list_all (list_all (is_timely time)) ps ≡ true → All (λ es. All (IsEntry columns time) es) (map (map (marked_of bound columns time)) ps)
+partitions_sound bound columns time ps bounded timely =
+    All-map (λ (es : List Marked). All (IsEntry columns time) es) (map (marked_of bound columns time)) ps
+    (λ k d h. entries_sound bound columns time (get_or ps k d) bounded (AllPass-from_list_all (list_all (is_timely time)) ps timely k d h))
 
-partitions_sound : (columns time : ℕ) (ps : List (List EntryText)) → list_all (list_all (is_timely time)) ps ≡ true → All (λ es. All (IsEntry columns time) es) (map (map (entry_of columns)) ps)
-partitions_sound columns time ps timely =
-    All-map (λ (es : List Entry). All (IsEntry columns time) es) (map (entry_of columns)) ps
-    (λ k d h. entries_sound columns time (get_or ps k d) (AllPass-from_list_all (list_all (is_timely time)) ps timely k d h))
+-- the partitions of a source
+abbrev marked_under : PlanData → InputText → SourceSpec → List (List Marked)
+marked_under plan text s = map (map (marked_of s.bound plan.columns plan.window.time)) (partitions_under s.uid text)
 
-pub sources_sound : (plan : PlanData) (text : InputText) → has_times plan text ≡ true
+pub sources_sound : (plan : PlanData) (text : InputText) → IsPlan plan → has_times plan text ≡ true
     → All (λ ps. All (λ es. All (IsEntry plan.columns plan.window.time) es) ps) (sources_of plan text)
 unfolding has_times
-sources_sound plan text timely =
-    All-map (λ (ps : List (List Entry)). All (λ es. All (IsEntry plan.columns plan.window.time) es) ps) (λ (s : SourceSpec). map (map (entry_of plan.columns)) (partitions_under s.uid text)) plan.sources
-    (λ k d h. partitions_sound plan.columns plan.window.time _ (passes_under (is_timely plan.window.time) _ text timely))
+sources_sound plan text sound timely =
+    All-map (λ (ps : List (List Marked)). All (λ es. All (IsEntry plan.columns plan.window.time) es) ps) (marked_under plan text) plan.sources
+    (λ k d h. partitions_sound (get_or plan.sources k d).bound plan.columns plan.window.time _ (sound.bounded k d h) (passes_under (is_timely plan.window.time) _ text timely))
 
 few_from : (plan : PlanData) (text : InputText) → is_few plan text ≡ true → length (all_records (sources_of plan text)) ≤ MOST_RECORDS
 unfolding is_few
@@ -56,23 +54,34 @@ few_from plan text h = leb-true (length (all_records (sources_of plan text))) MO
 pub partitions_few : (plan : PlanData) (text : InputText) → IsPlan plan → has_partitions plan text ≡ true → All (λ ps. length ps ≤ MOST_PARTITIONS) (sources_of plan text)
 unfolding has_partitions
 partitions_few plan text p met =
-    All-map (λ (ps : List (List Entry)). length ps ≤ MOST_PARTITIONS) (λ (s : SourceSpec). map (map (entry_of plan.columns)) (partitions_under s.uid text)) plan.sources
+    All-map (λ (ps : List (List Marked)). length ps ≤ MOST_PARTITIONS) (marked_under plan text) plan.sources
     (λ k d h.
     let counted = eqb-true _ _ (AllPass-from_list_all (λ (s : SourceSpec). length (partitions_under s.uid text) == s.partitions) plan.sources met k d h) in
     let few = p.partitions_few k d h in
-    let long = length-map (partitions_under (get_or plan.sources k d).uid text) (map (entry_of plan.columns)) in
+    let long = length-map (partitions_under (get_or plan.sources k d).uid text) (map (marked_of (get_or plan.sources k d).bound plan.columns plan.window.time)) in
     omega arith)
 
 pub sources_few : (plan : PlanData) (text : InputText) → IsPlan plan → length (sources_of plan text) ≤ MOST_SOURCES
-sources_few plan text p = rw (length-map plan.sources (λ (s : SourceSpec). map (map (entry_of plan.columns)) (partitions_under s.uid text))) p.sources_few
+sources_few plan text p = rw (length-map plan.sources (marked_under plan text)) p.sources_few
 
-partitions_are : (columns : ℕ) (text : InputText) (specs : List SourceSpec) → list_all (λ s. length (partitions_under s.uid text) == s.partitions) specs ≡ true
-    → map (λ ps. length ps) (map (λ s. map (map (entry_of columns)) (partitions_under s.uid text)) specs) ≡ map (λ (s : SourceSpec). s.partitions) specs
-partitions_are columns text [] met = refl
-partitions_are columns text (s ∷ ss) met =
+partitions_are : (plan : PlanData) (text : InputText) (specs : List SourceSpec) → list_all (λ s. length (partitions_under s.uid text) == s.partitions) specs ≡ true
+    → map (λ ps. length ps) (map (marked_under plan text) specs) ≡ map (λ (s : SourceSpec). s.partitions) specs
+partitions_are plan text [] met = refl
+partitions_are plan text (s ∷ ss) met =
     let parts = and_parts (length (partitions_under s.uid text) == s.partitions) (list_all (λ s. length (partitions_under s.uid text) == s.partitions) ss) met in
-    let first : length (map (map (entry_of columns)) (partitions_under s.uid text)) ≡ s.partitions = length-map (partitions_under s.uid text) (map (entry_of columns)) ∙ eqb-true _ _ parts.0 in
-    rw (first, partitions_are columns text ss parts.1) refl
+    let first : length (marked_under plan text s) ≡ s.partitions = length-map (partitions_under s.uid text) (map (marked_of s.bound plan.columns plan.window.time)) ∙ eqb-true _ _ parts.0 in
+    rw (first, partitions_are plan text ss parts.1) refl
+
+-- each entry has its mark
+marks_are : (plan : PlanData) (text : InputText) (specs : List SourceSpec)
+    → AllZip (λ s partitions. All (λ entries. All (IsMarked s.bound plan.window.time) entries) partitions) specs (map (marked_under plan text) specs)
+marks_are plan text [] = tt
+marks_are plan text (s ∷ ss) =
+    let mark = marked_of s.bound plan.columns plan.window.time in (
+      All-map (λ (es : List Marked). All (IsMarked s.bound plan.window.time) es) (map mark) (partitions_under s.uid text)
+          (λ k d h. All-map (IsMarked s.bound plan.window.time) mark (get_or (partitions_under s.uid text) k d) (λ n e i. refl)),
+      marks_are plan text ss,
+    )
 
 none_first : {X : Type 0} (o rest : Option X) → option_or o rest ≡ None → (o ≡ None) × (rest ≡ None)
 none_first None rest h = (refl, h)
@@ -103,16 +112,17 @@ met plan text h =
     let numbers = met_first _ (has_numbers plan text) _ width.1 in
     let sized = met_first _ (has_rows plan text) _ numbers.1 in
     let times = met_first _ (has_times plan text) _ sized.1 in
-    let late = none_first (late_record plan text) _ times.1 in
+    let kinds = met_first _ (has_kinds plan text) _ times.1 in
+    let late = none_first (late_record plan text) _ kinds.1 in
     let few = met_first _ (is_few plan text) _ late.1 in
     record { wide = width.0; sized = sized.0; partitions = partitions.0; times = times.0; late = late.0; few = few.0 }
 
-is_input : (plan : PlanData) (text : InputText) → Met plan text → IsInput (input_of plan text)
-is_input plan text m = record { entries = sources_sound plan text m.times; few = few_from plan text m.few }
+is_input : (plan : PlanData) (text : InputText) → IsPlan plan → Met plan text → IsInput (input_of plan text)
+is_input plan text p m = record { entries = sources_sound plan text p m.times; few = few_from plan text m.few }
 
 belongs_to : (plan : PlanData) (text : InputText) → Met plan text → BelongsTo plan (input_of plan text)
 unfolding has_partitions
-belongs_to plan text m = record { columns = refl; time = refl; partitions = partitions_are plan.columns text plan.sources m.partitions }
+belongs_to plan text m = record { columns = refl; time = refl; partitions = partitions_are plan text plan.sources m.partitions; marks = marks_are plan text plan.sources }
 
 -- what is known of an input that is read
 pub record IsRead (plan : PlanData) (i : InputData) : Type 0 where
@@ -120,21 +130,21 @@ pub record IsRead (plan : PlanData) (i : InputData) : Type 0 where
   pub orderly : IsOrderly i.time i.sources
   pub belongs : BelongsTo plan i
 
-sound : (plan : PlanData) (text : InputText) (i : InputData) → input_or_fault plan text ≡ Ok i → IsRead plan i
-sound plan text i h =
+sound : (plan : PlanData) (text : InputText) (i : InputData) → IsPlan plan → input_or_fault plan text ≡ Ok i → IsRead plan i
+sound plan text i p h =
     let none = no_fault (first_unmet (requirements plan) text) (input_of plan text) i h in
     let m = met plan text none.0 in
     let P : InputData → Type 0 = λ x. IsRead plan x in
-    subst P none.1 (record { input = is_input plan text m; orderly = orderly_sources plan text m.late; belongs = belongs_to plan text m })
+    subst P none.1 (record { input = is_input plan text p m; orderly = orderly_sources plan text m.late; belongs = belongs_to plan text m })
 
 said_ok : (plan : PlanData) (o : Result InputText InputFault) (i : InputData) → if_ok o (input_or_fault plan) ≡ Ok i → (text : InputText) × (input_or_fault plan text ≡ Ok i)
 said_ok plan (Ok text) i h = (text, h)
 said_ok plan (Err fault) i h = absurd cc
 
 -- the same of the bytes
-pub read_sound : (plan : PlanData) (bytes : List ℕ) (i : InputData) → input_of_bytes plan bytes ≡ Ok i → IsRead plan i
+pub read_sound : (plan : PlanData) (bytes : List ℕ) (i : InputData) → IsPlan plan → input_of_bytes plan bytes ≡ Ok i → IsRead plan i
 unfolding input_of_bytes
-read_sound plan bytes i h = let text = said_ok plan (text_of_bytes bytes) i h in sound plan text.0 i text.1
+read_sound plan bytes i p h = let text = said_ok plan (text_of_bytes bytes) i h in sound plan text.0 i p text.1
 
 -- ---- what is built of a text without a fault
 
@@ -146,6 +156,7 @@ no_err (Some fault) i h = absurd (cc)
 pub record Faultless (plan : PlanData) (bytes : List ℕ) (text : InputText) : Type 0 where
   pub wide : has_width plan text ≡ true
   pub sized : has_rows plan text ≡ true
+  pub timely : has_times plan text ≡ true
   pub said : input_of_bytes plan bytes ≡ Ok (input_of plan text)
 
 pub faultless : (plan : PlanData) (bytes : List ℕ) (text : InputText) → IsOk (input_of_bytes plan bytes) → text_of_bytes bytes ≡ Ok text → Faultless plan bytes text
@@ -154,4 +165,4 @@ faultless plan bytes text h said =
     let of_text : IsOk (input_or_fault plan text) = rw said at h in
     let none = no_err (first_unmet (requirements plan) text) (input_of plan text) of_text in
     let m = met plan text none in
-    record { wide = m.wide; sized = m.sized; said = rw (said, none) refl }
+    record { wide = m.wide; sized = m.sized; timely = m.times; said = rw (said, none) refl }

@@ -1,2 +1,3 @@
 pub mod Fit
 pub mod Laws
+pub mod Marking

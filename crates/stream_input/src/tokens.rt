@@ -8,19 +8,27 @@ ghost use Rattle.serde_json.specs.Read.{of_json, converted, read};
 ghost use Rattle.json.specs.Json.{value};
 ghost use Rattle.json_parts.specs.Parts.{list_text};
 ghost use Rattle.json_tokens.specs.Ahead.{part};
+ghost use Rattle.plan_model.specs.PlanData.{IsBound};
 ghost use Rattle.input_texts.specs.InputText.{input_text};
-ghost use Rattle.stream_input.specs.Fit.{fit_entry, IsSlots, IsRead};
+ghost use Rattle.stream_input.specs.Fit.{fit_entry, is_mark, own_entry, IsSlots, IsRead};
 
 use crate::cells::batch_at;
 use columns::MOST_ROWS;
-use input_texts::{empty_slots, place_of, put};
+use input_texts::{bound_of, empty_slots, place_of, put};
 use json_tokens::{MOST_DEPTH, Miss, Scanner, scan_rows};
 use plain_data::Items;
 use plan_model::{MOST_PARTITIONS, Plan, SourceSpec, is_time};
 use std::alloc::Global;
-use stream_model::{Entry, Partition, Source};
+use stream_model::{Entry, Marked, Partition, Source};
 
-fn next_entry(
+fn is_watermark(entry: &Entry) -> bool
+    ensures { result ≡ is_mark entry.now }
+{
+    matches!(entry, Entry::Watermark(_))
+}
+
+/// The next value as an entry.
+fn next_plain(
     alloc: Global,
     plan: &Plan,
     reader: &mut Scanner<'_>,
@@ -54,14 +62,39 @@ fn next_entry(
     Err(Miss::Other)
 }
 
+/// The same with the watermark that it brings in a source with this bound. A source that makes its own has no other.
+fn next_entry(
+    alloc: Global,
+    plan: &Plan,
+    bound: Option<i64>,
+    reader: &mut Scanner<'_>,
+    cells: &mut Vec<i64>,
+    depth: usize,
+) -> Result<Marked, Miss>
+    requires bounded { IsBound bound }
+    ensures said { IfOk result (λ e. part (own_entry bound plan.now.columns plan.now.window.time) depth reader.old ≡ Some (e, reader.new)) }
+    ensures shorter { OnOk result (length reader.new < length reader.old) }
+{
+    let entry = next_plain(alloc, plan, reader, cells, depth)?;
+    let is_other = bound.is_some() & is_watermark(&entry);
+    if is_other {
+        return Err(Miss::Other);
+    }
+    let columns = plan.columns() as usize;
+    let time = plan.window().time as usize;
+    Ok(Marked::new(entry, bound, columns, time))
+}
+
 fn next_partition(
     alloc: Global,
     plan: &Plan,
+    bound: Option<i64>,
     reader: &mut Scanner<'_>,
     cells: &mut Vec<i64>,
     depth: usize,
 ) -> Result<Partition, Miss>
-    ensures said { IfOk result (λ es. part (list_text (fit_entry plan.now.columns plan.now.window.time)) depth reader.old ≡ Some (es, reader.new)) }
+    requires bounded { IsBound bound }
+    ensures said { IfOk result (λ es. part (list_text (own_entry bound plan.now.columns plan.now.window.time)) depth reader.old ≡ Some (es, reader.new)) }
     ensures shorter { OnOk result (length reader.new < length reader.old) }
 {
     if depth == 0 {
@@ -70,7 +103,7 @@ fn next_partition(
     reader.open_list()?;
     let mut entries = Vec::new(alloc);
     'entries: while !reader.take_end_array() {
-        let entry = next_entry(alloc, plan, reader, cells, depth - 1)?;
+        let entry = next_entry(alloc, plan, bound, reader, cells, depth - 1)?;
         entries.push(entry)?;
     }
     Ok(Items::from_vec(entries))
@@ -79,11 +112,13 @@ fn next_partition(
 fn next_source(
     alloc: Global,
     plan: &Plan,
+    bound: Option<i64>,
     reader: &mut Scanner<'_>,
     cells: &mut Vec<i64>,
     depth: usize,
 ) -> Result<Source, Miss>
-    ensures said { IfOk result (λ ps. part (list_text (list_text (fit_entry plan.now.columns plan.now.window.time))) depth reader.old ≡ Some (ps, reader.new)) }
+    requires bounded { IsBound bound }
+    ensures said { IfOk result (λ ps. part (list_text (list_text (own_entry bound plan.now.columns plan.now.window.time))) depth reader.old ≡ Some (ps, reader.new)) }
     ensures shorter { OnOk result (length reader.new < length reader.old) }
 {
     if depth == 0 {
@@ -95,7 +130,7 @@ fn next_source(
         if MOST_PARTITIONS as usize <= partitions.len() {
             return Err(Miss::Other);
         }
-        let partition = next_partition(alloc, plan, reader, cells, depth - 1)?;
+        let partition = next_partition(alloc, plan, bound, reader, cells, depth - 1)?;
         partitions.push(partition)?;
     }
     Ok(Items::from_vec(partitions))
@@ -121,7 +156,8 @@ fn next_slots(
         let Some(place) = place_of(specs, name) else {
             return Err(Miss::Other);
         };
-        let source = next_source(alloc, plan, reader, cells, depth - 1)?;
+        let bound = bound_of(plan, name);
+        let source = next_source(alloc, plan, bound, reader, cells, depth - 1)?;
         put(&mut slots, place, source);
     }
     Ok(slots)

@@ -14,7 +14,7 @@ use Rattle.plan_model.specs.Rows.{aggregate_at}
 use Rattle.plan_model.specs.Windows.{passes}
 use Rattle.plan_model.proofs.Facts.{IsSameBag-filter}
 use Rattle.plan_model.proofs.Facts.{aggregate_at-append, aggregate_at-same}
-use Rattle.stream_model.specs.declared.entry.Entry.{Entry}
+use Rattle.stream_model.specs.declared.entry.Marked.{Marked}
 use Rattle.stream_model.specs.InputData.{records_of_entry, records_in}
 use Rattle.stream_model.specs.Watermarks.{records_before, records_before_in, records_between, records_between_in, IsBefore}
 use Rattle.stream_model.specs.PlanRows.{passing, plan_aggregate}
@@ -30,7 +30,7 @@ joined f front x y rest u v split others =
     ∙ regroup f x y u v
 
 -- in one source
-records_in_source-between : (ps : List (List Entry)) (ms ns : List ℕ) → AllZip (λ m n. m ≤ n) ms ns → IsSameBag (records_before_in ps ns) (records_before_in ps ms ++ records_between_in ps ms ns)
+records_in_source-between : (ps : List (List Marked)) (ms ns : List ℕ) → AllZip (λ m n. m ≤ n) ms ns → IsSameBag (records_before_in ps ns) (records_before_in ps ms ++ records_between_in ps ms ns)
 records_in_source-between [] ms ns h f = refl
 records_in_source-between (p ∷ ps) [] [] h f = refl
 records_in_source-between (p ∷ ps) [] (n ∷ ns) h f = absurd h
@@ -44,7 +44,7 @@ records_in_source-between (p ∷ ps) (m ∷ ms) (n ∷ ns) h f =
     front (records_in_source-between ps ms ns h.1 f)
 
 -- the records before a later cut are those before an earlier one and those between
-pub records-between : (ss : List (List (List Entry))) (bs cs : List (List ℕ)) → IsBefore bs cs → IsSameBag (records_before ss cs) (records_before ss bs ++ records_between ss bs cs)
+pub records-between : (ss : List (List (List Marked))) (bs cs : List (List ℕ)) → IsBefore bs cs → IsSameBag (records_before ss cs) (records_before ss bs ++ records_between ss bs cs)
 records-between [] bs cs h f = refl
 records-between (s ∷ ss) [] [] h f = refl
 records-between (s ∷ ss) [] (c ∷ cs) h f = absurd h
@@ -66,7 +66,7 @@ records-between (s ∷ ss) (b ∷ bs) (c ∷ cs) h f =
     sum_of_four f x y u v = omega (arith, sum_by-append f (x ++ u) (y ++ v), sum_by-append f x u, sum_by-append f y v)
 
 -- what stands in a pane at a later cut is what stood at the earlier one, merged with the records between
-pub plan_aggregate-between : (plan : PlanData) (ss : List (List (List Entry))) (bs cs : List (List ℕ)) (q : Pane) → IsBefore bs cs
+pub plan_aggregate-between : (plan : PlanData) (ss : List (List (List Marked))) (bs cs : List (List ℕ)) (q : Pane) → IsBefore bs cs
     → plan_aggregate plan (records_before ss cs) q ≡ merge plan.window.aggregates (plan_aggregate plan (records_before ss bs) q) (plan_aggregate plan (records_between ss bs cs) q)
 plan_aggregate-between plan ss bs cs q h =
     aggregate_at-same plan.window (passing plan (records_before ss cs)) (passing plan (records_before ss bs ++ records_between ss bs cs)) q

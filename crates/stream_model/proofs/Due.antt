@@ -19,7 +19,7 @@ use Rattle.plan_model.specs.PlanData.{PlanData}
 use Rattle.plan_model.specs.Windows.{passes, is_start, is_at, is_within}
 use Rattle.plan_model.specs.Aggregates.{aggregate_of}
 use Rattle.plan_model.specs.Rows.{records_of, is_due}
-use Rattle.stream_model.specs.declared.entry.Entry.{Entry}
+use Rattle.stream_model.specs.declared.entry.Marked.{Marked}
 use Rattle.stream_model.specs.InputData.{records_of_entry, records_in}
 use Rattle.stream_model.specs.Watermarks.{IsOrderlyPartition, IsOrderly, IsBefore, IsCut, full_cut, merged_watermark, source_watermark, records_before, records_before_in, partition_watermark, watermark_of_entry}
 use Rattle.plain_data.specs.Times.{lowest, highest}
@@ -33,16 +33,16 @@ pub le_max : (a b : ℤ) → a ≤ℤ int_max a b
 le_max a b = omega (arith, ints, clamps)
 
 -- a running greatest only rises
-pub le_fold : (a : ℤ) (xs : List Entry) → a ≤ℤ fold (λ w e. int_max w (watermark_of_entry e)) a xs
+pub le_fold : (a : ℤ) (xs : List Marked) → a ≤ℤ fold (λ w e. int_max w (watermark_of_entry e)) a xs
 le_fold a [] = omega (arith, ints)
 le_fold a (x ∷ xs) = le_trans_z a (int_max a (watermark_of_entry x)) _ (le_max a (watermark_of_entry x)) (le_fold (int_max a (watermark_of_entry x)) xs)
 
 -- a partition's watermark only rises, short of its end
-pub partition_watermark-rises : (p : List Entry) (n k : ℕ) → n + k < length p → partition_watermark p n ≤ℤ partition_watermark p (n + k)
+pub partition_watermark-rises : (p : List Marked) (n k : ℕ) → n + k < length p → partition_watermark p n ≤ℤ partition_watermark p (n + k)
 partition_watermark-rises p n k h =
     let here : (n == length p) ≡ false = ne_eqb n (length p) (λ e. omega arith) in
     let there : ((n + k) == length p) ≡ false = ne_eqb (n + k) (length p) (λ e. omega arith) in
-    let step = λ (w : ℤ) (e : Entry). int_max w (watermark_of_entry e) in
+    let step = λ (w : ℤ) (e : Marked). int_max w (watermark_of_entry e) in
     rw (here, there, take-add n k p, fold-append step lowest (take n p) (take k (drop n p))) (le_fold (fold step lowest (take n p)) (take k (drop n p)))
 
 pub all_in : {X : Type 0} (Q : Record → Type 0) (g : X → List Record) (xs : List X) → ((k : ℕ) (d : X) → k < length xs → All Q (g (get_or xs k d))) → All Q (flat_map g xs)
@@ -65,7 +65,7 @@ lt_of_le_lt : (a b c d : ℤ) → a ≤ℤ b → b ≤ℤ c → c <ℤ d → a <
 lt_of_le_lt a b c d h k l = omega (arith, ints)
 
 -- in one partition
-one_partition : (w : WindowSpec) (q : Pane) (p : List Entry) (n : ℕ) → IsOrderlyPartition w.time p → (q.start +ℤ w.size -ℤ pos 1) ≤ℤ partition_watermark p n
+one_partition : (w : WindowSpec) (q : Pane) (p : List Marked) (n : ℕ) → IsOrderlyPartition w.time p → (q.start +ℤ w.size -ℤ pos 1) ≤ℤ partition_watermark p n
     → filter (is_at w q) (records_in p) ≡ filter (is_at w q) (records_in (take n p))
 one_partition w q p n orderly due =
     let test : Record → Bool = is_at w q in
@@ -90,7 +90,7 @@ min_second : (a b c : ℤ) → c ≤ℤ int_min a b → c ≤ℤ b
 min_second a b c h = omega (arith, ints, clamps)
 
 -- in one source
-one_source : (w : WindowSpec) (q : Pane) (ps : List (List Entry)) (ns : List ℕ) → AllByRecursion (IsOrderlyPartition w.time) ps → AllZip (λ p n. n ≤ length p) ps ns
+one_source : (w : WindowSpec) (q : Pane) (ps : List (List Marked)) (ns : List ℕ) → AllByRecursion (IsOrderlyPartition w.time) ps → AllZip (λ p n. n ≤ length p) ps ns
     → (q.start +ℤ w.size -ℤ pos 1) ≤ℤ source_watermark ps ns → filter (is_at w q) (records_before_in ps (map (λ p. length p) ps)) ≡ filter (is_at w q) (records_before_in ps ns)
 one_source w q [] ns orderly cut due = refl
 one_source w q (p ∷ ps) [] orderly cut due = absurd cut
@@ -102,7 +102,7 @@ one_source w q (p ∷ ps) (n ∷ ns) orderly cut due =
     ∙ sym (filter-append test (records_in (take n p)) (records_before_in ps ns))
 
 -- in all sources
-settled : (w : WindowSpec) (q : Pane) (ss : List (List (List Entry))) (cs : List (List ℕ)) → IsOrderly w.time ss → IsCut ss cs
+settled : (w : WindowSpec) (q : Pane) (ss : List (List (List Marked))) (cs : List (List ℕ)) → IsOrderly w.time ss → IsCut ss cs
     → (q.start +ℤ w.size -ℤ pos 1) ≤ℤ merged_watermark ss cs → filter (is_at w q) (records_before ss (full_cut ss)) ≡ filter (is_at w q) (records_before ss cs)
 settled w q [] cs orderly cut due = refl
 settled w q (s ∷ ss) [] orderly cut due = absurd cut
@@ -113,7 +113,7 @@ settled w q (s ∷ ss) (c ∷ cs) orderly cut due =
     ∙ sym (filter-append test (records_before_in s c) (records_before ss cs))
 
 -- a window that is due at a cut has there all that it will ever have
-pub due_is_settled : (plan : PlanData) (ss : List (List (List Entry))) (cut : List (List ℕ)) (q : Pane) → IsOrderly plan.window.time ss → IsCut ss cut
+pub due_is_settled : (plan : PlanData) (ss : List (List (List Marked))) (cut : List (List ℕ)) (q : Pane) → IsOrderly plan.window.time ss → IsCut ss cut
     → is_due plan.window (merged_watermark ss cut) q.start ≡ true → plan_aggregate plan (records_before ss (full_cut ss)) q ≡ plan_aggregate plan (records_before ss cut) q
 due_is_settled plan ss cut q orderly is_cut due =
     let w = plan.window in
@@ -131,7 +131,7 @@ min_rises a b c d h k = omega (arith, ints, clamps)
 max_within : (a b c : ℤ) → a ≤ℤ c → b ≤ℤ c → int_max a b ≤ℤ c
 max_within a b c h k = omega (arith, ints, clamps)
 
-fold_within : (c a : ℤ) (xs : List Entry) → a ≤ℤ c → All (λ e. watermark_of_entry e ≤ℤ c) xs → fold (λ w e. int_max w (watermark_of_entry e)) a xs ≤ℤ c
+fold_within : (c a : ℤ) (xs : List Marked) → a ≤ℤ c → All (λ e. watermark_of_entry e ≤ℤ c) xs → fold (λ w e. int_max w (watermark_of_entry e)) a xs ≤ℤ c
 fold_within c a [] h all = h
 fold_within c a (x ∷ xs) h all =
     fold_within c (int_max a (watermark_of_entry x)) xs
@@ -144,14 +144,14 @@ same_le a = omega (arith, ints)
 lowest_highest : lowest ≤ℤ highest
 lowest_highest = omega (arith, ints)
 
-pub partition_watermark-highest : (p : List Entry) (n : ℕ) → All (λ e. watermark_of_entry e ≤ℤ highest) p → partition_watermark p n ≤ℤ highest
+pub partition_watermark-highest : (p : List Marked) (n : ℕ) → All (λ e. watermark_of_entry e ≤ℤ highest) p → partition_watermark p n ≤ℤ highest
 partition_watermark-highest p n all =
     elim (n == length p) as (λ b. (if b then highest else fold (λ w e. int_max w (watermark_of_entry e)) lowest (take n p)) ≤ℤ highest) [
       | true ↦ same_le highest
       | false ↦ fold_within highest lowest (take n p) lowest_highest (All-take (λ e. watermark_of_entry e ≤ℤ highest) n p all)
     ]
 
-partition_watermark-later : (p : List Entry) (m n : ℕ) → All (λ e. watermark_of_entry e ≤ℤ highest) p → m ≤ n → n ≤ length p → partition_watermark p m ≤ℤ partition_watermark p n
+partition_watermark-later : (p : List Marked) (m n : ℕ) → All (λ e. watermark_of_entry e ≤ℤ highest) p → m ≤ n → n ≤ length p → partition_watermark p m ≤ℤ partition_watermark p n
 partition_watermark-later p m n all h k =
     elim (cases_lt n (length p)) [
       | inl short ↦
@@ -163,7 +163,7 @@ partition_watermark-later p m n all h k =
           rw e (partition_watermark-highest p m all)
     ]
 
-source_watermark-later : (ps : List (List Entry)) (ms ns : List ℕ) → AllByRecursion (λ p. All (λ e. watermark_of_entry e ≤ℤ highest) p) ps → AllZip (λ m n. m ≤ n) ms ns → AllZip (λ p n. n ≤ length p) ps ns
+source_watermark-later : (ps : List (List Marked)) (ms ns : List ℕ) → AllByRecursion (λ p. All (λ e. watermark_of_entry e ≤ℤ highest) p) ps → AllZip (λ m n. m ≤ n) ms ns → AllZip (λ p n. n ≤ length p) ps ns
     → source_watermark ps ms ≤ℤ source_watermark ps ns
 source_watermark-later [] ms ns all before cut = same_le highest
 source_watermark-later (p ∷ ps) [] [] all before cut = same_le highest
@@ -173,7 +173,7 @@ source_watermark-later (p ∷ ps) (m ∷ ms) (n ∷ ns) all before cut =
     min_rises _ _ _ _ (partition_watermark-later p m n all.0 before.0 cut.0) (source_watermark-later ps ms ns all.1 before.1 cut.1)
 
 -- the merged watermark only rises from cut to cut
-pub merged_watermark-later : (ss : List (List (List Entry))) (bs cs : List (List ℕ)) → AllByRecursion (AllByRecursion (λ p. All (λ e. watermark_of_entry e ≤ℤ highest) p)) ss → IsBefore bs cs → IsCut ss cs
+pub merged_watermark-later : (ss : List (List (List Marked))) (bs cs : List (List ℕ)) → AllByRecursion (AllByRecursion (λ p. All (λ e. watermark_of_entry e ≤ℤ highest) p)) ss → IsBefore bs cs → IsCut ss cs
     → merged_watermark ss bs ≤ℤ merged_watermark ss cs
 merged_watermark-later [] bs cs all before cut = same_le highest
 merged_watermark-later (s ∷ ss) [] [] all before cut = same_le highest
@@ -186,7 +186,7 @@ test_later : (a b c : ℤ) → b ≤ℤ c → int_le a b ≡ true → int_le a c
 test_later a b c h k = grind (arith, ints)
 
 -- what is due at a cut is due at each later one
-pub due_stays : (w : WindowSpec) (ss : List (List (List Entry))) (bs cs : List (List ℕ)) (s : ℤ) → AllByRecursion (AllByRecursion (λ p. All (λ e. watermark_of_entry e ≤ℤ highest) p)) ss
+pub due_stays : (w : WindowSpec) (ss : List (List (List Marked))) (bs cs : List (List ℕ)) (s : ℤ) → AllByRecursion (AllByRecursion (λ p. All (λ e. watermark_of_entry e ≤ℤ highest) p)) ss
     → IsBefore bs cs → IsCut ss cs → is_due w (merged_watermark ss bs) s ≡ true → is_due w (merged_watermark ss cs) s ≡ true
 due_stays w ss bs cs s all before cut due =
     test_later _ (merged_watermark ss bs) (merged_watermark ss cs) (merged_watermark-later ss bs cs all before cut) due

@@ -6,19 +6,19 @@ use Rattle.std.specs.Ordering.{int_eq}
 use Rattle.std.proofs.lemmas.Int.{ints, clamps}
 use Rattle.std.proofs.lemmas.Bool.{ne_eqb}
 use Rattle.std.proofs.lemmas.List.Elements.{All-nil, All-cons}
-use Rattle.stream_model.specs.declared.entry.Entry.{Entry}
+use Rattle.stream_model.specs.declared.entry.Marked.{Marked}
 use Rattle.stream_model.specs.Watermarks.{watermark_of_entry}
 use Rattle.plain_data.specs.Times.{lowest}
 use Rattle.stream_model.specs.Laws.{WatermarkIsGreatest}
 use Rattle.stream_model.proofs.Due.{le_fold, le_trans_z}
 
-abbrev step : ℤ → Entry → ℤ
+abbrev step : ℤ → Marked → ℤ
 step w e = int_max w (watermark_of_entry e)
 
 max_second : (a b : ℤ) → b ≤ℤ int_max a b
 max_second a b = omega (arith, ints, clamps)
 
-bounds : (a : ℤ) (es : List Entry) → All (λ e. watermark_of_entry e ≤ℤ fold step a es) es
+bounds : (a : ℤ) (es : List Marked) → All (λ e. watermark_of_entry e ≤ℤ fold step a es) es
 bounds a [] = All-nil (λ e. watermark_of_entry e ≤ℤ a)
 bounds a (e ∷ es) =
     All-cons (λ d. watermark_of_entry d ≤ℤ fold step (step a e) es) e es
@@ -41,7 +41,7 @@ or_true true = refl
 or_true false = refl
 
 -- where z is the running greatest, it is where that began or one of the watermarks
-reached : (a : ℤ) (es : List Entry) (z : ℤ) → int_eq (fold step a es) z ≡ true → (int_eq a z ≡ true) ⊎ (list_any (λ e. int_eq (watermark_of_entry e) z) es ≡ true)
+reached : (a : ℤ) (es : List Marked) (z : ℤ) → int_eq (fold step a es) z ≡ true → (int_eq a z ≡ true) ⊎ (list_any (λ e. int_eq (watermark_of_entry e) z) es ≡ true)
 reached a [] z h = inl h
 reached a (e ∷ es) z h = elim (reached (step a e) es z h) [
   | inl here ↦ elim (is_max a (watermark_of_entry e) z here) [

@@ -10,7 +10,7 @@ use Rattle.std.specs.Int.{int_max}
 use Rattle.std.specs.List.{All, AllByRecursion, list_any, find, fold, range_with_len}
 use Rattle.std.specs.Option.{option_or}
 use Rattle.plain_data.specs.Record.{Record, at}
-use Rattle.stream_model.specs.declared.entry.Entry.{Entry}
+use Rattle.stream_model.specs.declared.entry.Marked.{Marked}
 use Rattle.stream_model.specs.InputData.{records_of_entry}
 use Rattle.stream_model.specs.Watermarks.{watermark_of_entry, partition_watermark, IsOrderlyPartition, IsOrderly}
 use Rattle.plain_data.specs.Times.{lowest}
@@ -18,24 +18,24 @@ use Rattle.stream_model.specs.Laws.{WatermarkGoesOn}
 use Rattle.stream_model.specs.Late.{is_late_time, is_late_at, first_late_entry, first_at, first_late}
 
 -- the watermark of the first n entries, before the end
-abbrev pub watermark_before : List Entry → ℕ → ℤ
+abbrev pub watermark_before : List Marked → ℕ → ℤ
 watermark_before entries n = fold (λ w e. int_max w (watermark_of_entry e)) lowest (take n entries)
 
-pub watermark_at : (entries : List Entry) (n : ℕ) → n < length entries → partition_watermark entries n ≡ watermark_before entries n
+pub watermark_at : (entries : List Marked) (n : ℕ) → n < length entries → partition_watermark entries n ≡ watermark_before entries n
 watermark_at entries n h = rw (ne_eqb n (length entries) (λ e. omega arith)) refl
 
 -- each entry raises the watermark to its own at least
-pub watermark_more : (entries : List Entry) (n : ℕ) (e : Entry) (w : ℤ) → n < length entries → e ≡ get_or entries n e → w ≡ watermark_before entries n
+pub watermark_more : (entries : List Marked) (n : ℕ) (e : Marked) (w : ℤ) → n < length entries → e ≡ get_or entries n e → w ≡ watermark_before entries n
     → int_max w (watermark_of_entry e) ≡ watermark_before entries (n + 1)
 watermark_more entries n e w h is before = rw (fold_more (λ x y. int_max x (watermark_of_entry y)) lowest entries n e h, ← is, before) refl
 
 pub watermark_goes_on : WatermarkGoesOn
 watermark_goes_on p n d short =
-    let step = λ (w : ℤ) (e : Entry). int_max w (watermark_of_entry e) in
+    let step = λ (w : ℤ) (e : Marked). int_max w (watermark_of_entry e) in
     watermark_at p (n + 1) short ∙ fold_more step lowest p n d (omega arith) ∙ ap (λ w. step w (get_or p n d)) (sym (watermark_at p n (omega arith)))
 
 -- entry n is late where it has a record with at most the watermark of the entries before it
-pub late_here : (time : ℕ) (entries : List Entry) (n : ℕ) (e : Entry) (w : ℤ) → n < length entries → e ≡ get_or entries n e → w ≡ watermark_before entries n
+pub late_here : (time : ℕ) (entries : List Marked) (n : ℕ) (e : Marked) (w : ℤ) → n < length entries → e ≡ get_or entries n e → w ≡ watermark_before entries n
     → is_late_at time entries n ≡ list_any (λ r. is_late_time w (at time r)) (records_of_entry e)
 late_here time entries n e w h is so_far =
     rw (watermark_at entries n h, slice_get_read entries (length entries) n e refl h is, so_far) refl
@@ -83,7 +83,7 @@ all_above time w (r ∷ rs) h =
     let parts = or_parts (is_late_time w (at time r)) (list_any (λ x. is_late_time w (at time x)) rs) h in
     All-cons (λ x. w <ℤ at time x) r rs (above (at time r) w parts.0) (all_above time w rs parts.1)
 
-orderly_partition : (time : ℕ) (entries : List Entry) → first_late_entry time entries ≡ None → IsOrderlyPartition time entries
+orderly_partition : (time : ℕ) (entries : List Marked) → first_late_entry time entries ≡ None → IsOrderlyPartition time entries
 orderly_partition time entries h = λ n d lt.
     let test : is_late_at time entries n ≡ false = none_in_range (is_late_at time entries) 0 (length entries) n h (omega arith) (omega arith) in
     all_above time (partition_watermark entries n) (records_of_entry (get_or entries n d)) (rw (slice_get-get_or entries n d lt) at test)
@@ -99,7 +99,7 @@ all_none f P each (x ∷ xs) h =
     let parts = both_none (f x) (first_at f xs) (λ y. (0, y)) (λ p. (suc p.0, p.1)) h in
     (each x parts.0, all_none f P each xs parts.1)
 
-pub orderly : (time : ℕ) (sources : List (List (List Entry))) → first_late time sources ≡ None → IsOrderly time sources
+pub orderly : (time : ℕ) (sources : List (List (List Marked))) → first_late time sources ≡ None → IsOrderly time sources
 orderly time sources h =
     all_none (first_at (first_late_entry time)) (AllByRecursion (IsOrderlyPartition time))
     (λ ps none. all_none (first_late_entry time) (IsOrderlyPartition time) (orderly_partition time) ps none) sources h

@@ -4,3 +4,4 @@ mod Snapshots
 mod Due
 mod Greatest
 mod LateRecords
+mod MadeMarks

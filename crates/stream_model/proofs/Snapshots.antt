@@ -16,8 +16,9 @@ use Rattle.plan_model.specs.Windows.{IsTime, passes, is_start, is_at, is_within}
 use Rattle.plan_model.specs.Aggregates.{aggregate_of}
 use Rattle.plan_model.specs.Rows.{is_due, kept_row, records_of}
 use Rattle.stream_model.specs.declared.entry.Entry.{Entry}
+use Rattle.stream_model.specs.declared.entry.Marked.{Marked}
 use Rattle.stream_model.specs.declared.entry.Entry.TheVariants.{Rows, Watermark}
-use Rattle.stream_model.specs.InputData.{InputData, IsEntry, IsInput, records_of_entry, records_in}
+use Rattle.stream_model.specs.InputData.{InputData, IsEntry, IsEntryOf, IsInput, rows_in, records_of_entry, records_in}
 use Rattle.stream_model.specs.Watermarks.{IsBefore, full_cut, empty_cut, merged_watermark, source_watermark, watermark_of_entry, records_before, records_before_in}
 use Rattle.plain_data.specs.Times.{highest}
 use Rattle.stream_model.specs.PlanRows.{passing, plan_aggregate, plan_rows, carried}
@@ -31,25 +32,24 @@ by_recursion : {X : Type 0} (P : X → Type 0) (xs : List X) → All P xs → Al
 by_recursion P [] h = tt
 by_recursion P (x ∷ xs) h = (All-head P x xs h, by_recursion P xs (All-tail P x xs h))
 
-each_entry : (P Q : Entry → Type 0) (ss : List (List (List Entry))) → ((e : Entry) → P e → Q e) → All (All (All P)) ss → AllByRecursion (AllByRecursion (All Q)) ss
+each_entry : (P Q : Marked → Type 0) (ss : List (List (List Marked))) → ((e : Marked) → P e → Q e) → All (All (All P)) ss → AllByRecursion (AllByRecursion (All Q)) ss
 each_entry P Q ss h all =
     by_recursion (AllByRecursion (All Q)) ss
     (All-weaker (All (All P)) (AllByRecursion (All Q)) (λ s a. by_recursion (All Q) s (All-weaker (All P) (All Q) (λ p b. All-weaker P Q h p b) s a)) ss all)
 
-pub watermark_low : (columns time : ℕ) (e : Entry) → IsEntry columns time e → watermark_of_entry e ≤ℤ highest
-watermark_low columns time (Rows batch) h = omega (arith, ints)
-watermark_low columns time (Watermark t) h = grind (arith, ints)
+pub watermark_low : (columns time : ℕ) (e : Marked) → IsEntry columns time e → watermark_of_entry e ≤ℤ highest
+watermark_low columns time e h = let low = h.1.1 in omega (arith, ints)
 
 watermarks_low : (i : InputData) → IsInput i → AllByRecursion (AllByRecursion (λ p. All (λ e. watermark_of_entry e ≤ℤ highest) p)) i.sources
 watermarks_low i h = each_entry (IsEntry i.columns i.time) (λ e. watermark_of_entry e ≤ℤ highest) i.sources (watermark_low i.columns i.time) h.entries
 
 -- ---- all is due at the full cut
 
-full_source : (ps : List (List Entry)) → source_watermark ps (map (λ p. length p) ps) ≡ highest
+full_source : (ps : List (List Marked)) → source_watermark ps (map (λ p. length p) ps) ≡ highest
 full_source [] = refl
 full_source (p ∷ ps) = let e = eq-eqb (length p) (length p) refl in rw (e, full_source ps) refl
 
-full_watermark : (ss : List (List (List Entry))) → merged_watermark ss (full_cut ss) ≡ highest
+full_watermark : (ss : List (List (List Marked))) → merged_watermark ss (full_cut ss) ≡ highest
 full_watermark [] = refl
 full_watermark (s ∷ ss) = rw (full_source s, full_watermark ss) refl
 
@@ -57,11 +57,14 @@ module _ (time : ℕ) where
   abbrev Timely : Record → Type 0
   Timely r = IsTime (at time r)
 
-  timely_entry : (columns : ℕ) (e : Entry) → IsEntry columns time e → All Timely (records_of_entry e)
-  timely_entry columns (Rows batch) h = h.1
-  timely_entry columns (Watermark t) h = All-nil Timely
+  timely_rows : (columns : ℕ) (e : Entry) → IsEntryOf columns time e → All Timely (rows_in e)
+  timely_rows columns (Rows batch) h = h.1
+  timely_rows columns (Watermark t) h = All-nil Timely
 
-  timely_source : (ps : List (List Entry)) (ns : List ℕ) → AllByRecursion (All (λ e. All Timely (records_of_entry e))) ps → All Timely (records_before_in ps ns)
+  timely_entry : (columns : ℕ) (e : Marked) → IsEntry columns time e → All Timely (records_of_entry e)
+  timely_entry columns e h = timely_rows columns e.entry h.0
+
+  timely_source : (ps : List (List Marked)) (ns : List ℕ) → AllByRecursion (All (λ e. All Timely (records_of_entry e))) ps → All Timely (records_before_in ps ns)
   timely_source [] ns h = All-nil Timely
   timely_source (p ∷ ps) [] h = All-nil Timely
   timely_source (p ∷ ps) (n ∷ ns) h =
@@ -69,7 +72,7 @@ module _ (time : ℕ) where
       (all_in Timely records_of_entry (take n p) (All-take (λ e. All Timely (records_of_entry e)) n p h.0))
       (timely_source ps ns h.1)
 
-  timely : (ss : List (List (List Entry))) (cs : List (List ℕ)) → AllByRecursion (AllByRecursion (All (λ e. All Timely (records_of_entry e)))) ss → All Timely (records_before ss cs)
+  timely : (ss : List (List (List Marked))) (cs : List (List ℕ)) → AllByRecursion (AllByRecursion (All (λ e. All Timely (records_of_entry e)))) ss → All Timely (records_before ss cs)
   timely [] cs h = All-nil Timely
   timely (s ∷ ss) [] h = All-nil Timely
   timely (s ∷ ss) (c ∷ cs) h = All-append Timely (records_before_in s c) (records_before ss cs) (timely_source s c h.0) (timely ss cs h.1)
@@ -114,11 +117,11 @@ due_rows_stay plan i b c q row input before cut e =
     let later = due_stays plan.window i.sources b c q.start (watermarks_low i input) before cut s.0 in
     rw later s.1
 
-empty_source : (ps : List (List Entry)) → records_before_in ps (map (λ p. 0) ps) ≡ []
+empty_source : (ps : List (List Marked)) → records_before_in ps (map (λ p. 0) ps) ≡ []
 empty_source [] = refl
 empty_source (p ∷ ps) = empty_source ps
 
-pub empty_records : (ss : List (List (List Entry))) → records_before ss (empty_cut ss) ≡ []
+pub empty_records : (ss : List (List (List Marked))) → records_before ss (empty_cut ss) ≡ []
 empty_records [] = refl
 empty_records (s ∷ ss) = rw (empty_source s, empty_records ss) refl
 
@@ -133,7 +136,7 @@ nothing_at_first plan sources q =
     ∙ always_none (is_due plan.window (merged_watermark sources (empty_cut sources)) q.start) (is_start plan.window q.start)
 
 -- what stands at a later cut is what was carried there, where nothing was due at the earlier one
-carried_is : (plan : PlanData) (sources : List (List (List Entry))) (b c : List (List ℕ)) (q : Pane) → IsBefore b c → is_due plan.window (merged_watermark sources b) q.start ≡ false
+carried_is : (plan : PlanData) (sources : List (List (List Marked))) (b c : List (List ℕ)) (q : Pane) → IsBefore b c → is_due plan.window (merged_watermark sources b) q.start ≡ false
     → plan_aggregate plan (records_before sources c) q ≡ carried plan sources b c q
 carried_is plan sources b c q before early =
     plan_aggregate-between plan sources b c q before ∙ rw early refl

@@ -1,3 +1,4 @@
+pub mod Marks
 pub mod InputData
 pub mod Watermarks
 pub mod PlanRows

@@ -4,7 +4,7 @@ ghost use Rattle.std.specs.Prelude.{◌≡◌, ◌+◌, ◌-◌, ◌^◌, nat_le
 ghost use Rattle.plan_model.specs.declared.limits.TheConstants.{MOST_RECORDS};
 ghost use Rattle.stream_model.specs.InputData.{records_of_entry, records_in, records_in_source, all_records};
 
-use crate::entry::{Entry, Partition, Source};
+use crate::entry::{Entry, Marked, Partition, Source};
 use plan_model::MOST_RECORDS;
 
 /// Whether there are no more records than an input may have.
@@ -28,7 +28,7 @@ fn with_source(count: u64, partitions: &[Partition]) -> u64
     total
 }
 
-fn with_partition(count: u64, entries: &[Entry]) -> u64
+fn with_partition(count: u64, entries: &[Marked]) -> u64
     ensures { result ≡ min (count + length (records_in entries.now)) (2 ^ 64 - 1) }
 {
     let mut total = count;
@@ -38,10 +38,10 @@ fn with_partition(count: u64, entries: &[Entry]) -> u64
     total
 }
 
-fn records_of(entry: &Entry) -> u64
-    ensures { result ≡ length (records_of_entry entry.now) }
+fn records_of(marked: &Marked) -> u64
+    ensures { result ≡ length (records_of_entry marked.now) }
 {
-    match entry {
+    match &marked.entry {
         Entry::Rows(batch) => batch.len() as u64,
         Entry::Watermark(_) => 0,
     }

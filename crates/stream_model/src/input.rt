@@ -4,7 +4,7 @@ ghost use Rattle.std.specs.Prelude.{[], ◌≡◌, ◌<◌, ◌≤◌, length, o
 ghost use Rattle.stream_model.specs.InputData.{IsInput, input_data_of, partition_at};
 ghost use Rattle.stream_model.specs.Watermarks.{IsOrderly, partition_watermark};
 
-use crate::entry::{Entry, Source};
+use crate::entry::{Marked, Source};
 use crate::watermark::greatest_watermark;
 use plain_data::Items;
 use std::marker::Model;
@@ -63,7 +63,7 @@ impl Input {
     }
 
     /// Entry n of a partition, counted from 0.
-    pub fn entry(&self, source: u32, partition: u32, n: u64) -> Option<&Entry>
+    pub fn entry(&self, source: u32, partition: u32, n: u64) -> Option<&Marked>
         requires source_in { source < length self.now.sources }
         requires partition_in { partition < length (slice_index_or self.now.sources source []) }
         ensures { option_copied result ≡ slice_get (partition_at self.now.sources source partition) n }
@@ -89,7 +89,7 @@ impl Input {
         }
     }
 
-    fn partition(&self, source: u32, partition: u32) -> &[Entry]
+    fn partition(&self, source: u32, partition: u32) -> &[Marked]
         requires source_in { source < length self.now.sources }
         requires partition_in { partition < length (slice_index_or self.now.sources source []) }
         ensures { result.now ≡ partition_at self.now.sources source partition }

@@ -7,7 +7,7 @@ ghost use Rattle.stream_model.specs.InputData.{records_of_entry, IsEntry};
 ghost use Rattle.stream_model.specs.Late as lateness;
 ghost use Rattle.plan_model.specs.declared.limits.TheConstants.{MOST_SOURCES, MOST_PARTITIONS};
 
-use crate::entry::{Entry, Partition, Source};
+use crate::entry::{Entry, Marked, Partition, Source};
 
 /// The place of the first entry with a record that comes too late: of its source, then of its
 /// partition, then its own.
@@ -40,28 +40,28 @@ fn first_in_source(columns: usize, time: usize, partitions: &[Partition]) -> Opt
     None
 }
 
-fn first_in_partition(columns: usize, time: usize, entries: &[Entry]) -> Option<u64>
+fn first_in_partition(columns: usize, time: usize, entries: &[Marked]) -> Option<u64>
     requires time_in { time < columns }
     requires sound { All (IsEntry columns time) entries.now }
     ensures { result ≡ lateness.first_late_entry time entries.now }
 {
     let mut watermark = i64::MIN;
-    for (place, entry) in entries.iter().enumerate() {
-        if is_late(columns, time, watermark, entry) {
+    for (place, marked) in entries.iter().enumerate() {
+        if is_late(columns, time, watermark, marked) {
             return Some(place as u64);
         }
-        watermark = entry.watermark_after(watermark);
+        watermark = marked.watermark_after(watermark);
     }
     None
 }
 
 /// Whether a record of the entry is late behind the watermark.
-fn is_late(columns: usize, time: usize, watermark: i64, entry: &Entry) -> bool
+fn is_late(columns: usize, time: usize, watermark: i64, marked: &Marked) -> bool
     requires time_in { time < columns }
-    requires sound { IsEntry columns time entry.now }
-    ensures { result ≡ list_any (λ r. lateness.is_late_time watermark (at time r)) (records_of_entry entry.now) }
+    requires sound { IsEntry columns time marked.now }
+    ensures { result ≡ list_any (λ r. lateness.is_late_time watermark (at time r)) (records_of_entry marked.now) }
 {
-    match entry {
+    match &marked.entry {
         Entry::Rows(batch) => has_late_time(batch.column(time), watermark),
         Entry::Watermark(_) => false,
     }

@@ -13,7 +13,7 @@ pub mod laws;
 mod watermark;
 
 pub use count::is_few;
-pub use entry::{Entry, Partition, Source};
+pub use entry::{Entry, Marked, Partition, Source};
 pub use input::Input;
 pub use late::{first_late, is_late_time};
 pub use watermark::greatest_watermark;

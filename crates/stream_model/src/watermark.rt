@@ -6,22 +6,19 @@ ghost use Rattle.std.specs.List.{fold};
 ghost use Rattle.stream_model.specs.Watermarks.{watermark_of_entry};
 ghost use Rattle.plain_data.specs.Times.{lowest};
 
-use crate::entry::Entry;
+use crate::entry::Marked;
 
-impl Entry {
+impl Marked {
     /// The watermark after the entry, from the one before it: no lower, and at least the entry's own.
     pub fn watermark_after(&self, before: i64) -> i64
         ensures { result ≡ int_max before (watermark_of_entry self.now) }
     {
-        match self {
-            Entry::Rows(_) => before,
-            Entry::Watermark(time) => before.max(*time),
-        }
+        before.max(self.mark)
     }
 }
 
-/// The greatest watermark among the entries, or the least i64 where they have none.
-pub fn greatest_watermark(entries: &[Entry]) -> i64
+/// The greatest watermark that the entries bring, or the least i64 where none brings one.
+pub fn greatest_watermark(entries: &[Marked]) -> i64
     ensures { result ≡ fold (λ w e. int_max w (watermark_of_entry e)) lowest entries.now }
 {
     let mut watermark = i64::MIN;

@@ -5,9 +5,7 @@ use Rattle.std.specs.Option.{option_map_or}
 use Rattle.std.specs.List.{AllByRecursion, range_with_len}
 use Rattle.std.proofs.lemmas.Bool.{cases_lt, cases_eq}
 use Rattle.std.proofs.lemmas.List.{get_or_default}
-use Rattle.plain_data.specs.Times.{lowest}
-use Rattle.stream_model.specs.declared.entry.Entry.TheVariants as entry
-use Rattle.stream_model.specs.InputData.{InputData, partition_at}
+use Rattle.stream_model.specs.InputData.{InputData, partition_at, no_entry}
 use Rattle.stream_model.specs.Watermarks.{IsCut}
 use Rattle.dataflow_model.specs.declared.role.Role.TheVariants.{Source, Window, Sink}
 use Rattle.dataflow_model.specs.Role.{is_source}
@@ -91,7 +89,7 @@ every_task_reads p c i n saves until stages t sound scaled compiled belongs cuts
             ];
       },
       record {
-        entry = λ q m f k h. ap message_of (get_or_default (partition_at i.sources x (slice_index mine q)) m (entry.Watermark lowest) f h);
-        brings = λ q m f k h. ap (λ y. brings y (suc m == length (partition_at i.sources x (slice_index mine q)))) (get_or_default (partition_at i.sources x (slice_index mine q)) m (entry.Watermark lowest) f h);
+        entry = λ q m f k h. ap (λ y. message_of y.entry) (get_or_default (partition_at i.sources x (slice_index mine q)) m no_entry f h);
+        brings = λ q m f k h. ap (λ y. brings y (suc m == length (partition_at i.sources x (slice_index mine q)))) (get_or_default (partition_at i.sources x (slice_index mine q)) m no_entry f h);
       },
     )

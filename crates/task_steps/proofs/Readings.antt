@@ -9,6 +9,7 @@ use Rattle.columns.specs.Parts.{with_rows}
 use Rattle.plan_model.specs.PlanData.{PlanData}
 use Rattle.plan_model.specs.Windows.{passes}
 use Rattle.stream_model.specs.declared.entry.Entry.{Entry}
+use Rattle.stream_model.specs.declared.entry.Marked.{Marked}
 use Rattle.stream_model.specs.declared.entry.Entry.TheVariants as entry
 use Rattle.stream_model.specs.InputData.{InputData, records_of_entry}
 use Rattle.dataflow_model.specs.declared.message.Message.{Message}
@@ -79,28 +80,28 @@ sent_of p k d c (entry.Rows t) st = routed p k d c t st
 sent_of p k d c (entry.Watermark t) st = refl
 
 -- the next entry at a source
-pub read_step : (p : PlanData) (k : AbstractTask) (d : TaskData) (number q : ℕ) (i : InputData) (e : Entry) (now : State) → Stands p k d → ReadsFrom k d.setup i → IsMine d number q
+pub read_step : (p : PlanData) (k : AbstractTask) (d : TaskData) (number q : ℕ) (i : InputData) (e : Marked) (now : State) → Stands p k d → ReadsFrom k d.setup i → IsMine d number q
     → slice_index d.state.offsets q < length (entries_at d.setup i q) → e ≡ get_or (entries_at d.setup i q) (slice_index d.state.offsets q) e
     → now ≡ record d.state {
       offsets = slice_set d.state.offsets q (suc (slice_index d.state.offsets q));
       inputs = with_mark d.state q (brings e (suc (slice_index d.state.offsets q) == length (entries_at d.setup i q)));
       cursor = next_cursor d.setup.outputs d.state.cursor (filter (passes d.setup.filters) (records_of_entry e));
-      pending = sends_of d.setup d.state.cursor e ++ announce d.setup.outputs (rise d.state.inputs.marks q (brings e (suc (slice_index d.state.offsets q) == length (entries_at d.setup i q))));
+      pending = sends_of d.setup d.state.cursor e.entry ++ announce d.setup.outputs (rise d.state.inputs.marks q (brings e (suc (slice_index d.state.offsets q) == length (entries_at d.setup i q))));
     } → LocalStep p k d.state (Read number) now
 read_step p k d number q i e now st from mine inside is made =
     let r = mine.can in
     let s = d.state in
     let n = slice_index s.offsets q in
     let last = suc n == length (entries_at d.setup i q) in
-    let message : k.entry q n ≡ message_of e = from.entry q n e r.partition inside ∙ ap message_of (sym is) in
+    let message : k.entry q n ≡ message_of e.entry = from.entry q n e r.partition inside ∙ ap (λ y. message_of y.entry) (sym is) in
     let t : k.brings q n ≡ brings e last = from.brings q n e r.partition inside ∙ ap (λ x. brings x last) (sym is) in
     let cursor : next_cursor k.outputs s.cursor (filter k.keeps (records_of (k.entry q n))) ≡ next_cursor d.setup.outputs s.cursor (filter (passes d.setup.filters) (records_of_entry e)) =
     (λ j. next_cursor (sym st.outputs j) s.cursor (filter k.keeps (records_of (message j))))
-    ∙ ap (λ l. next_cursor d.setup.outputs s.cursor (filter k.keeps l)) (records_of_message e)
+    ∙ ap (λ l. next_cursor d.setup.outputs s.cursor (filter k.keeps l)) (records_of_message e.entry)
     ∙ ap (next_cursor d.setup.outputs s.cursor) (filter_alike k.keeps (passes d.setup.filters) (records_of_entry e) st.keeps) in
-    let pending : route_of p.window.key k s.cursor (k.entry q n) ++ announce k.outputs (rise s.inputs.marks q (k.brings q n)) ≡ sends_of d.setup s.cursor e ++ announce d.setup.outputs (rise s.inputs.marks q (brings e last)) =
+    let pending : route_of p.window.key k s.cursor (k.entry q n) ++ announce k.outputs (rise s.inputs.marks q (k.brings q n)) ≡ sends_of d.setup s.cursor e.entry ++ announce d.setup.outputs (rise s.inputs.marks q (brings e last)) =
     (λ j. route_of p.window.key k s.cursor (message j) ++ announce (sym st.outputs j) (rise s.inputs.marks q (t j)))
-    ∙ ap (λ l. l ++ announce d.setup.outputs (rise s.inputs.marks q (brings e last))) (sent_of p k d s.cursor e st) in
+    ∙ ap (λ l. l ++ announce d.setup.outputs (rise s.inputs.marks q (brings e last))) (sent_of p k d s.cursor e.entry st) in
     let same : record s {
       offsets = slice_set s.offsets q (suc n);
       inputs = with_mark s q (k.brings q n);

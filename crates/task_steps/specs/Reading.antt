@@ -3,6 +3,7 @@ use Rattle.std.specs.Prelude.{◌≡◌, ℕ, suc, ◌<◌, ◌≤◌, ◌==◌,
 use Rattle.columns.specs.Parts.{with_rows}
 use Rattle.plan_model.specs.Windows.{passes}
 use Rattle.stream_model.specs.declared.entry.Entry.{Entry}
+use Rattle.stream_model.specs.declared.entry.Marked.{Marked}
 use Rattle.stream_model.specs.declared.entry.Entry.TheVariants as entry
 use Rattle.stream_model.specs.InputData.{InputData, partition_at}
 use Rattle.input_flow.specs.InputEntries.{message_of, brings}
@@ -14,7 +15,7 @@ use Rattle.task_steps.specs.TaskData.{TaskData, limit_at}
 use Rattle.task_steps.specs.Running.{IsRunning}
 
 -- the entries of the task's partition q
-abbrev pub entries_at : Setup → InputData → ℕ → List Entry
+abbrev pub entries_at : Setup → InputData → ℕ → List Marked
 entries_at s i q = partition_at i.sources s.source (slice_index s.partitions q)
 
 -- the input has the task's partitions, as far as they are to be read
@@ -26,8 +27,8 @@ pub record HasPartitions (s : Setup) (i : InputData) : Type 0 where
 
 -- task k reads these entries
 pub record ReadsFrom (k : AbstractTask) (s : Setup) (i : InputData) : Type 0 where
-  pub entry : (q n : ℕ) (d : Entry) → q < s.inputs → n < length (entries_at s i q) → k.entry q n ≡ message_of (slice_index_or (entries_at s i q) n d)
-  pub brings : (q n : ℕ) (d : Entry) → q < s.inputs → n < length (entries_at s i q) → k.brings q n ≡ brings (slice_index_or (entries_at s i q) n d) (suc n == length (entries_at s i q))
+  pub entry : (q n : ℕ) (d : Marked) → q < s.inputs → n < length (entries_at s i q) → k.entry q n ≡ message_of (slice_index_or (entries_at s i q) n d).entry
+  pub brings : (q n : ℕ) (d : Marked) → q < s.inputs → n < length (entries_at s i q) → k.brings q n ≡ brings (slice_index_or (entries_at s i q) n d) (suc n == length (entries_at s i q))
 
 -- what Read needs, as the code tests it
 pub record IsReadable (t : TaskData) (q : ℕ) : Type 0 where

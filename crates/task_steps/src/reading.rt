@@ -6,7 +6,7 @@ ghost use Rattle.std.specs.VecDeque.{deque_len, deque_capacity};
 ghost use Rattle.columns.specs.Parts.{with_rows};
 ghost use Rattle.plan_model.specs.Windows.{passes};
 ghost use Rattle.dataflow_model.specs.Routes as routes;
-ghost use Rattle.stream_model.specs.InputData.{records_of_entry, IsEntry};
+ghost use Rattle.stream_model.specs.InputData.{rows_in, IsEntryOf};
 ghost use Rattle.task_steps.specs.Sending.{IsSplit};
 ghost use Rattle.task_steps.specs.Reading.{sends_of};
 
@@ -60,9 +60,9 @@ pub(crate) fn send_entry(
     requires split { IsSplit setup.now.split setup.now.outputs }
     requires key { setup.now.key < setup.now.columns }
     requires filters { All (λ f. f.column < setup.now.columns) setup.now.filters }
-    requires entry { IsEntry setup.now.columns setup.now.time entry.now }
+    requires entry { IsEntryOf setup.now.columns setup.now.time entry.now }
     ensures pending { OnOk result (pending.new.items ≡ sends_of setup.now cursor.old entry.now) }
-    ensures turn { OnOk result (cursor.new ≡ routes.next_cursor setup.now.outputs cursor.old (filter (passes setup.now.filters) (records_of_entry entry.now))) }
+    ensures turn { OnOk result (cursor.new ≡ routes.next_cursor setup.now.outputs cursor.old (filter (passes setup.now.filters) (rows_in entry.now))) }
     ensures kept { OnErr result (pending.new.items ≡ pending.old.items) }
     ensures kept_turn { OnErr result (cursor.new ≡ cursor.old) }
     ensures capacity { deque_capacity pending.new ≡ deque_capacity pending.old }

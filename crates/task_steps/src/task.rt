@@ -584,16 +584,16 @@ impl Task {
         let _sources = input.sources();
         let count = input.entries(source, partition);
         let last = n + 1 == count;
-        let Some(entry) = input.entry(source, partition, n) else {
+        let Some(marked) = input.entry(source, partition, n) else {
             return Err(StepFault::NotEnabled);
         };
-        let t = brought(entry, last);
+        let t = brought(marked, last);
         match send_entry(
             self.alloc,
             &self.setup,
             &mut self.cursor,
             &mut self.pending,
-            entry,
+            &marked.entry,
         ) {
             Ok(()) => {
                 let low = self.inputs.watermark(q as usize, t);

@@ -40,7 +40,7 @@ fn is_quiet(partition: &Partition) -> bool {
     let mut marks = Marks::new();
     for entry in partition.as_slice() {
         marks.begin_entry();
-        if let Entry::Watermark(time) = entry {
+        if let Entry::Watermark(time) = &entry.entry {
             marks.see(Mark {
                 offset: 0,
                 time: *time,

@@ -63,4 +63,4 @@ complete -c streamjob -n '__fish_seen_subcommand_from diff' -F
 complete -c streamjob -n '__fish_seen_subcommand_from rows' -F
 complete -c streamjob -n '__fish_seen_subcommand_from show' -F
 complete -c streamjob -n '__fish_seen_subcommand_from group' -f
-complete -c streamjob -n '__fish_seen_subcommand_from explain' -f -a 'C1 C2 C3 D1 D2 F1 F2 P1 P2 P3 P4 P5 P6 P7 P8 P9 P10 P11 P12 P13 P14 P15 I1 I2 I3 I4 I5 I6 I7 I8 I9 I10 D3 D4 D5 D6 D7 D8 D9 D10 T1 T2 T3 S1 S2 S3 S4 S5 S6 S7 V1 V2 V3 V4 V5 Q1 Q2 Q3 Q4 Q5 Q6 Q7 Q8 Q9 Q11 Q12 R1 R2 R3 R4 R5 L1 L3 L4 L5 L6 L8 L7 memory'
+complete -c streamjob -n '__fish_seen_subcommand_from explain' -f -a 'C1 C2 C3 D1 D2 F1 F2 P1 P2 P3 P4 P5 P6 P7 P8 P9 P10 P11 P12 P13 P14 P15 P17 I1 I2 I3 I4 I5 I6 I7 I8 I9 I10 I12 D3 D4 D5 D6 D7 D8 D9 D10 T1 T2 T3 S1 S2 S3 S4 S5 S6 S7 V1 V2 V3 V4 V5 Q1 Q2 Q3 Q4 Q5 Q6 Q7 Q8 Q9 Q11 Q12 R1 R2 R3 R4 R5 L1 L3 L4 L5 L6 L8 L7 memory'

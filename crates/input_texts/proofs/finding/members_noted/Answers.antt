@@ -4,6 +4,7 @@ use Rattle.json.specs.Json.{read_key}
 use Rattle.json.proofs.Grammar.{read_key-shorter}
 use Rattle.json_tokens.proofs.Facts.{key_fails, member_fails, members_begin, members_go_on}
 use Rattle.serde_json.specs.Data.{no_members, put}
+use Rattle.input_texts.specs.Seen.{bound_under, noted_source}
 use Rattle.input_texts.proofs.Notings.{passed_on}
 use Rattle.input_texts.proofs.NotedMembers.{none_noted}
 use Rattle.input_texts.proofs.finding.members_noted.Goals as goal
@@ -26,7 +27,7 @@ members-preserved c =
     let less = read_key-shorter l.reader (Some k) s named in (
       put k source.0 i.0,
       members_go_on c.args.depth c.args.reader.now l.reader s r i.0 k source.0 i.1 named source.1 less c.in_ok-source.ensures.shorter,
-      c.in_ok-put_member.ensures.said i.0 source.0 i.2 source.2,
+      c.in_ok-put_member.ensures.said i.0 source.0 i.2 (source.2 ∙ ap (λ b. noted_source b c.args.plan.now source.0) (c.bound_of-bound.ensures.says ∙ ap (bound_under c.args.plan.now) c.as_bytes.ensures.value)),
     )
 
 pub returns-clause-said : goal.returns-clause-said

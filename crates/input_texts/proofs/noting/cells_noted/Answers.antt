@@ -41,7 +41,7 @@ returns-clause-said c =
     let late = c.is_late_time.ensures ∙ ap₂ is_late_time (to_z-of_z {w = w64} {z = c.args.watermark} c.ranges.watermark) time in (
       i.0,
       items_over cell_text c.args.depth c.args.reader.now l.reader c.take_end_array.new.self i.0 i.1 (grind arith),
-      λ o. record { met = record { is_wide = wide o; is_whole = i.3 o; is_sized = true; is_timely = timely o }; is_late = late o },
+      λ o. record { met = record { is_wide = wide o; is_whole = i.3 o; is_sized = true; is_timely = timely o; is_kind = true }; is_late = late o; greatest = Some (time o) },
     )
 
 pub returns-in_err-cell-clause-refused : goal.returns-in_err-cell-clause-refused

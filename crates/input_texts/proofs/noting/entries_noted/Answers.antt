@@ -10,7 +10,7 @@ use Rattle.input_texts.proofs.SourceNotings.{behind_more, behind_none, partition
 use Rattle.input_texts.proofs.noting.entries_noted.Goals as goal
 
 pub entries-init : goal.entries-init
-entries-init c = ([], items_begin (λ d. Some d) c.args.depth c.args.reader.now, refl, behind_none c.args.plan.now.columns c.args.plan.now.window.time _ refl, ap (λ m. Some (record { met = m; late = None; records = 0 })) c.nothing.ensures)
+entries-init c = ([], items_begin (λ d. Some d) c.args.depth c.args.reader.now, refl, behind_none c.args.bound c.args.plan.now.columns c.args.plan.now.window.time _ refl, ap (λ m. Some (record { met = m; late = None; records = 0 })) c.nothing.ensures)
 
 pub entries-preserved : goal.entries-preserved
 entries-preserved c =
@@ -27,8 +27,8 @@ entries-preserved c =
       i.0 ++ noted.0 ∷ [],
       items_next (λ d. Some d) c.args.depth c.args.reader.now l.reader r i.0 noted.0 i.1 said less,
       c.in_ok-place.ensures.said ∙ ap (λ n. n + 1) i.2 ∙ sym (length-append i.0 (noted.0 ∷ [])),
-      rw (to_z-of_z {w = w64} {z = c.watermark_behind-watermark.result} fits, c.watermark_behind-watermark.ensures) (behind_more plan.columns plan.window.time i.0 noted.0 c.in_ok-entry.entry (to_z w64 l.watermark-bits) i.3 noted.2),
-      c.in_ok-partition.ensures.said ∙ partition_noted plan.columns plan.window.time i.0 noted.0 l.partition c.in_ok-entry.entry (to_z w64 l.watermark-bits) l.place i.3 i.2 i.4 noted.2,
+      rw (to_z-of_z {w = w64} {z = c.watermark_behind-watermark.result} fits, c.watermark_behind-watermark.ensures) (behind_more c.args.bound plan.columns plan.window.time i.0 noted.0 c.in_ok-entry.entry (to_z w64 l.watermark-bits) i.3 noted.2),
+      c.in_ok-partition.ensures.said ∙ partition_noted c.args.bound plan.columns plan.window.time i.0 noted.0 l.partition c.in_ok-entry.entry (to_z w64 l.watermark-bits) l.place i.3 i.2 i.4 noted.2,
     )
 
 pub returns-clause-said : goal.returns-clause-said

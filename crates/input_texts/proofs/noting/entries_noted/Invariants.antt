@@ -9,7 +9,7 @@ use Rattle.input_texts.proofs.noting.entries_noted.Given as goal
 
 abbrev pub invariant-entries : goal.invariant-entries
 invariant-entries l =
-    (ds : List Data) × ItemsRead Some l.depth l.initial.reader ds l.reader × (l.place ≡ length ds) × IsBehind l.plan.columns l.plan.window.time l.watermark ds × (l.partition ≡ option_map (partition_seen l.plan.columns l.plan.window.time) (each entry_text ds))
+    (ds : List Data) × ItemsRead Some l.depth l.initial.reader ds l.reader × (l.place ≡ length ds) × IsBehind l.bound l.plan.columns l.plan.window.time l.watermark ds × (l.partition ≡ option_map (partition_seen l.bound l.plan.columns l.plan.window.time) (each entry_text ds))
 
 abbrev pub decreases-entries : goal.decreases-entries
 decreases-entries l = length l.reader

@@ -8,7 +8,7 @@ use Rattle.input_texts.proofs.Notings.{passed_on}
 use Rattle.input_texts.proofs.noting.members_noted.Goals as goal
 
 pub members-init : goal.members-init
-members-init c = (no_members, members_begin c.args.depth c.args.reader.now, none_passed c.args.plan.now.columns c.args.plan.now.window.time (to_z w64 (of_z w64 c.args.watermark)))
+members-init c = (no_members, members_begin c.args.depth c.args.reader.now, none_passed c.args.bound c.args.plan.now.columns c.args.plan.now.window.time (to_z w64 (of_z w64 c.args.watermark)))
 
 pub members-preserved : goal.members-preserved
 members-preserved c =
@@ -24,7 +24,7 @@ members-preserved c =
       put k noted.0 i.0,
       members_go_on c.args.depth c.args.reader.now l.reader s r i.0 k noted.0 i.1 named noted.1 less c.in_ok-member.ensures.shorter,
       rw (c.noted_as-entry.ensures, c.with_member-named.ensures, c.named_by-next.ensures)
-          (member_more plan.columns plan.window.time (to_z w64 (of_z w64 c.args.watermark)) l.named k noted.0 i.0 l.entry c.in_ok-member.member i.2 (rw c.named_by-next.ensures at noted.2)),
+          (member_more c.args.bound plan.columns plan.window.time (to_z w64 (of_z w64 c.args.watermark)) l.named k noted.0 i.0 l.entry c.in_ok-member.member i.2 (rw c.named_by-next.ensures at noted.2)),
     )
 
 pub returns-clause-said : goal.returns-clause-said

@@ -11,7 +11,7 @@ pub returns-then-not-is_open-clause-said : goal.returns-then-not-is_open-clause-
 returns-then-not-is_open-clause-said c =
     let plan = c.args.plan.now in
     let other = MatchBool-at_false _ _ c.if-not-is_open.true c.in_ok-is_open.ensures.opened in
-    other_entry plan.columns plan.window.time c.args.watermark c.args.depth c.args.reader.now c.open_object.new.reader other.0 other.1 other.2
+    other_entry c.args.bound plan.columns plan.window.time c.args.watermark c.args.depth c.args.reader.now c.open_object.new.reader other.0 other.1 other.2
 
 pub returns-clause-said : goal.returns-clause-said
 returns-clause-said c =

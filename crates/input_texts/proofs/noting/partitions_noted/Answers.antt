@@ -24,7 +24,7 @@ partitions-preserved c =
     let less : length r < length l.reader = rw (← kept) c.in_ok-partition.ensures.shorter in (
       i.0 ++ noted.0 ∷ [],
       items_next (λ d. Some d) c.args.depth c.args.reader.now l.reader r i.0 noted.0 i.1 said less,
-      c.in_ok-source.ensures.said ∙ source_noted plan.columns plan.window.time i.0 noted.0 l.source c.in_ok-partition.partition i.2 noted.2,
+      c.in_ok-source.ensures.said ∙ source_noted c.args.bound plan.columns plan.window.time i.0 noted.0 l.source c.in_ok-partition.partition i.2 noted.2,
     )
 
 pub returns-clause-said : goal.returns-clause-said

@@ -8,7 +8,7 @@ use Rattle.input_texts.proofs.noting.partitions_noted.Given as goal
 
 abbrev pub invariant-partitions : goal.invariant-partitions
 invariant-partitions l =
-    (ds : List Data) × ItemsRead Some l.depth l.initial.reader ds l.reader × (l.source ≡ option_map (source_seen l.plan.columns l.plan.window.time) (each (list_text entry_text) ds))
+    (ds : List Data) × ItemsRead Some l.depth l.initial.reader ds l.reader × (l.source ≡ option_map (source_seen l.bound l.plan.columns l.plan.window.time) (each (list_text entry_text) ds))
 
 abbrev pub decreases-partitions : goal.decreases-partitions
 decreases-partitions l = length l.reader

@@ -1,4 +1,4 @@
-use Rattle.std.proofs.Common.{◌≡◌, ◌<◌, false, ◌∷◌, ◌++◌, [], length, None, Some, refl, sym, ap, ◌+◌, ◌∙◌, to_z, of_z, to_z-of_z, w64, arith}
+use Rattle.std.proofs.Common.{◌≡◌, ◌<◌, false, ◌∷◌, ◌++◌, [], length, None, Some, refl, sym, ap, ◌+◌, ◌∙◌, to_z, of_z, to_z-of_z, w64, SFits, arith, rules}
 use Rattle.std.proofs.lemmas.List.{length-append}
 use Rattle.json.specs.Json.{after_end_array}
 use Rattle.serde_json.specs.Read.{converted}
@@ -6,12 +6,13 @@ use Rattle.json_parts.specs.Parts.{cell_text, each, list_text}
 use Rattle.json_tokens.specs.Ahead.{part}
 use Rattle.json_tokens.proofs.Facts.{items_begin, items_next, items_over, items_refused}
 use Rattle.json_tokens.specs.Passed.{Passes}
-use Rattle.input_texts.specs.Seen.{row_seen, rows_seen, with_row}
+use Rattle.std.specs.Int.{int_max}
+use Rattle.input_texts.specs.Seen.{brought, of_rows, row_seen, rows_seen, with_row}
 use Rattle.input_texts.proofs.Notings.{no_rows, noted_more, none_of, passed_on, rows_more, rows_over, rows_so_far}
 use Rattle.input_texts.proofs.noting.rows_noted.Goals as goal
 
 pub rows-init : goal.rows-init
-rows-init c = ([], items_begin (λ d. Some d) c.args.depth c.args.reader.now, refl, ap (λ m. Some (record { met = m; is_late = false })) c.nothing.ensures ∙ ap (λ s. Some s) (sym (no_rows c.args.plan.now.columns c.args.plan.now.window.time (to_z w64 (of_z w64 c.args.watermark)))))
+rows-init c = ([], items_begin (λ d. Some d) c.args.depth c.args.reader.now, refl, ap (λ m. Some (record { met = m; is_late = false; greatest = None })) c.nothing.ensures ∙ ap (λ s. Some s) (sym (no_rows c.args.plan.now.columns c.args.plan.now.window.time (to_z w64 (of_z w64 c.args.watermark)))))
 
 pub rows-preserved : goal.rows-preserved
 rows-preserved c =
@@ -41,7 +42,7 @@ returns-in_default-clause-said c =
     let w = to_z w64 (of_z w64 c.args.watermark) in (
       i.0,
       items_over (λ d. Some d) c.args.depth c.args.reader.now l.reader c.take_end_array.new.self i.0 i.1 (grind arith),
-      none_of (rows_so_far plan.columns plan.window.time w) (rows_seen plan.columns plan.window.time c.args.watermark) (each (list_text cell_text) i.0) (sym i.3 ∙ c.in_default.is),
+      none_of (rows_so_far plan.columns plan.window.time w) (rows_seen c.args.bound plan.columns plan.window.time c.args.watermark) (each (list_text cell_text) i.0) (sym i.3 ∙ c.in_default.is),
     )
 
 pub returns-clause-said : goal.returns-clause-said
@@ -49,11 +50,16 @@ returns-clause-said c =
     let l = c.rows in
     let i = l.invariant in
     let plan = c.args.plan.now in
-    let said = rw (to_z-of_z {w = w64} {z = c.args.watermark} c.ranges.watermark) at i.3 in
-    let of = rw (to_z-of_z {w = w64} {z = c.args.watermark} c.ranges.watermark) at c.entry_of_rows.ensures in (
+    let w = c.args.watermark in
+    let all = c.in-Some.rows in
+    let same = to_z-of_z {w = w64} {z = w} c.ranges.watermark in
+    let said = rw same at i.3 in
+    let fits : SFits w64 c.watermark_after-behind.result = search rules in
+    let behind = to_z-of_z {w = w64} {z = c.watermark_after-behind.result} fits ∙ c.watermark_after-behind.ensures ∙ ap (λ v. int_max v (brought c.args.bound all.greatest)) same in
+    let of = c.entry_of_rows.ensures ∙ ap (of_rows all l.count) behind in (
       i.0,
       items_over (λ d. Some d) c.args.depth c.args.reader.now l.reader c.take_end_array.new.self i.0 i.1 (grind arith),
-      ap (λ s. Some s) of ∙ rows_over plan.columns plan.window.time c.args.watermark l.count i.0 c.in-Some.rows c.ranges.watermark i.2 (sym c.in-Some.is ∙ said),
+      ap (λ s. Some s) of ∙ rows_over plan.columns plan.window.time w c.args.bound l.count i.0 all i.2 (sym c.in-Some.is ∙ said),
     )
 
 pub returns-in_err-row-clause-refused : goal.returns-in_err-row-clause-refused

@@ -12,4 +12,4 @@ returns-in_err-whole c = rw (source_text, ← c.if-not-has_only.ensures, c.in_ok
 
 pub returns : goal.returns
 unfolding source_text
-returns c = rw (source_text, ← c.if-not-has_only.ensures, c.in_ok-uid.ensures, c.in_ok-whole.ensures) (search rules)
+returns c = rw (source_text, ← c.if-not-has_only.ensures, c.in_ok-uid.ensures, c.in_ok-whole.ensures, c.in_ok-bound_in.ensures) (search rules)

@@ -1,7 +1,7 @@
 use Rattle.std.specs.Prelude.{codes}
 use Rattle.std.proofs.Common.{ℕ, List, ◌++◌, map, subst}
 use Rattle.std.proofs.lemmas.Result.{on_ok_weaker}
-use Rattle.input_parts.specs.Parts.{is_in_part, entries_kept}
+use Rattle.input_parts.specs.Parts.{is_in_part, entries_left}
 use Rattle.part_texts.specs.InputTexts.{partitions_text}
 use Rattle.part_texts.specs.PartTexts.{Each, with_words}
 use Rattle.part_texts.proofs.Steps.{words_more, then_more}
@@ -11,7 +11,7 @@ pub returns : goal.returns
 returns c =
     let keep = is_in_part c.args.plan.now c.args.parts in
     let uid = c.args.spec.now.uid in
-    let parts : ℕ → List ℕ = λ i. partitions_text (map (entries_kept (keep i)) c.args.partitions.now) in
+    let parts : ℕ → List ℕ = λ i. partitions_text (map (entries_left (keep i)) c.args.partitions.now) in
     let a = c.args.texts.now in
     let b = c.push_all.new.texts in
     let d = c.push_all-2.new.texts in

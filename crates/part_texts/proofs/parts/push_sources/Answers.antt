@@ -5,8 +5,8 @@ use Rattle.std.proofs.lemmas.Option.{slice_get-get_or}
 use Rattle.std.proofs.lemmas.Slice.Zip.{get_or-zip, length-zip}
 use Rattle.std.proofs.lemmas.Simd.{map-map}
 use Rattle.plan_model.specs.declared.spec.SourceSpec.{SourceSpec}
-use Rattle.stream_model.specs.declared.entry.Entry.{Entry}
-use Rattle.input_parts.specs.Parts.{is_in_part, entries_kept}
+use Rattle.stream_model.specs.declared.entry.Marked.{Marked}
+use Rattle.input_parts.specs.Parts.{is_in_part, entries_left}
 use Rattle.part_texts.specs.InputTexts.{source_text, sources_text}
 use Rattle.part_texts.specs.PartTexts.{Grow}
 use Rattle.part_texts.proofs.Steps.{nothing_grown, part_grown, grow_is}
@@ -34,9 +34,9 @@ loop-place-preserved c =
     let y = c.index-sources-place.result in
     let found : get_or (zip specs sources) place (x, y) ≡ (x, y) = get_or-zip specs sources place (x, y) short long ∙ ap (λ s. (s, get_or sources place y)) (sym c.index-specs-place.is) ∙ ap (λ e. (x, e)) (sym c.index-sources-place.is) in
     let at : slice_get (zip specs sources) place ≡ Some (x, y) = slice_get-get_or (zip specs sources) place (x, y) within ∙ ap (λ z. Some z) found in
-    let step : Grow (λ i. source_text (x, map (entries_kept (keep i)) y)) c.separate_all.new.texts c.push_source.new.texts =
-    subst (λ (ps : List (List Entry)). Grow (λ i. source_text (x, map (entries_kept (keep i)) ps)) c.separate_all.new.texts c.push_source.new.texts) c.as_slice.ensures c.in_ok-push_source.ensures in
-    part_grown (λ i (s : SourceSpec × List (List Entry)). source_text (s.0, map (entries_kept (keep i)) s.1)) (zip specs sources) place (x, y) c.args.texts.now c.loop-place.texts c.separate_all.new.texts c.push_source.new.texts
+    let step : Grow (λ i. source_text (x, map (entries_left (keep i)) y)) c.separate_all.new.texts c.push_source.new.texts =
+    subst (λ (ps : List (List Marked)). Grow (λ i. source_text (x, map (entries_left (keep i)) ps)) c.separate_all.new.texts c.push_source.new.texts) c.as_slice.ensures c.in_ok-push_source.ensures in
+    part_grown (λ i (s : SourceSpec × List (List Marked)). source_text (s.0, map (entries_left (keep i)) s.1)) (zip specs sources) place (x, y) c.args.texts.now c.loop-place.texts c.separate_all.new.texts c.push_source.new.texts
     at c.loop-place.invariant c.in_ok-separate_all.ensures step
 
 pub returns : goal.returns
@@ -46,9 +46,9 @@ returns c =
     let sources = c.args.sources.now in
     let pairs = zip specs sources in
     let all : length pairs ≤ c.loop-place.place = omega (arith, c.loop-place-test.false, length-zip specs sources) in
-    grow_is (λ i. join_with_byte 44 (map (λ (s : SourceSpec × List (List Entry)). source_text (s.0, map (entries_kept (keep i)) s.1)) (take c.loop-place.place pairs)))
-    (λ i. sources_text (zip specs (map (map (entries_kept (keep i))) sources))) c.args.texts.now c.loop-place.texts
-    (λ i. ap (λ ps. join_with_byte 44 (map (λ (s : SourceSpec × List (List Entry)). source_text (s.0, map (entries_kept (keep i)) s.1)) ps)) (take_all c.loop-place.place pairs all)
-    ∙ ap (join_with_byte 44) (sym (map-map source_text (λ (s : SourceSpec × List (List Entry)). (s.0, map (entries_kept (keep i)) s.1)) pairs))
-    ∙ ap sources_text (sym (zip_map (map (entries_kept (keep i))) specs sources)))
+    grow_is (λ i. join_with_byte 44 (map (λ (s : SourceSpec × List (List Marked)). source_text (s.0, map (entries_left (keep i)) s.1)) (take c.loop-place.place pairs)))
+    (λ i. sources_text (zip specs (map (map (entries_left (keep i))) sources))) c.args.texts.now c.loop-place.texts
+    (λ i. ap (λ ps. join_with_byte 44 (map (λ (s : SourceSpec × List (List Marked)). source_text (s.0, map (entries_left (keep i)) s.1)) ps)) (take_all c.loop-place.place pairs all)
+    ∙ ap (join_with_byte 44) (sym (map-map source_text (λ (s : SourceSpec × List (List Marked)). (s.0, map (entries_left (keep i)) s.1)) pairs))
+    ∙ ap sources_text (sym (zip_map (map (entries_left (keep i))) specs sources)))
     c.loop-place.invariant

@@ -1,15 +1,15 @@
 use Rattle.std.proofs.Common.{ℕ, ◌≤◌, List, take, length, get_or, refl, ap, ◌∙◌, arith}
 use Rattle.std.proofs.lemmas.Slice.Zip.{AllZip-long}
-use Rattle.stream_model.specs.declared.entry.Entry.{Entry}
+use Rattle.stream_model.specs.declared.entry.Marked.{Marked}
 use Rattle.input_changes.specs.Agreement.{entries_before_in}
 use Rattle.receipts.specs.Read.{was_read_of}
 use Rattle.receipts.proofs.Zipped.{IsZip, at_each, made_more, made_all}
 use Rattle.receipts.proofs.digests.source_read.Goals as goal
 
-abbrev Within : List Entry → ℕ → Type 0
+abbrev Within : List Marked → ℕ → Type 0
 Within entries n = n ≤ length entries
 
-abbrev first : List Entry → ℕ → List Entry
+abbrev first : List Marked → ℕ → List Marked
 first entries n = take n entries
 
 is_zip : IsZip first entries_before_in

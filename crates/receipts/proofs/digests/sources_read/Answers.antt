@@ -1,13 +1,13 @@
 use Rattle.std.proofs.Common.{ℕ, ◌≤◌, List, map, length, get_or, refl, sym, subst, ap, ◌∙◌, arith}
 use Rattle.std.specs.List.{AllZip}
 use Rattle.std.proofs.lemmas.Slice.Zip.{AllZip-long}
-use Rattle.stream_model.specs.declared.entry.Entry.{Entry}
+use Rattle.stream_model.specs.declared.entry.Marked.{Marked}
 use Rattle.input_changes.specs.Agreement.{entries_before, entries_before_in}
 use Rattle.receipts.specs.Read.{was_read_of}
 use Rattle.receipts.proofs.Zipped.{IsZip, at_each, made_more, made_all}
 use Rattle.receipts.proofs.digests.sources_read.Goals as goal
 
-abbrev Within : List (List Entry) → List ℕ → Type 0
+abbrev Within : List (List Marked) → List ℕ → Type 0
 Within partitions counts = AllZip (λ p n. n ≤ length p) partitions counts
 
 is_zip : IsZip entries_before_in entries_before

@@ -9,7 +9,7 @@ use Rattle.stream_input.proofs.reading.orderly.Goals as goal
 
 pub first_late-requires-clause-sound : goal.first_late-requires-clause-sound
 first_late-requires-clause-sound c =
-    rw (c.columns-columns.ensures.says, c.window.ensures.says, c.as_slice.ensures, c.requires.1.1) (sources_sound c.args.plan.now c.requires.0 c.requires.1.0.timely)
+    rw (c.columns-columns.ensures.says, c.window.ensures.says, c.as_slice.ensures, c.requires.1.1) (sources_sound c.args.plan.now c.requires.0 c.columns-columns.ensures.sound c.requires.1.0.timely)
 
 pub first_late-requires-clause-sources_few : goal.first_late-requires-clause-sources_few
 first_late-requires-clause-sources_few c = rw (c.as_slice.ensures, c.requires.1.1) (sources_few c.args.plan.now c.requires.0 c.columns-columns.ensures.sound)

@@ -11,6 +11,10 @@ pub sources_of-requires-clause-sized : goal.sources_of-requires-clause-sized
 sources_of-requires-clause-sized c =
     rw c.as_slice.ensures (faultless c.args.plan.now c.args.bytes.now c.in_ok-text.text c.in_ok-check_bytes.ensures c.in_ok-text.ensures).sized
 
+pub sources_of-requires-clause-timely : goal.sources_of-requires-clause-timely
+sources_of-requires-clause-timely c =
+    rw c.as_slice.ensures (faultless c.args.plan.now c.args.bytes.now c.in_ok-text.text c.in_ok-check_bytes.ensures c.in_ok-text.ensures).timely
+
 pub returns : goal.returns
 returns c =
     let plan = c.args.plan.now in

@@ -2,18 +2,18 @@ use Rattle.std.proofs.Common.{◌≡◌, ◌-◌, ◌<◌, length, Some, sym, ap
 use Rattle.json_parts.specs.Parts.{list_text}
 use Rattle.json_tokens.specs.Ahead.{part}
 use Rattle.json_tokens.proofs.Facts.{ItemsRead, list_opens, items_begin, items_next, items_over}
-use Rattle.stream_input.specs.Fit.{fit_entry}
+use Rattle.stream_input.specs.Fit.{own_entry}
 use Rattle.stream_input.proofs.tokens.next_partition.Goals as goal
 
 pub entries-init : goal.entries-init
 entries-init c =
-    let f = fit_entry c.args.plan.now.columns c.args.plan.now.window.time in
+    let f = own_entry c.args.bound c.args.plan.now.columns c.args.plan.now.window.time in
     let start = c.open_list.new.self in
     subst (λ xs. ItemsRead f (c.args.depth - 1) start xs start) (sym c.new-entries.ensures.items) (items_begin f (c.args.depth - 1) start)
 
 pub entries-preserved : goal.entries-preserved
 entries-preserved c =
-    let f = fit_entry c.args.plan.now.columns c.args.plan.now.window.time in
+    let f = own_entry c.args.bound c.args.plan.now.columns c.args.plan.now.window.time in
     let l = c.entries in
     let x = c.in_ok-entry.entry in
     let r = c.next_entry.new.reader in
@@ -25,7 +25,7 @@ entries-preserved c =
 
 pub returns-clause-said : goal.returns-clause-said
 returns-clause-said c =
-    let f = fit_entry c.args.plan.now.columns c.args.plan.now.window.time in
+    let f = own_entry c.args.bound c.args.plan.now.columns c.args.plan.now.window.time in
     let l = c.entries in
     let start = c.open_list.new.self in
     rw c.from_vec.ensures

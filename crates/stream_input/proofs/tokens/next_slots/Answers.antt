@@ -6,7 +6,8 @@ use Rattle.serde_json.specs.Data.{no_members, put}
 use Rattle.serde_json.specs.Read.{of_json, converted}
 use Rattle.json_tokens.proofs.Facts.{converted_some}
 use Rattle.json_tokens.proofs.Facts.{members_begin, members_go_on, members_over}
-use Rattle.stream_input.specs.Fit.{fit_entry, IsSlots}
+use Rattle.stream_input.specs.Fit.{own_entry, IsSlots}
+use Rattle.input_texts.specs.Seen.{bound_under}
 use Rattle.stream_input.proofs.FitSources.{no_members_yet, member_put}
 use Rattle.stream_input.proofs.tokens.next_slots.Goals as goal
 
@@ -26,7 +27,9 @@ members-preserved c =
     let s = c.next_key.new.self in
     let r = c.next_source.new.reader in
     let named : read_key l.reader ≡ Some (Some k, s) = grind arith in
-    let d = converted_some (list_text (list_text (fit_entry plan.columns plan.window.time))) (converted of_json (value depth s)) c.in_ok-source.source r c.in_ok-source.ensures.said in
+    let bound = c.bound_of-bound.ensures.says in
+    let said = rw bound at c.in_ok-source.ensures.said in
+    let d = converted_some (list_text (list_text (own_entry (bound_under plan k) plan.columns plan.window.time))) (converted of_json (value depth s)) c.in_ok-source.source r said in
     let less = read_key-shorter l.reader (Some k) s named in
     let found = rw c.sources-specs.ensures.says at (sym c.in-Some-place_of.ensures) in (
       put k d.0 l.invariant.0,

@@ -2,18 +2,18 @@ use Rattle.std.proofs.Common.{◌≡◌, ◌-◌, ◌<◌, length, Some, sym, ap
 use Rattle.json_parts.specs.Parts.{list_text}
 use Rattle.json_tokens.specs.Ahead.{part}
 use Rattle.json_tokens.proofs.Facts.{ItemsRead, list_opens, items_begin, items_next, items_over}
-use Rattle.stream_input.specs.Fit.{fit_entry}
+use Rattle.stream_input.specs.Fit.{own_entry}
 use Rattle.stream_input.proofs.tokens.next_source.Goals as goal
 
 pub partitions-init : goal.partitions-init
 partitions-init c =
-    let f = list_text (fit_entry c.args.plan.now.columns c.args.plan.now.window.time) in
+    let f = list_text (own_entry c.args.bound c.args.plan.now.columns c.args.plan.now.window.time) in
     let start = c.open_list.new.self in
     subst (λ xs. ItemsRead f (c.args.depth - 1) start xs start) (sym c.new-partitions.ensures.items) (items_begin f (c.args.depth - 1) start)
 
 pub partitions-preserved : goal.partitions-preserved
 partitions-preserved c =
-    let f = list_text (fit_entry c.args.plan.now.columns c.args.plan.now.window.time) in
+    let f = list_text (own_entry c.args.bound c.args.plan.now.columns c.args.plan.now.window.time) in
     let l = c.partitions in
     let x = c.in_ok-partition.partition in
     let r = c.next_partition.new.reader in
@@ -25,7 +25,7 @@ partitions-preserved c =
 
 pub returns-clause-said : goal.returns-clause-said
 returns-clause-said c =
-    let f = list_text (fit_entry c.args.plan.now.columns c.args.plan.now.window.time) in
+    let f = list_text (own_entry c.args.bound c.args.plan.now.columns c.args.plan.now.window.time) in
     let l = c.partitions in
     let start = c.open_list.new.self in
     rw c.from_vec.ensures

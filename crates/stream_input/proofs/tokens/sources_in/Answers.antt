@@ -15,4 +15,4 @@ returns c =
     let first : c.new-reader.result ≡ tokens c.args.text.now = c.new-reader.ensures ∙ ap tokens c.as_bytes.ensures.value in
     let whole = ap (λ ts. converted of_json (value 127 ts)) (sym first) ∙ told.1 ∙ ap (λ r. Some (object told.0, r)) c.in_ok-end.ensures in
     let counted = rw (c.deref.ensures.value, c.sources.ensures.says) at (sym c.have_counts.ensures ∙ c.if-not-have_counts.false) in
-    rw c.from_vec.ensures (all_fit plan told.0 c.in_ok-slots.slots.items sources c.args.text.now (text_read c.args.text.now (object told.0) whole) told.2 c.in_ok-sources.ensures counted)
+    rw c.from_vec.ensures (all_fit plan told.0 c.in_ok-slots.slots.items sources c.args.text.now c.sources.ensures.sound (text_read c.args.text.now (object told.0) whole) told.2 c.in_ok-sources.ensures counted)

@@ -1,6 +1,6 @@
 use Rattle.std.proofs.Common.{◌≡◌, ℕ, List, map, length, drop, refl, sym, ap, subst, arith, ◌∙◌}
 use Rattle.std.proofs.lemmas.List.{take_at, length-map}
-use Rattle.stream_model.specs.declared.entry.Entry.{Entry}
+use Rattle.stream_model.specs.declared.entry.Marked.{Marked}
 use Rattle.dataflow_model.specs.Leg.{Until}
 use Rattle.legs.specs.declared.cut.Cut.{Cut}
 use Rattle.legs.specs.Stops.{counts_of, until_in}
@@ -19,7 +19,7 @@ use Rattle.thread_runner.proofs.LegLemmas.{wired_jobs}
 use Rattle.thread_runner.proofs.leg.prepared.Goals as goal
 
 -- the leg's savepoints are those that were given
-saves_of : (sources : List (List (List Entry))) (begin : List (List ℕ)) (cuts given : List Cut) (until : Until) → cuts ≡ given → CanSaveAt sources begin (counts_of cuts) until → CanSaveAt sources begin (counts_of given) until
+saves_of : (sources : List (List (List Marked))) (begin : List (List ℕ)) (cuts given : List Cut) (until : Until) → cuts ≡ given → CanSaveAt sources begin (counts_of cuts) until → CanSaveAt sources begin (counts_of given) until
 saves_of sources begin cuts given until same can = subst (λ cs. CanSaveAt sources begin (counts_of cs) until) same can
 
 pub wire-requires-clause-edges : goal.wire-requires-clause-edges

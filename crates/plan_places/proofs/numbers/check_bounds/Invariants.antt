@@ -1,0 +1,5 @@
+use Rattle.place_notes.specs.Notes.{TellsMore}
+use Rattle.plan_places.proofs.numbers.check_bounds.Given as goal
+
+abbrev pub invariant-loop-i : goal.invariant-loop-i
+invariant-loop-i l = TellsMore l.fn.notes l.notes
