@@ -5,7 +5,7 @@ import itertools
 from . import receipts
 from .jobs import (
     LEAST, Refusal, SINK, ends_of, leg_with_saves, level_stages, nothing_of, read_cut, read_cuts, read_input, read_legs, read_plan, read_scale, read_time, require,
-    require_choices, require_saves, require_stop, text_of, watermark_at,
+    mark_of, require_choices, require_saves, require_stop, text_of, watermark_at,
 )
 from .savepoints import check, decode, encode, savepoint_of
 
@@ -145,8 +145,7 @@ def extent(plan, uid, place, entries):
     """The words of the line of a partition."""
     times = [record[plan.time] for entry in entries for record in entry.get("rows", [])]
     ends = [min(times), max(times)] if times else ["-", "-"]
-    marks = [entry["watermark"] for entry in entries if "watermark" in entry]
-    return ["source", uid, place, len(entries), len(times), *ends, max(marks, default=LEAST)]
+    return ["source", uid, place, len(entries), len(times), *ends, max(map(mark_of, entries), default=LEAST)]
 
 
 def layout(files, plan, scale):

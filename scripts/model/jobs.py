@@ -104,10 +104,11 @@ IS_WINDOW = members(
     {"uid": is_text, "size": is_number, "aggregates": list_of(IS_AGGREGATE)},
     {"slide": is_number, "offset": is_number, "having": list_of(IS_HAVING)},
 )
+IS_SOURCE = members({"uid": is_text, "partitions": is_number}, {"watermarks": members({"bound": is_number})})
 IS_PLAN = members(
     {
         "columns": is_number, "maxParallelism": is_number, "time": is_number, "key": is_number, "window": IS_WINDOW,
-        "sources": list_of(members({"uid": is_text, "partitions": is_number})),
+        "sources": list_of(IS_SOURCE),
     },
     {"filters": list_of(IS_FILTER)},
 )
@@ -129,6 +130,7 @@ class Plan:
     time: int
     key: int
     sources: list  # of (uid, number of partitions)
+    bounds: dict  # of the sources that make their own watermarks, by uid
     filters: list  # of (uid, column, op, value)
     uid: str  # the window's
     size: int
@@ -170,6 +172,9 @@ class Plan:
         parts += [bytes([len(filters)])] + [struct.pack(">BBq", *condition) for condition in filters]
         parts += [bytes([len(self.aggregates)])] + [bytes([KINDS.index(kind), column]) for kind, column in self.aggregates]
         parts += [bytes([len(having)])] + [struct.pack(">BBq", *condition) for condition in having]
+        bounds = [(place, self.bounds[uid.decode()]) for place, uid in enumerate(uids) if uid.decode() in self.bounds]
+        if bounds:
+            parts += [bytes([len(bounds)])] + [struct.pack(">Bq", *bound) for bound in bounds]
         return b"".join(parts)
 
 
@@ -201,9 +206,11 @@ def read_plan(data):
     require(size <= 256 * slide, "P14 Panes")
     require(1 <= len(aggregates) <= 8, "P15 Aggregates")
     require(all(0 <= part["aggregate"] < len(aggregates) for part in having), "P15 Aggregates")
+    bounds = {source["uid"]: source["watermarks"]["bound"] for source in sources if "watermarks" in source}
+    require(all(0 <= bound <= 2**40 for bound in bounds.values()), "P17 Bound")
     return Plan(
         columns, value["maxParallelism"], value["time"], value["key"],
-        [(source["uid"], source["partitions"]) for source in sources],
+        [(source["uid"], source["partitions"]) for source in sources], bounds,
         [(part["uid"], part["column"], part["op"], part["value"]) for part in filters],
         window["uid"], size, slide, offset,
         [(part["fn"], part.get("column", 0)) for part in aggregates],
@@ -219,11 +226,21 @@ def entries_of(sources):
                 yield x, p, n, entry
 
 
+def mark_of(entry):
+    """The watermark that an entry of an input that was read brings."""
+    return entry.get("mark", entry.get("watermark", LEAST))
+
+
 def watermark_at(entries, count):
     """A partition's watermark after so many of its entries."""
-    if count == len(entries):
-        return GREATEST
-    return max((entry["watermark"] for entry in entries[:count] if "watermark" in entry), default=LEAST)
+    return GREATEST if count == len(entries) else max(map(mark_of, entries[:count]), default=LEAST)
+
+
+def marked(plan, uid, partitions):
+    """The partitions of a source, where it makes its own watermarks with the one that each entry brings."""
+    if uid not in plan.bounds:
+        return partitions
+    return [[{**entry, "mark": max(record[plan.time] for record in entry["rows"]) - plan.bounds[uid] - 1} for entry in entries] for entries in partitions]
 
 
 @functools.lru_cache(maxsize=8)
@@ -242,12 +259,14 @@ def read_input(plan, data):
     require(all(1 <= len(entry.get("rows", [0])) <= 4096 for entry in entries), "I7 Rows")
     times = watermarks + [record[plan.time] for record in records]
     require(all(LEAST_TIME <= time <= GREATEST_TIME for time in times), "I8 TimeRange")
+    require(not any("watermark" in entry for uid in plan.bounds for entries in value[uid] for entry in entries), "I12 Kind")
+    sources = [marked(plan, uid, partitions) for (uid, _), partitions in zip(plan.sources, sources)]
     before = LEAST
     for x, p, n, entry in entries_of(sources):
         before = before if n > 0 else LEAST
         is_late = any(record[plan.time] <= before for record in entry.get("rows", []))
         require(not is_late, f"I9 LateRecord {x} {p} {n}")
-        before = max(before, entry.get("watermark", LEAST))
+        before = max(before, mark_of(entry))
     return sources
 
 

@@ -13,8 +13,13 @@ def counted(count, data):
     return {"count": count, "sha256": hashlib.sha256(data).hexdigest()}
 
 
+def line_of(entry):
+    """The text of an entry, as it stands in the input."""
+    return json.dumps({name: part for name, part in entry.items() if name != "mark"}, separators=(",", ":")).encode() + b"\n"
+
+
 def was_read(entries):
-    return counted(len(entries), b"".join(json.dumps(entry, separators=(",", ":")).encode() + b"\n" for entry in entries))
+    return counted(len(entries), b"".join(map(line_of, entries)))
 
 
 def read_before(plan, sources, cut):

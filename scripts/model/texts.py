@@ -12,7 +12,7 @@ NUMBERS = [
 VALUES = [None, True, False, [], {}, [[]], "", "x", "count", "sum", "eq", "A", "a b", "a" * 64, "a" * 65, "ä"]
 # What conditions compare with, so that most hold now and then.
 BOUNDS = {"ge": [-6, 0, 1, 2], "gt": [-6, 0, 1], "le": [2, 30, GREATEST], "lt": [3, 20, GREATEST], "ne": [0, 1, 2], "eq": [0, 1]}
-NAMES = ["uid", "column", "value", "rows", "watermark", "slide", "having", "filters", "chain", "parallelism", "x"]
+NAMES = ["uid", "column", "value", "rows", "watermark", "watermarks", "bound", "slide", "having", "filters", "chain", "parallelism", "x"]
 
 
 def small(chance):
@@ -56,7 +56,7 @@ def plan(chance):
     having = [{"aggregate": chance.randrange(len(aggregates)), **condition()} for _ in range(chance.choice([0, 0, 0, 0, 1, 2]))]
     made = {
         "columns": columns, "maxParallelism": chance.choice([1, 2, 5, 64, 100, 128, 128, 32768]), "time": column(), "key": column(),
-        "sources": [{"uid": uid, "partitions": few(chance, 4)} for uid in names[:sources]],
+        "sources": [source(chance, uid) for uid in names[:sources]],
         "window": {"uid": name, **times(chance), "aggregates": aggregates},
     }
     if filters or chance.random() < 0.2:
@@ -64,6 +64,12 @@ def plan(chance):
     if having:
         made["window"]["having"] = having
     return made
+
+
+def source(chance, uid):
+    """A source, one in three of which makes its own watermarks."""
+    made = {"uid": uid, "partitions": few(chance, 4)}
+    return made | {"watermarks": {"bound": chance.choice([0, 1, 2, 5, 12, 2**40])}} if chance.random() < 0.35 else made
 
 
 def times(chance):
@@ -78,17 +84,29 @@ def times(chance):
     return made
 
 
-def partition(chance, plan, base):
+def bounds_of(plan):
+    """The bound of each source, by its uid: None where its watermarks stand in the input."""
+    return {part["uid"]: part.get("watermarks", {}).get("bound") for part in plan["sources"]}
+
+
+def mark_of(plan, bound, entry):
+    """The watermark that an entry of a source brings."""
+    if bound is None or "rows" not in entry:
+        return entry.get("watermark", LEAST)
+    return max(record[plan["time"]] for record in entry["rows"]) - bound - 1
+
+
+def partition(chance, plan, base, bound):
     """Entries whose times go up from a base, and are above the watermarks before them."""
-    return entries_behind(chance, plan, base, LEAST_TIME - 1, chance.choice([0, 1, 2, 4, 4, 6]))
+    return entries_behind(chance, plan, base, bound, LEAST_TIME - 1, chance.choice([0, 1, 2, 4, 4, 6]))
 
 
-def entries_behind(chance, plan, base, least, count):
+def entries_behind(chance, plan, base, bound, least, count):
     """So many entries whose times go up from a base, and are above a watermark and those before them."""
     entries, now = [], base
     for _ in range(count):
         now = min(now + chance.randint(0, 15), GREATEST_TIME)
-        if chance.random() < 0.45:
+        if bound is None and chance.random() < 0.45:
             watermark = min(max(now + chance.randint(-9, 3), LEAST_TIME), GREATEST_TIME - 1)
             entries.append({"watermark": watermark})
             least = max(least, watermark)
@@ -98,13 +116,15 @@ def entries_behind(chance, plan, base, least, count):
             row[plan["key"]] = chance.choice([0, 1, 2, row[plan["key"]]])
             row[plan["time"]] = min(max(now + chance.randint(-12, 12), least + 1), GREATEST_TIME)
         entries.append({"rows": rows})
+        least = max(least, mark_of(plan, bound, entries[-1]))
     return entries
 
 
 def input_of(chance, plan):
     base = chance.choice([0, 0, 0, 0, 0, 0, LEAST_TIME, GREATEST_TIME - 30])
+    bounds = bounds_of(plan)
     return {
-        source["uid"]: [partition(chance, plan, base) for _ in range(source["partitions"])] for source in plan["sources"]
+        source["uid"]: [partition(chance, plan, base, bounds[source["uid"]]) for _ in range(source["partitions"])] for source in plan["sources"]
     }
 
 
@@ -126,7 +146,7 @@ def cut_of(chance, sources, least):
     behind = chance.random() < 0.7
 
     def count(entries, least):
-        marks = [n + 1 for n, entry in enumerate(entries) if "watermark" in entry and n >= least]
+        marks = [n + 1 for n, entry in enumerate(entries) if ("watermark" in entry or "mark" in entry) and n >= least]
         if behind:
             return chance.choice([*marks[-2:], len(entries)])
         return chance.choice([least, len(entries), chance.randint(least, len(entries))])
@@ -155,11 +175,11 @@ def put_right(chance, plan, entry):
     return entry
 
 
-def gone_on(chance, plan, entries):
+def gone_on(chance, plan, bound, entries):
     """The entries of a partition and some more, at least one."""
-    least = max([entry["watermark"] for entry in entries if "watermark" in entry], default=LEAST_TIME - 1)
+    least = max([LEAST_TIME - 1, *(mark_of(plan, bound, entry) for entry in entries)])
     times = [record[plan["time"]] for entry in entries for record in entry.get("rows", [])]
-    return entries + entries_behind(chance, plan, max(times, default=max(least, 0)), least, chance.choice([1, 2, 4]))
+    return entries + entries_behind(chance, plan, max(times, default=max(least, 0)), bound, least, chance.choice([1, 2, 4]))
 
 
 def changed_behind(chance, plan, input_, cut, how):
@@ -167,7 +187,9 @@ def changed_behind(chance, plan, input_, cut, how):
 
     So that this is not allowed, `how` is `ended`: partitions that end there go on too; or `before`: entries before the cut are put right.
     """
-    def changed(entries, count):
+    bounds = bounds_of(plan)
+
+    def changed(entries, count, bound):
         kept, rest = entries[:count], entries[count:]
         if how == "before":
             kept = [put_right(chance, plan, entry) for entry in kept]
@@ -175,9 +197,9 @@ def changed_behind(chance, plan, input_, cut, how):
             return kept
         if chance.random() < 0.5:
             kept += [put_right(chance, plan, entry) for entry in rest]
-        return gone_on(chance, plan, kept)
+        return gone_on(chance, plan, bound, kept)
 
-    return {uid: [changed(*pair) for pair in zip(partitions, counts)] for (uid, partitions), counts in zip(input_.items(), cut)}
+    return {uid: [changed(*pair, bounds[uid]) for pair in zip(partitions, counts)] for (uid, partitions), counts in zip(input_.items(), cut)}
 
 
 def choices_of(chance, legs, most):
@@ -265,20 +287,20 @@ SPOILERS = [
 ]
 
 
-def delay(chance, entries, time):
+def delay(chance, plan, bound, entries):
     """Puts some records to the greatest watermark before them, which is too late, or just above it."""
     least = LEAST
     for entry in entries:
-        least = max(least, entry.get("watermark", least))
         if "rows" in entry and least >= LEAST_TIME and chance.random() < 0.3:
-            chance.choice(entry["rows"])[time] = least + chance.choice([0, 0, 1])
+            chance.choice(entry["rows"])[plan["time"]] = least + chance.choice([0, 0, 1])
+        least = max(least, mark_of(plan, bound, entry))
 
 
 def delayed(chance, plan, input_):
-    input_ = copy.deepcopy(input_)
-    for partitions in input_.values():
+    input_, bounds = copy.deepcopy(input_), bounds_of(plan)
+    for uid, partitions in input_.items():
         for entries in partitions:
-            delay(chance, entries, plan["time"])
+            delay(chance, plan, bounds[uid], entries)
     return input_
 
 
@@ -327,6 +349,12 @@ def other_aggregates(chance, plan, input_):
     plan["window"]["aggregates"].reverse()
 
 
+def other_bound(chance, plan, input_):
+    source = chance.choice(plan["sources"])
+    if "watermarks" in source:
+        source["watermarks"]["bound"] += 1
+
+
 def same_meaning(chance, plan, input_):
     """Other uids of filters, each condition in another place and twice, and an offset that is a slide away."""
     window, filters = plan["window"], plan.get("filters", [])
@@ -339,7 +367,7 @@ def same_meaning(chance, plan, input_):
 
 
 OTHERS = [
-    rename_source, rename_window, add_source, drop_source, add_partition, add_entry, other_groups, other_having, other_aggregates, same_meaning,
+    rename_source, rename_window, add_source, drop_source, add_partition, add_entry, other_groups, other_having, other_aggregates, other_bound, same_meaning,
 ]
 
 
