@@ -38,7 +38,7 @@ pub record IsExact {X : Type 0} (f : Format X) : Type 0 where
 
 -- ---- tools
 
-IsBytes-drop : (n : ℕ) (bytes : List ℕ) → IsBytes bytes → IsBytes (drop n bytes)
+pub IsBytes-drop : (n : ℕ) (bytes : List ℕ) → IsBytes bytes → IsBytes (drop n bytes)
 IsBytes-drop n bytes h i = rw get_or-drop (h (n + i))
 
 IsBytes-take : (n : ℕ) (bytes : List ℕ) → IsBytes bytes → IsBytes (take n bytes)
@@ -355,12 +355,12 @@ list_exact {X} f exact = record {
   again = list_again f exact;
 }
 
-chain_exact : {X : Type 0} (item : Option X → Format X) → ((last : Option X) → IsExact (item last)) → (last : Option X) (n : ℕ) → IsExact (chain item last n)
+pub chain_exact : {X : Type 0} (item : Option X → Format X) → ((last : Option X) → IsExact (item last)) → (last : Option X) (n : ℕ) → IsExact (chain item last n)
 unfolding chain
 chain_exact item exact last zero = nothing_exact
 chain_exact item exact last (suc n) = list_exact (before (item last) (λ x. chain item (Some x) n)) (before_exact (item last) (λ x. chain item (Some x) n) (exact last) (λ x. chain_exact item exact (Some x) n))
 
-chain-length : {X : Type 0} (item : Option X → Format X) (last : Option X) (n : ℕ) (xs : List X) → (chain item last n).fits xs ≡ true → length xs ≡ n
+pub chain-length : {X : Type 0} (item : Option X → Format X) (last : Option X) (n : ℕ) (xs : List X) → (chain item last n).fits xs ≡ true → length xs ≡ n
 unfolding chain
 chain-length item last zero [] h = refl
 chain-length item last zero (x ∷ xs) h = absurd cc
@@ -370,7 +370,7 @@ chain-length item last (suc n) (x ∷ xs) h =
     ap suc (chain-length item (Some x) n xs rest.1)
 
 -- where each item is spelled alike whatever stands before it
-chain-spell : {X : Type 0} (item : Option X → Format X) (spelled : X → List ℕ) (P : X → Type 0) → ((last : Option X) (x : X) → P x → (item last).spell x ≡ spelled x)
+pub chain-spell : {X : Type 0} (item : Option X → Format X) (spelled : X → List ℕ) (P : X → Type 0) → ((last : Option X) (x : X) → P x → (item last).spell x ≡ spelled x)
     → (last : Option X) (n : ℕ) (xs : List X) → length xs ≡ n → All P xs → (chain item last n).spell xs ≡ flat_map spelled xs
 unfolding chain
 chain-spell item spelled P alike last zero [] h all = refl
@@ -393,7 +393,7 @@ pub counted-spell : {X : Type 0} (count : Format ℕ) (item : Option X → Forma
 counted-spell count item spelled alike xs = counted-spell-where count item spelled (λ _. Unit {0}) (λ last x _. alike last x) xs (all_units xs)
 
 -- what holds of each item that fits, whatever stands before it, holds of all
-chain-all : {X : Type 0} (item : Option X → Format X) (P : X → Type 0) → ((last : Option X) (x : X) → (item last).fits x ≡ true → P x) → (last : Option X) (n : ℕ) (xs : List X) → (chain item last n).fits xs ≡ true → All P xs
+pub chain-all : {X : Type 0} (item : Option X → Format X) (P : X → Type 0) → ((last : Option X) (x : X) → (item last).fits x ≡ true → P x) → (last : Option X) (n : ℕ) (xs : List X) → (chain item last n).fits xs ≡ true → All P xs
 unfolding chain
 chain-all item P each last zero [] h = All-nil P
 chain-all item P each last zero (x ∷ xs) h = absurd cc

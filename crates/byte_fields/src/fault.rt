@@ -18,6 +18,8 @@ pub enum FieldFault {
     Order,
     /// A field has a value that it cannot have.
     Range,
+    /// A place that an index gives is not where its item begins.
+    Index,
 }
 
 /// Why a reader that takes memory has no answer.

@@ -100,8 +100,9 @@ rows_shape = record (new_shape (codes "rows")) { rules = several_rule (codes "FI
 abbrev pub split_shape : Shape
 split_shape = command_shape (codes "split") (codes "PLAN" ∷ codes "INPUT" ∷ codes "N" ∷ codes "OUT" ∷ [])
 
+-- a savepoint, and an option
 abbrev pub show_shape : Shape
-show_shape = command_shape (codes "show") (codes "SAVEPOINT" ∷ [])
+show_shape = record (new_shape (codes "show")) { rules = required_rule (codes "SAVEPOINT") ∷ option_rule (codes "group") ∷ [] }
 
 abbrev pub group_shape : Shape
 group_shape = command_shape (codes "group") (codes "KEY" ∷ codes "MAX" ∷ codes "PAR" ∷ [])

@@ -187,6 +187,7 @@ fn command_in<'m>(name: &str, words: &'m ArgMatches<'_>) -> Option<Command<'m>>
         }),
         "show" => Some(Command::Show {
             savepoint: named(words, "SAVEPOINT"),
+            group: words.get_str("group"),
         }),
         "group" => Some(Command::Group {
             key: named(words, "KEY"),

@@ -425,7 +425,7 @@ fn import_names<'a>(alloc: Global) -> Result<Command<'a>, AllocError>
         command,
         "bound",
         "N",
-        "How far behind the greatest time of earlier entries a record may come; without it there are no watermarks",
+        "How far behind the greatest time of earlier entries a record may come; without it, only sources with a bound in the plan have watermarks",
     )
 }
 
@@ -556,16 +556,25 @@ fn import_words<'a>(alloc: Global) -> Result<Command<'a>, AllocError>
 const SHOW: &str = "\
 Lines come in this order: `number N`; `max M`, the number of key groups; `source UID P OFFSET
 WATERMARK` for each partition P; `window UID`; `entry GROUP START KEY COUNT NUMBER ..` for each
-window and key that has not fired.
+window and key that has not fired. With --group it prints the `entry` lines of that key group alone,
+none where it has none, and reads of the savepoint no more than it has to. `group` prints the group of
+a key.
 
-Example: streamjob show savepoint
+Example: streamjob show savepoint --group 86
 Page: docs/FORMATS.md, under Show";
 
 fn show_words<'a>(alloc: Global) -> Result<Command<'a>, AllocError>
     ensures { IfOk result (λ c. IsCommand show_shape c) }
 {
     let command = named(alloc, "show", "Print what a savepoint holds", SHOW);
-    required(alloc, command, "SAVEPOINT", "File of the savepoint")
+    let command = required(alloc, command, "SAVEPOINT", "File of the savepoint")?;
+    option(
+        alloc,
+        command,
+        "group",
+        "G",
+        "Key group, 0 to 32767: print its entries alone; not of a savepoint without an index",
+    )
 }
 
 const KEY: &str = "Key, a whole number of 64 bits (a negative one after --)";

@@ -11,7 +11,7 @@ use Rattle.job.specs.declared.cuts.CutQuestion.TheVariants.{Extents, Until, Open
 use Rattle.job.specs.Ends.{InOneThread}
 use Rattle.job.specs.Layout.{TellsLayout, layout_said}
 use Rattle.job.specs.Run.{Answers, run_said}
-use Rattle.job.specs.Show.{TellsSavepoint, show_said}
+use Rattle.job.specs.Show.{TellsShow}
 use Rattle.command_files.specs.Files.{CannotRead}
 use Rattle.fault_pages.specs.Pages.{TellsPage, explained}
 use Rattle.user_texts.specs.declared.writing.TextFault.{TextFault}
@@ -40,9 +40,9 @@ AnswersCuts until stays_open result = (question : Option CutQuestion) × IsQuest
 abbrev pub AnswersLayout : Result (Unit {0}) JobFault → Type 0
 AnswersLayout result = CannotRead result ⊎ ((plan : List ℕ) × (scale : List ℕ) × TellsLayout (layout_said plan scale) result None None)
 
--- what `job_show` answers of some savepoint, or that it was not read
-abbrev pub AnswersShow : Result (Unit {0}) JobFault → Type 0
-AnswersShow result = CannotRead result ⊎ ((savepoint : List ℕ) × TellsSavepoint (show_said savepoint) result None None)
+-- what `job_show` answers of some savepoint, with a word or with none, or that it was not read
+abbrev pub AnswersShow : Option (List ℕ) → Result (Unit {0}) JobFault → Type 0
+AnswersShow group result = CannotRead result ⊎ ((savepoint : List ℕ) × TellsShow savepoint group result None None)
 
 -- what `job_group` answers of three words
 abbrev pub AnswersGroup : List ℕ → List ℕ → List ℕ → Result (Unit {0}) JobFault → Type 0

@@ -203,16 +203,20 @@ pub fn layout<R: Files + Print + AllocGlobal>(
     job_layout(rt.alloc(), &plan, &scale, &mut writer(rt))
 }
 
-/// Prints what a savepoint holds.
+/// Prints what a savepoint holds, or what the key group does that a word spells.
 ///
 /// # Errors
 ///
 /// `Read` where the file cannot be read, else the fault of `job_show`.
-pub fn show<R: Files + Print + AllocGlobal>(rt: &R, savepoint: &str) -> Result<(), JobFault>
-    ensures { AnswersShow result }
+pub fn show<R: Files + Print + AllocGlobal>(
+    rt: &R,
+    savepoint: &str,
+    group: Option<&str>,
+) -> Result<(), JobFault>
+    ensures { AnswersShow (option_map (λ word. word.now) group.entry) result }
 {
     let savepoint = file(rt, savepoint)?;
-    job_show(rt.alloc(), &savepoint, &mut writer(rt))
+    job_show(rt.alloc(), &savepoint, group, &mut writer(rt))
 }
 
 /// Prints the group of a key and its owner.

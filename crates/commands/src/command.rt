@@ -62,9 +62,10 @@ pub enum Command<'a> {
     Merge {
         words: MergeWords<'a>,
     },
-    /// Print what a savepoint holds.
+    /// Print what a savepoint holds, or what one of its key groups does.
     Show {
         savepoint: &'a str,
+        group: Option<&'a str>,
     },
     /// Print the group of a key and its owner.
     Group {

@@ -55,7 +55,7 @@ pub fn performed<
         Command::Export { plan, words } => export(rt, plan, words),
         Command::Diff { words } => diff(rt, words),
         Command::Merge { words } => merge(rt, words),
-        Command::Show { savepoint } => after_job(show(rt, savepoint)),
+        Command::Show { savepoint, group } => after_job(show(rt, savepoint, *group)),
         Command::Group { key, max, par } => after_job(group(rt, key, max, par)),
         Command::Explain { code } => after_page(explain(rt, code)),
         Command::Version => after_page(version(rt)),

@@ -37,7 +37,8 @@ KEY is nor a time in ISO 8601, and beside `--open`; `check` of `--from` and `--s
 `--scale` beside SCALE; `leg` of `--since` without `--from`, and where `--save` and `--receipt` name one file; `leg` and
 `run` of `--names` where no receipt is named; `run` of `--receipt` beside a list of legs; `export` of `--header` where
 it is neither `yes` nor `no`, or beside `--json`, and of `--json` where two numbers of a row would be called the same;
-`split` of N where it is not 1 to 5 digits, from 1 to 64 and at most the plan's `maxParallelism`.
+`split` of N where it is not 1 to 5 digits, from 1 to 64 and at most the plan's `maxParallelism`; `show` of `--group`
+where it is not 1 to 5 digits, at most 32767.
 
 ```console
 $ streamjob group 7 128 65

@@ -3,18 +3,20 @@
 use crate::page::FaultPage;
 
 /// The pages of the faults of a savepoint, of going on from one, and of a receipt, in the order of docs/FAULTS.md.
-pub const SAVEPOINT_PAGES: [FaultPage<'static>; 21] = [
+pub const SAVEPOINT_PAGES: [FaultPage<'static>; 22] = [
     (
         "V1",
         r#"V1 Magic (status 3)
 
-The first four bytes are not `WSP1`: the file is no savepoint, as a plan in its place.
+The first four bytes are neither `WSP2` nor `WSP1`: the file is no savepoint, as a plan in its place. `show --group`
+says it of `WSP1` too: a savepoint that begins so has no index to find a key group by.
 
 ```hex savepoint
 7b 22 63 6f                # {"co
 ```
 
-Look at the name of the file.
+Look at the name of the file. Where there is no index, `show` alone prints all entries, those of key group 86 as lines
+that begin with `entry 86`.
 "#,
     ),
     (
@@ -38,7 +40,7 @@ Copy the file again, and compare its length.
 Bytes stand after the last field.
 
 ```hex savepoint
-57 53 50 31                # WSP1
+57 53 50 32                # WSP2
 00 00 00 00 00 00 00 01    # number 1
 00 00                      # a plan record of no bytes
 00 80                      # 128 key groups
@@ -63,7 +65,7 @@ The uid of a source, a key group, or the start and key of an entry is not above 
 entry.
 
 ```hex savepoint
-57 53 50 31                # WSP1
+57 53 50 32                # WSP2
 00 00 00 00 00 00 00 01    # number 1
 00 00                      # a plan record of no bytes
 00 80                      # 128 key groups
@@ -85,8 +87,35 @@ A field has a value that it cannot have, as a number of 0, a character that no u
 bits.
 
 ```hex savepoint
-57 53 50 31                # WSP1
+57 53 50 32                # WSP2
 00 00 00 00 00 00 00 00    # number 0
+```
+
+The file was not written by a job, or it was damaged.
+"#,
+    ),
+    (
+        "V7",
+        r#"V7 Index (status 3)
+
+The place that the index gives for a key group is not where its entries begin: where the index ends, and behind the
+entries of the key groups before it.
+
+```hex savepoint
+57 53 50 32                # WSP2
+00 00 00 00 00 00 00 01    # number 1
+00 00                      # a plan record of no bytes
+00 80                      # 128 key groups
+01                         # one source
+01 73 01                   # its uid `s`, and one partition
+00 00 00 00 00 00 00 02    # offset 2
+00 00 00 00 00 00 00 09    # watermark 9
+01 77                      # the window's uid `w`
+01 00                      # one aggregate, a count
+00 01                      # one key group has an entry
+00 56                      # key group 86
+00 00 00 00 00 00 00 01    # one entry
+00 00 00 00 00 00 00 3d    # at byte 61, and the index ends at byte 60
 ```
 
 The file was not written by a job, or it was damaged.
@@ -154,8 +183,8 @@ as a job of its own.
         r#"Q4 PlanChanged (status 3)
 
 The plan counts otherwise than the one that the savepoint is of: another column of time or key, window, filter
-condition, aggregate or having condition. [FORMATS.md](FORMATS.md#savepoint) has what a plan record has, and what it has
-not.
+condition, aggregate, having condition or bound of watermarks. [FORMATS.md](FORMATS.md#savepoint) has what a plan record
+has, and what it has not.
 
 ```json plan.json
 {"columns": 2, "maxParallelism": 128, "time": 0, "key": 1, "sources": [{"uid": "calls", "partitions": 1}],
@@ -163,7 +192,8 @@ not.
 ```
 
 Go on with the plan that the job began with. A new plan begins from nothing. `check --from` tells each number of the
-window and the columns that is another, with both values, and which of the lists of conditions and aggregates are.
+window and the columns that is another, with both values, and which of the lists of conditions, aggregates and bounds
+are.
 "#,
     ),
     (
@@ -239,7 +269,7 @@ with their windows and keys, here and in the next two sections.
 An entry of the savepoint is of a window that has fired before its cut, or of one that the plan does not have.
 
 ```console
-$ printf '\x05' | dd of=savepoint bs=1 seek=108 conv=notrunc status=none && streamjob leg plan.json input.json scale.json --from savepoint
+$ printf '\x05' | dd of=savepoint bs=1 seek=116 conv=notrunc status=none && streamjob leg plan.json input.json scale.json --from savepoint
 Q9 ClosedWindow
 ```
 
@@ -253,7 +283,7 @@ The file was not written by a job, or it was damaged: take a whole copy.
 An entry of the savepoint has more records than the input has before the offsets.
 
 ```console
-$ for at in 124 140; do printf '\x02' | dd of=savepoint bs=1 seek=$at conv=notrunc status=none; done; streamjob leg plan.json input.json scale.json --from savepoint
+$ for at in 132 148; do printf '\x02' | dd of=savepoint bs=1 seek=$at conv=notrunc status=none; done; streamjob leg plan.json input.json scale.json --from savepoint
 Q11 Count
 ```
 

@@ -29,7 +29,7 @@ use Rattle.aggregates.specs.declared.kind.Kind.{Kind}
 use Rattle.aggregates.specs.Kinds.{kind_of}
 use Rattle.window_state.specs.declared.parts.Part.{Part}
 use Rattle.savepoint_codec.specs.Fields.{number_field, max_field, pane_field, count_field, numbers_field, groups_field}
-use Rattle.savepoint_codec.specs.Layout.{IsSavepoint, savepoint_format, fields, window_fields, record_field}
+use Rattle.savepoint_codec.specs.Layout.{IsSavepoint, unindexed_format, fields, front_field, record_field}
 use Rattle.savepoint_codec.specs.declared.savepoint.SavedPartition.{SavedPartition}
 use Rattle.redistribute.specs.declared.task_start.TaskStart.{TaskStart}
 use Rattle.gather.specs.Saved.{is_in_group, entries_in_group, saved_group, source_uids, savepoint_of}
@@ -85,7 +85,7 @@ pub record CanBeSaved (p : PlanData) (sources : List (List SavedPartition)) (win
   pub entries : (g : ℕ) → All (IsEntryOk (map kind_of p.window.aggregates)) (entries_in_group p.max windows g)
 
 pub can_be_saved : AscendingIsInOrder → (p : PlanData) (sources : List (List SavedPartition)) (windows : FinMap pane_cmp Aggregated) (number : ℕ) → CanBeSaved p sources windows number → IsSavepoint (savepoint_of p sources windows number)
-unfolding savepoint_format fields window_fields
+unfolding unindexed_format fields front_field
 can_be_saved rising p sources windows number h =
     let ip = h.plan in
     let kinds = map kind_of p.window.aggregates in
@@ -99,13 +99,14 @@ can_be_saved rising p sources windows number h =
     let us_few : length (source_uids p) ≤ 8 = omega (arith, length-ascending (slice_cmp nat_cmp) keys, length-map p.sources (λ s. s.uid), ip.sources_few) in
     let wide = length-map p.window.aggregates kind_of in
     let groups = groups_fit p.max kinds (entries_in_group p.max windows) ip.max_small (λ g l. (h.long g l, group_links kinds windows (is_in_group p.max g) (h.entries g))) in
-    and_true _ _ (number_fits number h.some h.few)
+    and_true _ _
+    (and_true _ _ (number_fits number h.some h.few)
     (and_true _ _ (record_fits (plan_record p) (record_short p ip us.named))
     (and_true _ _ (max_fits p.max ip.grouped ip.max_small)
     (and_true _ _ (sources_fit p sources (source_uids p) us.some us_few order.rises (all_named p sources (source_uids p) ip h.shape h.partitions us))
     (and_true _ _ (uid_fits p.window.uid window_named)
-    (and_true _ _ (kinds_fit kinds (omega (arith, wide, ip.aggregated)) (omega (arith, wide, ip.aggregates_few)))
-    (subst (λ w. (groups_field p.max kinds).fits (flat_map (λ g. saved_group w g (entries_in_group p.max windows g)) (range_with_len 0 p.max)) ≡ true) wide groups))))))
+    (kinds_fit kinds (omega (arith, wide, ip.aggregated)) (omega (arith, wide, ip.aggregates_few))))))))
+    (subst (λ w. (groups_field p.max kinds).fits (flat_map (λ g. saved_group w g (entries_in_group p.max windows g)) (range_with_len 0 p.max)) ≡ true) wide groups)
 
 pub record IsGathered (p : PlanData) (stages : List Stage) (parts : List TaskStart) (number : ℕ) : Type 0 where
   pub plan : IsPlan p

@@ -5,5 +5,6 @@ mod LegEnds
 mod RunAnswers
 mod CutAnswers
 mod TextAnswers
+mod ShowAnswers
 mod Loses
 mod Written

@@ -5,11 +5,11 @@ use Rattle.answers.specs.Answer.{Fails, Gives}
 use Rattle.plan_model.specs.PlanData.{PlanData}
 use Rattle.logical_plan.specs.Answer.{plan_of_bytes}
 use Rattle.plan_scale.specs.Answer.{scale_of_bytes}
-use Rattle.savepoint_codec.specs.Answer.{savepoint_of_bytes}
 use Rattle.savepoint_codec.specs.Answer as saves
 use Rattle.savepoint_codec.specs.declared.fault.SaveFault.{SaveFault}
 use Rattle.savepoint_codec.specs.declared.fault.SaveFault.TheVariants as save
 use Rattle.savepoint_codec.specs.declared.savepoint.Contents.{Contents}
+use Rattle.savepoint_index.specs.Answer.{savepoint_of_bytes}
 use Rattle.plan_compiler.specs.LayoutData.{layout_of}
 use Rattle.job_texts.specs.declared.fault.JobFault.{JobFault}
 use Rattle.job_texts.specs.declared.fault.JobFault.TheVariants.{Plan, Input, Scale, Save, Restore, Leg, Cut, Number, Read, Write, Memory}
@@ -44,6 +44,7 @@ save_told said save.Truncated is = ap (as_job Save) is
 save_told said save.Trailing is = ap (as_job Save) is
 save_told said save.Order is = ap (as_job Save) is
 save_told said save.Range is = ap (as_job Save) is
+save_told said save.Index is = ap (as_job Save) is
 
 -- no text that is read is refused as one that is not written
 pub unwritten : {X Y F : Type 0} (fault_of : F → JobFault) (next : X → Result Y JobFault) (said : Result X F) → ((f : F) → fault_of f ≢ Write) → ((x : X) → next x ≢ Err Write) → and_then next (as_job fault_of said) ≢ Err Write

@@ -13,9 +13,10 @@ use Rattle.input_texts.specs.Answer.{input_of_bytes}
 use Rattle.dataflow_laws.specs.Inputs.{due_between}
 use Rattle.dataflow_laws.specs.Compiled.{cut_to}
 use Rattle.plan_scale.specs.Answer.{scale_of_bytes}
-use Rattle.savepoint_codec.specs.Answer.{savepoint_of_bytes}
-use Rattle.savepoint_codec.specs.Layout.{IsSavepoint, savepoint_bytes}
+use Rattle.savepoint_codec.specs.Layout.{IsSavepoint}
 use Rattle.savepoint_codec.specs.declared.savepoint.Contents.{Contents}
+use Rattle.savepoint_index.specs.Answer.{savepoint_of_bytes}
+use Rattle.savepoint_index.specs.Layout.{savepoint_bytes}
 use Rattle.legs.specs.declared.cut.Cut.{Cut}
 use Rattle.legs.specs.declared.fault.LegFault.{LegFault}
 use Rattle.legs.specs.declared.stop.Stop.{Stop}

@@ -14,8 +14,8 @@ use Rattle.legs.specs.declared.leg.LegSpec.{LegSpec}
 use Rattle.legs.specs.declared.stop.Stop.{Stop}
 use Rattle.legs.specs.declared.stop.Stop.TheVariants.{Never, At}
 use Rattle.legs.specs.Requirements.{are_legs}
-use Rattle.savepoint_codec.specs.Layout.{savepoint_bytes}
 use Rattle.savepoint_codec.specs.declared.savepoint.Contents.{Contents}
+use Rattle.savepoint_index.specs.Layout.{savepoint_bytes}
 use Rattle.job_legs.specs.Reached.{IsLeftBy}
 use Rattle.job_legs.specs.Running.{CanRunLegs, ForbidsLegs, last_stop, savepoints_in}
 

@@ -14,7 +14,7 @@ use legs::{Choice, Stop};
 use logical_plan::ReadPlan;
 use plan_model::Plan;
 use redistribute::Start;
-use savepoint_codec::encode;
+use savepoint_index::encode;
 use std::alloc::Global;
 use std::test::Fail;
 use stream_input::ReadInput;

@@ -6,6 +6,8 @@ mod gates;
 #[cfg(test)]
 mod jobs;
 #[cfg(test)]
+mod layouts;
+#[cfg(test)]
 mod leaving;
 #[cfg(test)]
 mod lists;
@@ -17,5 +19,7 @@ mod parallel;
 mod premises;
 #[cfg(test)]
 mod readers;
+#[cfg(test)]
+mod showing;
 #[cfg(test)]
 mod writers;

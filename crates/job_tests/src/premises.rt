@@ -151,8 +151,10 @@ fn check_start(rt: &(impl AllocGlobal + Abort), plan: &Plan, bytes: &[u8]) -> Re
     let input = Input::read(alloc, plan, INPUT.as_bytes())?;
     assert_eq!(rt; starts_at(alloc, plan, &input, bytes, 2), Ok(true));
     assert_eq!(rt; starts_at(alloc, plan, &input, bytes, 1), Ok(false));
-    let none = starts_at(alloc, plan, &input, b"WSP1", 2);
-    assert!(rt; matches!(none, Err(JobFault::Save(_))));
+    for magic in [b"WSP1", b"WSP2"] {
+        let none = starts_at(alloc, plan, &input, magic, 2);
+        assert!(rt; matches!(none, Err(JobFault::Save(_))));
+    }
     Ok(())
 }
 

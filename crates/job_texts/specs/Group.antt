@@ -1,4 +1,4 @@
--- What the words of a question for a key's group say, and the line that answers it.
+-- What the words of a question for a key's group say, and the line that answers it; and what the word of a key group says.
 use Rattle.std.specs.Option.{option_and_then}
 use Rattle.std.specs.Prelude.{option_map, ◌≡◌, ℕ, ℤ, ◌^◌, ◌-◌, min, pos, neg_ℤ, nat_le, Bool, ◌&&◌, List, [], ◌∷◌, ◌++◌, drop, length, Option, Some, None, Result, Ok, Err, IsSome, if◌then◌else◌}
 use Rattle.std.specs.Fmt.{decimal}
@@ -23,6 +23,10 @@ number_said digits least most text = if are_digits digits text && (nat_le least 
 -- 1 to 5 digits of a number from 1 to `most`
 abbrev pub count_said : ℕ → List ℕ → Option ℕ
 count_said most text = number_said 5 1 most text
+
+-- 1 to 5 digits of a number below the most key groups that there are
+abbrev pub group_number_said : List ℕ → Option ℕ
+group_number_said text = number_said 5 0 (MOST_GROUPS - 1) text
 
 abbrev pub without_hyphen : List ℕ → List ℕ
 without_hyphen text = if starts_with_minus text then drop 1 text else text

@@ -3,7 +3,7 @@
 ghost use Rattle.std.specs.Prelude.{◌≡◌, ◌<◌, ◌≤◌, IfOk, IfSome, MatchResult, string_bytes};
 ghost use Rattle.std.specs.Char.{is_ascii_digit};
 ghost use Rattle.std.specs.List.{list_all};
-ghost use Rattle.job_texts.specs.Group.{are_digits, number_said, without_hyphen, key_said, group_said, group_line, TellsGroup};
+ghost use Rattle.job_texts.specs.Group.{are_digits, number_said, group_number_said, without_hyphen, key_said, group_said, group_line, TellsGroup};
 ghost use Rattle.job_texts.specs.Tells.{KeepsWriter};
 
 use crate::fault::JobFault;
@@ -37,6 +37,13 @@ pub fn read_count(text: &str, least: u32, most: u32) -> Option<u32>
         Ok(count) if least <= count && count <= most => Some(count),
         _ => None,
     }
+}
+
+/// The key group that a word of 1 to 5 digits spells, below the most that there are.
+pub fn read_group(text: &str) -> Option<u32>
+    ensures { result ≡ group_number_said text.now }
+{
+    read_count(text, 0, MOST_GROUPS - 1)
 }
 
 fn without_hyphen(text: &[u8]) -> &[u8]

@@ -1,4 +1,4 @@
-//! The texts of a job: of its rows, its layout, a savepoint and a key's group, its faults, and what the words of a cut and of `group` spell.
+//! The texts of a job: of its rows, its layout, a savepoint and a key's group, its faults, and what the words of a cut, of `group` and of a key group spell.
 #![tactic(auto)]
 
 mod cut;
@@ -16,12 +16,12 @@ mod writing;
 
 pub use cut::{read_cut, read_cuts};
 pub use fault::JobFault;
-pub use group::{job_group, read_count, read_key};
+pub use group::{job_group, read_count, read_group, read_key};
 pub use layout_text::text_of_layout;
 pub use line::{fault_line, status_of};
 pub use narrow::put_number;
 pub use number::{push_decimal, push_number};
-pub use show_text::text_of_savepoint;
+pub use show_text::{text_of_entries, text_of_savepoint};
 pub use sorting::sort_rows;
 pub use text::text_of_rows;
 pub use writing::write_text;

@@ -1,9 +1,9 @@
-//! The text of a savepoint.
+//! The text of a savepoint, and of one of its key groups.
 
 ghost use Rattle.std.specs.Prelude.{◌≡◌, ◌++◌, OnOk, IfOk, string_bytes};
 ghost use Rattle.std.specs.List.{flat_map, enumerate_from};
 ghost use Rattle.savepoint_codec.specs.EntriesView.{entry_data};
-ghost use Rattle.job_texts.specs.ShowText.{partition_line, source_lines, entry_head, entry_line, group_lines, number_line, max_line, window_line, savepoint_text};
+ghost use Rattle.job_texts.specs.ShowText.{partition_line, source_lines, entry_head, entry_line, entry_lines, group_lines, number_line, max_line, window_line, savepoint_text};
 
 use crate::number::{push_number, push_numbers};
 use plan_model::Pane;
@@ -54,7 +54,7 @@ fn write_sources(text: &mut String, sources: &[SavedSource]) -> Result<(), Alloc
     Ok(())
 }
 
-fn write_entry_head(text: &mut String, group: u16, pane: Pane, count: u64) -> Result<(), AllocError>
+fn write_entry_head(text: &mut String, group: u32, pane: Pane, count: u64) -> Result<(), AllocError>
     ensures { OnOk result (string_bytes text.new ≡ string_bytes text.old ++ entry_head group pane count) }
 {
     text.push_str("entry")?;
@@ -64,7 +64,7 @@ fn write_entry_head(text: &mut String, group: u16, pane: Pane, count: u64) -> Re
     push_number(text, count)
 }
 
-fn write_entry(text: &mut String, group: u16, entry: Entry<'_>) -> Result<(), AllocError>
+fn write_entry(text: &mut String, group: u32, entry: Entry<'_>) -> Result<(), AllocError>
     ensures { OnOk result (string_bytes text.new ≡ string_bytes text.old ++ entry_line group (entry_data entry.entry)) }
 {
     write_entry_head(text, group, entry.pane, entry.count)?;
@@ -72,8 +72,8 @@ fn write_entry(text: &mut String, group: u16, entry: Entry<'_>) -> Result<(), Al
     text.push_str("\n")
 }
 
-fn write_entries(text: &mut String, group: u16, entries: &Entries) -> Result<(), AllocError>
-    ensures { OnOk result (string_bytes text.new ≡ string_bytes text.old ++ flat_map (entry_line group) entries.now.entries) }
+fn write_entries(text: &mut String, group: u32, entries: &Entries) -> Result<(), AllocError>
+    ensures { OnOk result (string_bytes text.new ≡ string_bytes text.old ++ entry_lines group entries.now) }
 {
     for i in 0..entries.len() {
         write_entry(text, group, entries.entry(i))?;
@@ -85,7 +85,7 @@ fn write_groups(text: &mut String, groups: &[SavedGroup]) -> Result<(), AllocErr
     ensures { OnOk result (string_bytes text.new ≡ string_bytes text.old ++ flat_map group_lines groups.now) }
 {
     for group in groups {
-        write_entries(text, group.group, &group.entries)?;
+        write_entries(text, u32::from(group.group), &group.entries)?;
     }
     Ok(())
 }
@@ -124,5 +124,14 @@ pub fn text_of_savepoint(alloc: Global, contents: &Contents) -> Result<String, A
     write_sources(&mut text, contents.sources.as_slice())?;
     write_window(&mut text, contents.window_uid.as_str())?;
     write_groups(&mut text, contents.groups.as_slice())?;
+    Ok(text)
+}
+
+/// The lines of the entries of a key group, as the text of the whole savepoint has them.
+pub fn text_of_entries(alloc: Global, group: u32, entries: &Entries) -> Result<String, AllocError>
+    ensures { IfOk result (λ text. string_bytes text ≡ entry_lines group entries.now) }
+{
+    let mut text = String::new(alloc);
+    write_entries(&mut text, group, entries)?;
     Ok(text)
 }

@@ -1,13 +1,11 @@
--- Calls of `job_leg`, each from the bytes that the one before gave, have written what is due.
+-- Calls of `job_leg`, each from what the one before gave, have written what is due.
 use Rattle.std.proofs.Common.{◌≡◌, ◌∙◌, ℕ, ◌+◌, ◌<◌, List, [], ◌∷◌, ◌++◌, length, map, Some, None, Result, Ok, Err, refl, sym, ap, subst, arith, inl, inr}
 use Rattle.std.proofs.lemmas.Bool.{cases_lt}
 use Rattle.std.proofs.lemmas.List.{get_or_past}
 use Rattle.std.proofs.lemmas.List.Concat.{flat_map-append}
 use Rattle.std.specs.List.{All}
 use Rattle.std.specs.Option.{option_to_list}
-use Rattle.byte_fields.specs.declared.fault.FieldFault.{FieldFault}
-use Rattle.byte_fields.specs.Format.{whole}
-use Rattle.byte_fields.proofs.Exact.{IsBytes, whole_again, whole_takes}
+use Rattle.byte_fields.proofs.Exact.{IsBytes}
 use Rattle.plan_model.specs.PlanData.{PlanData}
 use Rattle.plan_model.specs.Rows.{AreRowsOf}
 use Rattle.plan_model.specs.declared.spec.Row.{Row}
@@ -27,35 +25,32 @@ use Rattle.plan_scale.specs.Answer.{scale_of_bytes}
 use Rattle.legs.specs.declared.cut.Cut.{Cut}
 use Rattle.legs.specs.declared.stop.Stop.{Stop}
 use Rattle.legs.specs.Stops.{until_of}
-use Rattle.savepoint_codec.specs.Answer.{fault_said, savepoint_of_bytes}
-use Rattle.savepoint_codec.specs.Layout.{IsSavepoint, savepoint_bytes, savepoint_format}
+use Rattle.savepoint_codec.specs.Layout.{IsSavepoint, unindexed_bytes}
 use Rattle.savepoint_codec.specs.declared.savepoint.Contents.{Contents}
+use Rattle.savepoint_index.specs.Answer.{savepoint_of_bytes}
+use Rattle.savepoint_index.specs.Layout.{Spells, savepoint_bytes}
+use Rattle.savepoint_index.proofs.Facts.{said_spells, spelled_said}
 use Rattle.redistribute.specs.Begins.{HasSnapshot, IsFromNothing}
 use Rattle.redistribute.specs.Snapshots.{saved_source, start_at}
 use Rattle.redistribute.specs.StartData.{StartData, offsets_of}
 use Rattle.restore.specs.Answer.{start_or_fault}
 use Rattle.core_steps.proofs.Delivered.{none_at_first}
-use Rattle.savepoint_codec.proofs.Facts.{savepoint_exact}
 use Rattle.job_texts.specs.Text.{line_of, text_of_rows}
 use Rattle.job_texts.specs.declared.fault.JobFault.TheVariants.{Plan, Input, Scale, Save, Restore}
 use Rattle.job_legs.proofs.Facts.{come_to}
 use Rattle.job.specs.Ends.{and_then, as_job}
 use Rattle.job.specs.Leg.{IsLegTold, LegJob, LegRuns, aims_said, job_with, leg_by, leg_job, leg_on, leg_said, saves_said, start_said, stop_said, words}
 use Rattle.job.proofs.Facts.{job_ok, ok_is, then_ok}
-use Rattle.lineages.specs.Lineage.{ComesFrom}
-use Rattle.lineages.specs.Calls.{AreGivenAt, AreRead, Calls, CallsAreAnswered, CallsAreExact, HaveTaken, IsAnswered, IsReach, LegCall, Reach, SaidComesFrom, written}
+use Rattle.lineages.specs.Lineage.{GoesOnFrom}
+use Rattle.lineages.specs.Calls.{AreGivenAt, AreHandedOn, AreRead, Calls, CallsAreAnswered, CallsAreExact, HaveTaken, IsAnswered, IsReach, LegCall, Reach, SaidComesFrom, written}
 use Rattle.lineages.specs.Calls.Calls.{first, next}
 use Rattle.lineages.specs.Changes.{CallsOverInputs, CallsOverInputsAreExact, SaySameEntries}
 use Rattle.lineages.specs.Changes.CallsOverInputs.{first_on, next_on}
-use Rattle.lineages.proofs.Changes.{AreFit, is_carried}
+use Rattle.lineages.proofs.Changes.{AreFit, OneContent, is_carried}
 use Rattle.lineages.proofs.Exact.{Carry, bytes_restart, due_too}
 use Rattle.lineages.proofs.Outcomes.{outcome, reached_cut}
 
 -- ---- what was said
-
-field_ok : {X : Type 0} (said : Result X FieldFault) (x : X) → fault_said said ≡ Ok x → said ≡ Ok x
-field_ok (Ok y) x e = let same : y ≡ x = cc in ap Ok same
-field_ok (Err fault) x e = absurd cc
 
 are_bytes : (bytes : List ℕ) → All (λ b. b < 256) bytes → IsBytes bytes
 are_bytes bytes small i = elim (cases_lt i (length bytes)) [
@@ -64,18 +59,25 @@ are_bytes bytes small i = elim (cases_lt i (length bytes)) [
 ]
 
 pub said_comes_from : SaidComesFrom
-unfolding start_said savepoint_of_bytes
+unfolding start_said
 said_comes_from p i bytes s small e =
     let a = then_ok (λ x. as_job Restore (start_or_fault p i x)) (as_job Save (savepoint_of_bytes bytes)) s e in
-    let read = whole_takes savepoint_format savepoint_exact bytes a.0 (are_bytes bytes small) (field_ok (whole savepoint_format bytes) a.0 (job_ok Save (savepoint_of_bytes bytes) a.0 a.1)) in
-    record { savepoint = a.0; is_savepoint = read.0; spelled = sym read.1; checked = job_ok Restore (start_or_fault p i a.0) s a.2 }
+    let read = said_spells bytes a.0 (are_bytes bytes small) (job_ok Save (savepoint_of_bytes bytes) a.0 a.1) in
+    record { savepoint = a.0; is_savepoint = read.0; spelled = read.1; checked = job_ok Restore (start_or_fault p i a.0) s a.2 }
 
 -- and so it is of what was spelled
-from_spelling : (p : PlanData) (i : InputData) (old : Contents) (s : StartData) → IsSavepoint old → start_said p i (Some (savepoint_bytes old)) ≡ Ok s → ComesFrom p i (savepoint_bytes old) s
-unfolding start_said savepoint_of_bytes
-from_spelling p i old s sound e =
-    let again : as_job Restore (start_or_fault p i old) ≡ Ok s = subst (λ r. and_then (λ x. as_job Restore (start_or_fault p i x)) (as_job Save (fault_said r)) ≡ Ok s) (whole_again savepoint_format savepoint_exact old sound) e in
-    record { savepoint = old; is_savepoint = sound; spelled = refl; checked = job_ok Restore (start_or_fault p i old) s again }
+from_spelling : (p : PlanData) (i : InputData) (old : Contents) (bytes : List ℕ) (s : StartData) → IsSavepoint old → Spells bytes old → start_said p i (Some bytes) ≡ Ok s → GoesOnFrom p i old s
+unfolding start_said
+from_spelling p i old bytes s sound spelled e =
+    let a = then_ok (λ x. as_job Restore (start_or_fault p i x)) (as_job Save (savepoint_of_bytes bytes)) s e in
+    let same = spelled_said old a.0 bytes sound spelled (job_ok Save (savepoint_of_bytes bytes) a.0 a.1) in
+    let checked : start_or_fault p i old ≡ Ok s = subst (λ x. start_or_fault p i x ≡ Ok s) same (job_ok Restore (start_or_fault p i a.0) s a.2) in
+    record { bytes = bytes; spelled = spelled; comes = record { savepoint = old; is_savepoint = sound; spelled = spelled; checked = checked } }
+
+-- what is handed on spells the savepoint that was given
+handed_spells : OneContent → (old : Contents) (given bytes : List ℕ) → IsSavepoint old → given ≡ savepoint_bytes old → AreHandedOn given bytes → Spells bytes old
+handed_spells one old given bytes sound wrote (inl same) = inl (same ∙ wrote)
+handed_spells one old given bytes sound wrote (inr (s, is, spelled, handed)) = inr (handed ∙ ap unindexed_bytes (one s old given is sound (inl spelled) (inl wrote)))
 
 pub calls_are_answered : CallsAreAnswered
 calls_are_answered plan input scale from saves stop old new left (job, said, runs, (text, told, appends)) = (text, appends, record { job = job; said = said; runs = runs; told = told })
@@ -148,7 +150,7 @@ says plan input p i c job read e =
 -- the last of calls has answered
 answered : (plan input : List ℕ) (last : LegCall) (earlier : List LegCall) → CallsOverInputs plan input (last ∷ earlier) → IsAnswered plan input last
 answered plan input last [] (first_on nothing a) = a
-answered plan input last (before ∷ earlier) (next_on calls to_come same saved from a) = a
+answered plan input last (before ∷ earlier) (next_on calls to_come same saved handed from a) = a
 
 record Comes (p : PlanData) (i : InputData) (last : LegCall) (earlier : List LegCall) : Type 0 where
   reach : Reach
@@ -190,7 +192,7 @@ module _ (carry : Carry) (of_plan : SaidIsPlan) (of_input : SaidIsInput) (plan :
       let from = said_nothing p i said.start (subst (λ o. start_said p i o ≡ Ok said.start) nothing said.started) in
       let none_due : AreRowsOf (due_rows p i.sources (empty_cut i.sources)) [] = λ q. sym (ap option_to_list (carry.none p i q fit.orderly)) in
       after input i fit last [] a said (empty_cut i.sources) (none_at_first p i said.start from) from.offsets from.number (empty_is_cut i.sources) [] none_due refl
-  comes input i read last (before ∷ earlier) (next_on {old = text} {bytes = bytes} calls to_come same saved from a) =
+  comes input i read last (before ∷ earlier) (next_on {old = text} {given = gave} {bytes = bytes} calls to_come same saved handed from a) =
       let (old, old_read) = said_input plan text p before read.plan_said (answered plan text before earlier calls) in
       let c = comes text old old_read before earlier calls in
       let (cut, stops, last_is) = reached_cut before c.reach c.reached to_come in
@@ -199,10 +201,11 @@ module _ (carry : Carry) (of_plan : SaidIsPlan) (of_input : SaidIsInput) (plan :
       let held = given.0 in
       let is_savepoint = given.2 in
       let at = given.3 in
-      let spelled : bytes ≡ savepoint_bytes held = (let z : Some bytes ≡ Some (savepoint_bytes held) = sym saved ∙ given.1 in cc) in
+      let wrote : gave ≡ savepoint_bytes held = (let z : Some gave ≡ Some (savepoint_bytes held) = sym saved ∙ given.1 in cc) in
+      let spelled = handed_spells carry.one held gave bytes is_savepoint wrote handed in
       let said = says plan input p i last a.job read a.said in
-      let started = subst (λ o. start_said p i o ≡ Ok said.start) (from ∙ ap Some spelled) said.started in
-      let origin = from_spelling p i held said.start is_savepoint started in
+      let started = subst (λ o. start_said p i o ≡ Ok said.start) from said.started in
+      let origin = from_spelling p i held bytes said.start is_savepoint spelled started in
       let is_cut : IsCut old.sources cut.counts = subst (λ x. IsCut old.sources (cut_to old (until_of x))) stops c.is_cut in
       let due : AreRowsOf (due_rows p old.sources cut.counts) c.rows = subst (λ x. AreRowsOf (due_rows p old.sources (cut_to old (until_of x))) c.rows) stops c.due in
       let old_fit = are_fit of_plan of_input plan text p old old_read in
@@ -226,7 +229,7 @@ one_text plan input c p i j reach cut number here there reached stopped given = 
 same_text : (plan input : List ℕ) (calls : List LegCall) → Calls plan input calls → CallsOverInputs plan input calls
 same_text plan input [] l = elim l [ ]
 same_text plan input (c ∷ []) (first nothing a) = first_on nothing a
-same_text plan input (c ∷ before ∷ earlier) (next calls to_come saved from a) = next_on (same_text plan input (before ∷ earlier) calls) to_come (one_text plan input before) saved from a
+same_text plan input (c ∷ before ∷ earlier) (next calls to_come saved handed from a) = next_on (same_text plan input (before ∷ earlier) calls) to_come (one_text plan input before) saved handed from a
 
 pub calls_are_exact : CallsOverInputsAreExact → CallsAreExact
 calls_are_exact made plan input p i last earlier read calls = made plan input p i last earlier read (same_text plan input (last ∷ earlier) calls)

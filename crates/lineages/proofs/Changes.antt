@@ -15,15 +15,16 @@ use Rattle.input_changes.specs.Agreement.{HaveSameEntries, watermarks_at, waterm
 use Rattle.input_changes.specs.Laws.{AgreeEarlier, AgreeingAreSame, EntriesKeepTheCut}
 use Rattle.redistribute.specs.StartData.{StartData}
 use Rattle.redistribute.specs.Snapshots.{saved_source, saved_sources}
-use Rattle.savepoint_codec.specs.Layout.{IsSavepoint, savepoint_bytes}
+use Rattle.savepoint_codec.specs.Layout.{IsSavepoint}
 use Rattle.savepoint_codec.specs.declared.savepoint.Contents.{Contents}
+use Rattle.savepoint_index.specs.Layout.{Spells}
 use Rattle.gather.specs.Saved.{savepoint_of}
 use Rattle.restore.specs.Answer.{start_of, start_or_fault}
 use Rattle.restore.specs.Requirements.{every_partition, has_max, has_known_uids, has_all_uids, has_plan, has_partitions, has_offsets, has_watermarks, has_groups, has_open_windows, has_counts, has_number, is_watermark, plan_requirements, input_requirements}
 use Rattle.restore.specs.declared.fault.RestoreFault.TheVariants.{MaxParallelism, UnknownUid, MissingUid, PlanChanged, Partitions, Offset, Watermark, WrongGroup, ClosedWindow, Count, Number}
 use Rattle.restarts.specs.Laws.{SnapshotsRestart, savepoint_at}
 use Rattle.leg_tasks.specs.Saved.{IsSavedAt}
-use Rattle.lineages.specs.Lineage.{ComesFrom}
+use Rattle.lineages.specs.Lineage.{GoesOnFrom}
 use Rattle.lineages.specs.Changes.{AcceptedAgree, BetweenIsSame}
 
 -- ---- what the check of a savepoint has found
@@ -105,13 +106,14 @@ pub record AreFit (p : PlanData) (i : InputData) : Type 0 where
   pub belongs : BelongsTo p i
 
 abbrev pub OneContent : Type 0
-OneContent = (a b : Contents) → IsSavepoint a → IsSavepoint b → savepoint_bytes a ≡ savepoint_bytes b → a ≡ b
+OneContent = (a b : Contents) (bytes : List ℕ) → IsSavepoint a → IsSavepoint b → Spells bytes a → Spells bytes b → a ≡ b
 
 -- a savepoint at a cut, by its parts, that is checked is accepted as it stands
-pub accepted_at : OneContent → (p : PlanData) (i new : InputData) (cut : List (List ℕ)) (number : ℕ) (old : Contents) (s : StartData) (at : IsSavedAt p i cut number old) → IsSavepoint old → ComesFrom p new (savepoint_bytes old) s
+pub accepted_at : OneContent → (p : PlanData) (i new : InputData) (cut : List (List ℕ)) (number : ℕ) (old : Contents) (s : StartData) (at : IsSavedAt p i cut number old) → IsSavepoint old → GoesOnFrom p new old s
     → start_or_fault p new (savepoint_at p i cut at.windows number) ≡ Ok s
 accepted_at one p i new cut number old s at savepoint from =
-    subst (λ x. start_or_fault p new x ≡ Ok s) (one from.savepoint old from.is_savepoint savepoint from.spelled ∙ at.is) from.checked
+    let read = from.comes in
+    subst (λ x. start_or_fault p new x ≡ Ok s) (one read.savepoint old from.bytes read.is_savepoint savepoint read.spelled from.spelled ∙ at.is) read.checked
 
 pub accepted_agree : EntriesKeepTheCut → SnapshotsRestart → OneContent → AcceptedAgree
 unfolding has_watermarks
@@ -143,7 +145,7 @@ pub record IsCarried (p : PlanData) (old new : InputData) (cut : List (List ℕ)
   pub due : (q : Pane) → due_rows p old.sources cut q ≡ due_rows p new.sources cut q
 
 pub is_carried : AgreeingAreSame → EntriesKeepTheCut → SnapshotsRestart → OneContent → (p : PlanData) (old new : InputData) (cut : List (List ℕ)) (number : ℕ) (saved : Contents) (s : StartData) → AreFit p old → AreFit p new → IsCut old.sources cut
-    → IsSavedAt p old cut number saved → IsSavepoint saved → HaveSameEntries old new cut → ComesFrom p new (savepoint_bytes saved) s → IsCarried p old new cut number saved
+    → IsSavedAt p old cut number saved → IsSavepoint saved → HaveSameEntries old new cut → GoesOnFrom p new saved s → IsCarried p old new cut number saved
 is_carried agreeing keep restart one p old new cut number saved s of_old of_new is at savepoint same from =
     let agree = accepted_agree keep restart one p old new cut number saved s of_old.plan of_old.input of_old.belongs of_new.belongs is at savepoint same from in
     let there = agreeing p old new cut of_old.orderly of_new.orderly agree in

@@ -28,7 +28,7 @@ use Rattle.plan_compiler.specs.LayoutData.{LayoutData, IsLayoutOf, layout_of}
 use Rattle.plan_compiler.specs.Tables.{each_task}
 use Rattle.window_state.specs.declared.parts.Part.{Part}
 use Rattle.window_state.specs.Parts.{entries_of}
-use Rattle.savepoint_codec.specs.Layout.{savepoint_bytes}
+use Rattle.savepoint_index.specs.Layout.{Spells}
 use Rattle.redistribute.specs.declared.task_start.PartitionStart.{PartitionStart}
 use Rattle.redistribute.specs.declared.task_start.TaskStart.{TaskStart}
 use Rattle.redistribute.specs.declared.task_start.TaskStart.TheVariants.{Chain}
@@ -214,4 +214,4 @@ dealt_are_gathered once same p l i s left ip lo belongs is are = subst (SayStart
 pub gathered_again : EachPartitionOnce → SamePanesSameSavepoint → AscendingIsInOrder → AcceptedHaveGroups → SavepointsAreGatheredAgain
 gathered_again once same rising have p l i bytes s left saved ip lo belongs is from are gathered =
     let say = dealt_are_gathered once same p l i s left ip lo belongs is are in
-    ap savepoint_bytes (say.savepoint s.number saved gathered ∙ is_of_start rising have p i from.savepoint s from.is_savepoint from.checked) ∙ from.spelled
+    subst (Spells bytes) (sym (say.savepoint s.number saved gathered ∙ is_of_start rising have p i from.savepoint s from.is_savepoint from.checked)) from.spelled

@@ -19,8 +19,9 @@ use Rattle.legs.specs.declared.stop.Stop.TheVariants.{Never, At}
 use Rattle.legs.specs.Stops.{until_of}
 use Rattle.redistribute.specs.StartData.{StartData}
 use Rattle.redistribute.specs.Begins.{IsFromNothing, IsStartIn}
-use Rattle.savepoint_codec.specs.Layout.{IsSavepoint, savepoint_bytes}
+use Rattle.savepoint_codec.specs.Layout.{IsSavepoint}
 use Rattle.savepoint_codec.specs.declared.savepoint.Contents.{Contents}
+use Rattle.savepoint_index.specs.Layout.{savepoint_bytes}
 use Rattle.restore.specs.Answer.{start_of, start_or_fault}
 use Rattle.restarts.specs.Laws.{IsStartAt, SnapshotsRestart, savepoint_at}
 use Rattle.leg_tasks.specs.Saved.{IsSavedAt, SavedAtIsOne}
@@ -28,14 +29,14 @@ use Rattle.core_steps.proofs.Delivered.{none_at_first}
 use Rattle.job_legs.specs.Laws.{NothingDueAtFirst, RowsAddUp}
 use Rattle.job_legs.specs.Ending.{rows_to}
 use Rattle.job_legs.proofs.Facts.{come_to}
-use Rattle.lineages.specs.Lineage.{BytesRestart, ComesFrom, Headline, LegEnd, Lineage, LineagesAreExact, OneSavepoint, delivered, leg_rows, leg_savepoint, savepoints_in, savepoints_of}
+use Rattle.lineages.specs.Lineage.{BytesRestart, GoesOnFrom, Headline, LegEnd, Lineage, LineagesAreExact, OneSavepoint, delivered, leg_rows, leg_savepoint, savepoints_in, savepoints_of}
 use Rattle.lineages.specs.Lineage.Lineage.{begins, goes_on}
 use Rattle.lineages.specs.Changes.{HeadlineOverInputs, LineageOverInputs, LineagesOverInputsAreExact}
 use Rattle.lineages.specs.Changes.LineageOverInputs.{begins_on, goes_on_with}
 use Rattle.lineages.proofs.Changes.{AreFit, IsCarried, OneContent, accepted_at, has_passed, is_carried}
 use Rattle.lineages.proofs.Gives.{Delivers, gives}
 
--- ---- a start from bytes
+-- ---- a start from a savepoint
 
 pub bytes_restart : SnapshotsRestart → OneContent → BytesRestart
 bytes_restart restart one p i cut number old s plan input belongs is at savepoint from =
@@ -50,10 +51,10 @@ module _ (p : PlanData) (i : InputData) (s : StartData) where
   pub at_first : IsStartIn p i s → IsFromNothing i s → IsStartAt p i (empty_cut i.sources) 0 s
   at_first starts nothing = record { in_input = starts; snapshot = none_at_first p i s nothing; offsets = nothing.offsets; number = nothing.number }
 
-  -- where it starts from the bytes of a cut's savepoint, it begins at that cut, with its snapshot
-  pub from_bytes : AreFit p i → SnapshotsRestart → OneContent
-      → (cut : List (List ℕ)) (number : ℕ) (old : Contents) → IsCut i.sources cut → IsSavedAt p i cut number old → IsSavepoint old → ComesFrom p i (savepoint_bytes old) s → IsStartAt p i cut number s
-  from_bytes fit restart one cut number old is at savepoint from = bytes_restart restart one p i cut number old s fit.plan fit.input fit.belongs is at savepoint from
+  -- where it goes on from a cut's savepoint, it begins at that cut, with its snapshot
+  pub from_savepoint : AreFit p i → SnapshotsRestart → OneContent
+      → (cut : List (List ℕ)) (number : ℕ) (old : Contents) → IsCut i.sources cut → IsSavedAt p i cut number old → IsSavepoint old → GoesOnFrom p i old s → IsStartAt p i cut number s
+  from_savepoint fit restart one cut number old is at savepoint from = bytes_restart restart one p i cut number old s fit.plan fit.input fit.belongs is at savepoint from
 
 -- ---- a leg from a cut, with its snapshot
 
@@ -112,7 +113,7 @@ module _ (carry : Carry) (p : PlanData) where
 
   -- what legs that have come to a cut leave to the next, which may have another input
   pub left_to : (old i : InputData) (cut : Cut) (before : LegEnd) (earlier : List LegEnd) (s : StartData) → Comes p old (At cut) (before ∷ earlier) → AreFit p i → HaveSameEntries old i cut.counts → IsSavepoint (leg_savepoint before)
-      → ComesFrom p i (savepoint_bytes (leg_savepoint before)) s → IsCarried p old i cut.counts (savepoints_in (before ∷ earlier)) (leg_savepoint before)
+      → GoesOnFrom p i (leg_savepoint before) s → IsCarried p old i cut.counts (savepoints_in (before ∷ earlier)) (leg_savepoint before)
   unfolding LastIs
   left_to old i cut before earlier s c fit same savepoint from =
       is_carried carry.agreeing carry.keep carry.restart carry.one p old i cut.counts (savepoints_in (before ∷ earlier)) (leg_savepoint before) s c.fit fit c.is_cut (c.saved cut refl) savepoint same from
@@ -127,7 +128,7 @@ module _ (carry : Carry) (p : PlanData) where
       let d = gives p i s stop e leg in
       let there = left_to old i cut before earlier s c d.fit same savepoint from in
       let number = savepoints_in (before ∷ earlier) in
-      let at = from_bytes p i s d.fit carry.restart carry.one cut.counts number (leg_savepoint before) there.is_cut there.saved_at savepoint from in
+      let at = from_savepoint p i s d.fit carry.restart carry.one cut.counts number (leg_savepoint before) there.is_cut there.saved_at savepoint from in
       after i s stop e (before ∷ earlier) d cut.counts at (due_too p old i cut.counts number (leg_savepoint before) (delivered (before ∷ earlier)) there c.due)
 
 pub over_inputs_exact : Carry → LineagesOverInputsAreExact

@@ -35,7 +35,7 @@ use Rattle.lineages.specs.Changes.{EachMomentOverInputs}
 use Rattle.lineages.specs.Changes.UnderWayOverInputs.{sets_out_on, goes_further_with}
 use Rattle.lineages.proofs.Changes.{AreFit}
 use Rattle.lineages.proofs.Gives.{fit_of}
-use Rattle.lineages.proofs.Exact.{Carry, at_first, comes, due_too, from_bytes, left_to, one_input}
+use Rattle.lineages.proofs.Exact.{Carry, at_first, comes, due_too, from_savepoint, left_to, one_input}
 
 -- nothing of a list, or all of it
 abbrev IsPart : List Row → List Row → Type 0
@@ -87,7 +87,7 @@ each_moment each carry p i stop w (before ∷ earlier) (goes_further_with {old =
     let f = fit p i s saves stop w way in
     let there = left_to carry p old i cut before earlier s c f same savepoint from in
     let number = savepoints_in (before ∷ earlier) in
-    let at = from_bytes p i s f carry.restart carry.one cut.counts number (leg_savepoint before) there.is_cut there.saved_at savepoint from in
+    let at = from_savepoint p i s f carry.restart carry.one cut.counts number (leg_savepoint before) there.is_cut there.saved_at savepoint from in
     due_there p i s saves stop w way carry.end _ q
     (with_earlier p i s saves stop w way each cut.counts number at there.is_cut (delivered (before ∷ earlier)) (due_too p old i cut.counts number (leg_savepoint before) (delivered (before ∷ earlier)) there c.due) q)
 

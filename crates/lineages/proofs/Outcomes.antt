@@ -16,8 +16,8 @@ use Rattle.legs.specs.Stops.{counts_of, until_of}
 use Rattle.redistribute.specs.Begins.{HasSnapshot}
 use Rattle.redistribute.specs.StartData.{StartData, offsets_of}
 use Rattle.redistribute.proofs.Facts.{all_at, rises_to}
-use Rattle.savepoint_codec.specs.Layout.{savepoint_bytes}
 use Rattle.savepoint_codec.specs.declared.savepoint.Contents.{Contents}
+use Rattle.savepoint_index.specs.Layout.{savepoint_bytes}
 use Rattle.leg_tasks.specs.Saved.{IsSavedAt}
 use Rattle.core_steps.proofs.Ending.{end_is_cut}
 use Rattle.job_texts.specs.Cut.{cut_said}

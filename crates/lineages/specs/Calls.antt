@@ -1,4 +1,4 @@
--- What calls of `job_leg` write together, each of which goes on from the bytes that the one before gave.
+-- What calls of `job_leg` write together, each of which goes on from what the one before gave.
 use Rattle.std.specs.Prelude.{◌≡◌, ◌⊎◌, ℕ, suc, ◌+◌, ◌<◌, Bool, true, false, List, [], ◌∷◌, ◌++◌, length, slice_index_or, Option, Some, None, Ok}
 use Rattle.std.specs.Io.KnownBytes.{Appends}
 use Rattle.std.specs.List.{All}
@@ -12,8 +12,9 @@ use Rattle.legs.specs.declared.cut.Cut.{Cut}
 use Rattle.legs.specs.declared.stop.Stop.{Stop}
 use Rattle.legs.specs.declared.stop.Stop.TheVariants.{Never, At}
 use Rattle.legs.specs.Stops.{counts_of}
-use Rattle.savepoint_codec.specs.Layout.{IsSavepoint, savepoint_bytes}
+use Rattle.savepoint_codec.specs.Layout.{IsSavepoint, unindexed_bytes}
 use Rattle.savepoint_codec.specs.declared.savepoint.Contents.{Contents}
+use Rattle.savepoint_index.specs.Layout.{savepoint_bytes}
 use Rattle.redistribute.specs.StartData.{StartData}
 use Rattle.leg_tasks.specs.Saved.{IsSavedAt}
 use Rattle.job_texts.specs.Text.{text_of_rows}
@@ -52,11 +53,15 @@ CallsAreAnswered = (plan input scale : List ℕ) (from saves stop old new : Opti
 abbrev pub HasRowsToCome : LegCall → Type 0
 HasRowsToCome c = (c.abandoned ≡ true) ⊎ ¬ (c.stop ≡ None)
 
--- one call or more of one plan and one input, the last first: the first from nothing, and each other from the bytes that the one before gave where it came to a stop or was given up
+-- the bytes that a call goes on from are those that the one before gave, or spell the same savepoint without an index, as a program gives them that writes no index
+abbrev pub AreHandedOn : List ℕ → List ℕ → Type 0
+AreHandedOn given bytes = (bytes ≡ given) ⊎ ((s : Contents) × IsSavepoint s × (given ≡ savepoint_bytes s) × (bytes ≡ unindexed_bytes s))
+
+-- one call or more of one plan and one input, the last first: the first from nothing, and each other from what the one before gave where it came to a stop or was given up
 pub data Calls (plan input : List ℕ) : List LegCall → Type 0 where
   first : {c : LegCall} → c.from ≡ None → IsAnswered plan input c → Calls plan input (c ∷ [])
-  next : {bytes : List ℕ} {before : LegCall} {earlier : List LegCall} {c : LegCall} → Calls plan input (before ∷ earlier) → HasRowsToCome before → before.saved ≡ Some bytes → c.from ≡ Some bytes → IsAnswered plan input c
-      → Calls plan input (c ∷ before ∷ earlier)
+  next : {given bytes : List ℕ} {before : LegCall} {earlier : List LegCall} {c : LegCall} → Calls plan input (before ∷ earlier) → HasRowsToCome before → before.saved ≡ Some given → AreHandedOn given bytes → c.from ≡ Some bytes
+      → IsAnswered plan input c → Calls plan input (c ∷ before ∷ earlier)
 
 -- what calls have written together, the text of the first first
 abbrev pub written : List LegCall → List ℕ

@@ -7,8 +7,8 @@ use Rattle.stream_model.specs.InputData.{InputData, BelongsTo}
 use Rattle.layout_rules.specs.Layouts.{partition_counts}
 use Rattle.plan_compiler.specs.LayoutData.{LayoutData, IsLayoutOf}
 use Rattle.plan_compiler.specs.Tables.{each_task}
-use Rattle.savepoint_codec.specs.Layout.{savepoint_bytes}
 use Rattle.savepoint_codec.specs.declared.savepoint.Contents.{Contents}
+use Rattle.savepoint_index.specs.Layout.{Spells}
 use Rattle.redistribute.specs.StartData.{StartData}
 use Rattle.redistribute.specs.Begins.{IsStartIn}
 use Rattle.redistribute.specs.Parts.{whole_task_start, windows_of}
@@ -35,7 +35,7 @@ pub record SayStart (p : PlanData) (l : LayoutData) (s : StartData) (parts : Lis
 abbrev pub DealtAreGathered : Type 0
 DealtAreGathered = (p : PlanData) (l : LayoutData) (i : InputData) (s : StartData) (parts : List TaskStart) → IsPlan p → IsLayoutOf p l → BelongsTo p i → IsStartIn p i s → AreDealt p l s parts → SayStart p l s parts
 
--- so a savepoint that is accepted, whoever made it, dealt out and put together again under its own number, has the same bytes
+-- so a savepoint that is accepted, whoever made it, dealt out and put together again under its own number, is the one that its bytes spell
 abbrev pub SavepointsAreGatheredAgain : Type 0
 SavepointsAreGatheredAgain = (p : PlanData) (l : LayoutData) (i : InputData) (bytes : List ℕ) (s : StartData) (parts : List TaskStart) (saved : Contents) → IsPlan p → IsLayoutOf p l → BelongsTo p i → IsStartIn p i s
-    → ComesFrom p i bytes s → AreDealt p l s parts → AreGathered p l parts s.number saved → savepoint_bytes saved ≡ bytes
+    → ComesFrom p i bytes s → AreDealt p l s parts → AreGathered p l parts s.number saved → Spells bytes saved

@@ -14,8 +14,9 @@ use Rattle.dataflow_laws.specs.Inputs.{due_between}
 use Rattle.legs.specs.declared.cut.Cut.{Cut}
 use Rattle.legs.specs.declared.stop.Stop.{Stop}
 use Rattle.legs.specs.declared.stop.Stop.TheVariants.{Never, At}
-use Rattle.savepoint_codec.specs.Layout.{IsSavepoint, savepoint_bytes}
+use Rattle.savepoint_codec.specs.Layout.{IsSavepoint}
 use Rattle.savepoint_codec.specs.declared.savepoint.Contents.{Contents}
+use Rattle.savepoint_index.specs.Layout.{Spells, savepoint_bytes}
 use Rattle.legs.specs.Stops.{until_of}
 use Rattle.redistribute.specs.StartData.{StartData, offsets_of}
 use Rattle.redistribute.specs.Begins.{HasSnapshot, IsFromNothing}
@@ -109,23 +110,29 @@ WorldsGiveUp = (p : PlanData) (i : InputData) (s : StartData) (saves : List (Lis
 abbrev pub TasksGiveUp : Type 0
 TasksGiveUp = (g : GivenData) (stop : Stop) (tasks : List TaskData) (x : Sealed) → g.until ≡ until_of stop → AreOnTheWay g tasks → IsSealed g (state_at g tasks) (Some x) → GivesSealed g x
 
--- a start that is answered of bytes: they spell a savepoint, and its check gives the start
+-- a start that is answered of bytes: they spell a savepoint, with an index or without one, and its check gives the start
 pub record ComesFrom (p : PlanData) (i : InputData) (bytes : List ℕ) (s : StartData) : Type 0 where
   pub savepoint : Contents
   pub is_savepoint : IsSavepoint savepoint
-  pub spelled : savepoint_bytes savepoint ≡ bytes
+  pub spelled : Spells bytes savepoint
   pub checked : start_or_fault p i savepoint ≡ Ok s
 
--- a start that comes from the bytes of a cut's savepoint is at that cut, with its snapshot, after as many savepoints
+-- a start goes on from a savepoint: it comes from bytes that spell it, with an index or without one
+pub record GoesOnFrom (p : PlanData) (i : InputData) (old : Contents) (s : StartData) : Type 0 where
+  pub bytes : List ℕ
+  pub spelled : Spells bytes old
+  pub comes : ComesFrom p i bytes s
+
+-- a start that goes on from a cut's savepoint is at that cut, with its snapshot, after as many savepoints
 abbrev pub BytesRestart : Type 0
 BytesRestart = (p : PlanData) (i : InputData) (cut : List (List ℕ)) (number : ℕ) (old : Contents) (s : StartData) → IsPlan p → IsInput i → BelongsTo p i → IsCut i.sources cut → IsSavedAt p i cut number old → IsSavepoint old
-    → ComesFrom p i (savepoint_bytes old) s → IsStartAt p i cut number s
+    → GoesOnFrom p i old s → IsStartAt p i cut number s
 
--- one leg or more, the last first, of which the last has come there: the first from nothing, and each other from the bytes of the savepoint that the one before left where it had come to
+-- one leg or more, the last first, of which the last has come there: the first from nothing, and each other from bytes that spell the savepoint that the one before left where it had come to
 pub data Lineage (p : PlanData) (i : InputData) : Stop → List LegEnd → Type 0 where
   begins : {s : StartData} {stop : Stop} {e : LegEnd} → IsFromNothing i s → Gives p i s stop e → Lineage p i stop (e ∷ [])
   goes_on : {cut : Cut} {before : LegEnd} {earlier : List LegEnd} {s : StartData} {stop : Stop} {e : LegEnd} → Lineage p i (At cut) (before ∷ earlier) → IsSavepoint (leg_savepoint before)
-      → ComesFrom p i (savepoint_bytes (leg_savepoint before)) s → Gives p i s stop e → Lineage p i stop (e ∷ before ∷ earlier)
+      → GoesOnFrom p i (leg_savepoint before) s → Gives p i s stop e → Lineage p i stop (e ∷ before ∷ earlier)
 
 -- the rows that legs have delivered together, those of the first first
 abbrev pub delivered : List LegEnd → List Row
@@ -165,7 +172,7 @@ EachMomentOfALeg = (p : PlanData) (i : InputData) (s : StartData) (saves : List 
 pub data UnderWay (p : PlanData) (i : InputData) : Stop → WorldData → List LegEnd → Type 0 where
   sets_out : {s : StartData} {saves : List (List (List ℕ))} {stop : Stop} {w : WorldData} → IsFromNothing i s → IsUnderWay p i s saves stop w → UnderWay p i stop w []
   goes_further : {cut : Cut} {before : LegEnd} {earlier : List LegEnd} {s : StartData} {saves : List (List (List ℕ))} {stop : Stop} {w : WorldData} → Lineage p i (At cut) (before ∷ earlier) → IsSavepoint (leg_savepoint before)
-      → ComesFrom p i (savepoint_bytes (leg_savepoint before)) s → IsUnderWay p i s saves stop w → UnderWay p i stop w (before ∷ earlier)
+      → GoesOnFrom p i (leg_savepoint before) s → IsUnderWay p i s saves stop w → UnderWay p i stop w (before ∷ earlier)
 
 -- at every moment, of each pane they have delivered together nothing, or just the row that is due where the last is to stop, once: so no row is wrong, and none comes twice
 abbrev pub EachMomentIsPart : Type 0

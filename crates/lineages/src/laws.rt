@@ -14,7 +14,7 @@ use logical_plan::laws::said_is_plan;
 use plan_record::laws::ascending_is_in_order;
 use redistribute::laws::each_partition_once;
 use restarts::laws::{accepted_have_groups, snapshots_restart};
-use savepoint_codec::laws::one_content;
+use savepoint_index::laws::one_content;
 use stream_input::laws::said_is_input;
 use stream_model::laws::end_is_due;
 
@@ -120,7 +120,8 @@ pub fn each_step_falls()
     ensures { EachStepFalls }
 {}
 
-/// A start that comes from the bytes of a cut's savepoint is at that cut, with its snapshot, after as many savepoints.
+/// A start that goes on from a cut's savepoint, by bytes that spell it with an index or without one, is at that cut, with its
+/// snapshot, after as many savepoints.
 pub fn bytes_restart()
     ensures { BytesRestart }
 {
@@ -156,9 +157,9 @@ pub fn calls_are_answered()
     ensures { CallsAreAnswered }
 {}
 
-/// Calls of `job_leg` for one plan and one input, the first from nothing and each other from the bytes that the one before gave,
-/// have written together the lines of just the rows that are due where the last stops, and of all of the plan's rows where it runs
-/// to the end.
+/// Calls of `job_leg` for one plan and one input, the first from nothing and each other from the bytes that the one before gave, or
+/// from those of the same savepoint without an index, have written together the lines of just the rows that are due where the last
+/// stops, and of all of the plan's rows where it runs to the end.
 pub fn calls_are_exact()
     ensures { CallsAreExact }
 {
@@ -199,7 +200,7 @@ pub fn dealt_are_gathered()
 }
 
 /// So a savepoint that is accepted, whoever made it, dealt out to the tasks of any layout and put together again under its own
-/// number, has the same bytes.
+/// number, is the one that its bytes spell, with an index or without one.
 pub fn savepoints_are_gathered_again()
     ensures { SavepointsAreGatheredAgain }
 {

@@ -14,7 +14,7 @@ use job_texts::JobFault;
 use plan_model::Plan;
 use redistribute::Start;
 use restore::check;
-use savepoint_codec::decode;
+use savepoint_index::decode;
 use std::alloc::{AllocError, Global};
 use stream_model::Input;
 

@@ -20,7 +20,7 @@ mod worlds;
 use crate::calls::Call;
 use crate::jobs::{job_leg_calls, job_leg_sealing_calls, job_run_calls};
 use crate::planned::planned_calls;
-use crate::saved::decode_calls;
+use crate::saved::{decode_calls, decode_group_calls, decode_unindexed_calls};
 use job_texts::{JobFault, status_of};
 use std::io::ErrorKind;
 use std::process::ExitCode;
@@ -63,6 +63,8 @@ fn make<R: Files + Print + RandomSource + Threads + Wait + Clock + Sync + AllocG
 ) -> Result<(), JobFault> {
     match call {
         Call::Decode => decode_calls(rt),
+        Call::DecodeUnindexed => decode_unindexed_calls(rt),
+        Call::DecodeGroup => decode_group_calls(rt),
         Call::JobLeg => job_leg_calls(rt),
         Call::JobLegSealing => job_leg_sealing_calls(rt),
         Call::JobRun => job_run_calls(rt),

@@ -17,22 +17,56 @@ use plan_model::Plan;
 use redistribute::{Start, TaskStart, spread};
 use restarts::laws::accepted_have_groups;
 use restore::check;
-use savepoint_codec::{Savepoint, decode, encode};
+use savepoint_codec::Savepoint;
+use savepoint_index::{decode, decode_group, encode};
 use std::alloc::Global;
 use std::rt::Files;
 use stream_model::Input;
 
-/// Decodes the bytes of the savepoint.
-pub(crate) fn decode_calls<R: Files + Print + AllocGlobal>(rt: &R) -> Result<(), JobFault> {
+/// A key group of the savepoint.
+const GROUP: u32 = 127;
+
+/// Decodes the bytes of the savepoint that a file has.
+fn decode_file<R: Files + Print + AllocGlobal>(
+    rt: &R,
+    name: &str,
+    saved: &str,
+) -> Result<(), JobFault> {
     let alloc = rt.alloc();
-    let bytes = file(rt, "savepoint")?;
+    let bytes = file(rt, saved)?;
     for _ in 0..2 {
-        begins(rt, "decode")?;
+        begins(rt, name)?;
         match decode(alloc, &bytes) {
             Ok(savepoint) => {
                 let text = text_of_savepoint(alloc, savepoint.contents())?;
                 return answered(rt, text.as_str());
             }
+            Err(fault) => refused(rt, &fault)?,
+        }
+    }
+    Ok(())
+}
+
+/// Decodes the bytes of the savepoint.
+pub(crate) fn decode_calls<R: Files + Print + AllocGlobal>(rt: &R) -> Result<(), JobFault> {
+    decode_file(rt, "decode", "savepoint")
+}
+
+/// Decodes the bytes of the savepoint without an index.
+pub(crate) fn decode_unindexed_calls<R: Files + Print + AllocGlobal>(
+    rt: &R,
+) -> Result<(), JobFault> {
+    decode_file(rt, "decode_unindexed", "unindexed")
+}
+
+/// Decodes a key group's entries.
+pub(crate) fn decode_group_calls<R: Files + Print + AllocGlobal>(rt: &R) -> Result<(), JobFault> {
+    let alloc = rt.alloc();
+    let bytes = file(rt, "savepoint")?;
+    for _ in 0..2 {
+        begins(rt, "decode_group")?;
+        match decode_group(alloc, &bytes, GROUP) {
+            Ok(entries) => return answered(rt, format!(in alloc; "{entries:?}")?.as_str()),
             Err(fault) => refused(rt, &fault)?,
         }
     }

@@ -4,7 +4,7 @@ ghost use Rattle.std.specs.Prelude.{◌≡◌, take};
 ghost use Rattle.stream_model.specs.Watermarks.{partition_watermark};
 
 use crate::saved::saved_under;
-use plan_model::Plan;
+use plan_model::{Plan, SourceSpec};
 use savepoint_codec::{Contents, SavedPartition};
 use std::alloc::{AllocError, Global};
 use std::fmt;
@@ -22,14 +22,14 @@ pub(crate) enum Test {
 
 /// A partition, by its source and its place there.
 #[derive(Clone, Copy)]
-struct Named<'u> {
-    uid: &'u str,
+struct Named<'s> {
+    source: &'s SourceSpec,
     place: usize,
 }
 
 impl fmt::Display for Named<'_> {
     fn fmt<W: fmt::Write>(&self, f: &mut fmt::Formatter<W>) -> fmt::Result {
-        let (uid, place) = (self.uid, self.place);
+        let (uid, place) = (self.source.uid.as_str(), self.place);
         write!(f, "partition {place} of {uid:?}")
     }
 }
@@ -83,6 +83,14 @@ fn check_offset(
     found.tell(0, sentence)
 }
 
+/// The options of an import that the watermarks of a source hang on: it has no bound where the plan has one.
+fn options_of(source: &SourceSpec) -> &'static str {
+    match source.bound {
+        Some(_) => "--rows",
+        None => "--rows or --bound",
+    }
+}
+
 /// Why a partition has another watermark than a savepoint says, where it goes on behind the entries that were read, or ends there.
 fn watermark_sentence(
     alloc: Global,
@@ -103,9 +111,9 @@ fn watermark_sentence(
             "{named} had {before} after {offset} entries, and more behind them, and in this input it ends there: the input was cut short"
         );
     }
-    let after = Mark(mark);
+    let (after, options) = (Mark(mark), options_of(named.source));
     format!(in alloc;
-        "{named} had {before} after {offset} entries, and in this input it has {after}: other data, or imported with another --rows or --bound"
+        "{named} had {before} after {offset} entries, and in this input it has {after}: other data, or imported with another {options}"
     )
 }
 
@@ -142,13 +150,13 @@ fn check_partition(
 fn check_source(
     alloc: Global,
     found: &mut Findings,
-    uid: &str,
+    source: &SourceSpec,
     saved: &[SavedPartition],
     partitions: &[Partition],
     test: Test,
 ) -> Result<(), AllocError> {
     for (place, (saved, entries)) in saved.iter().zip(partitions).enumerate() {
-        let named = Named { uid, place };
+        let named = Named { source, place };
         check_partition(alloc, found, named, *saved, entries.as_slice(), test)?;
     }
     Ok(())
@@ -164,9 +172,8 @@ pub(crate) fn check_partitions(
     test: Test,
 ) -> Result<(), AllocError> {
     for (spec, partitions) in plan.sources().iter().zip(input.sources()) {
-        let uid = spec.uid.as_str();
-        let saved = saved_under(contents.sources.as_slice(), uid);
-        check_source(alloc, found, uid, saved, partitions.as_slice(), test)?;
+        let saved = saved_under(contents.sources.as_slice(), spec.uid.as_str());
+        check_source(alloc, found, spec, saved, partitions.as_slice(), test)?;
     }
     Ok(())
 }

@@ -76,12 +76,26 @@ fn aggregates_in(bytes: &[u8]) -> Result<(&[u8], &[u8]), FieldFault> {
     read_bytes(usize::from(count) * 2, rest)
 }
 
+/// The bytes of the bounds of sources, which have their number in a byte before them, where there are any. Nothing stands behind them.
+fn bounds_in(bytes: &[u8]) -> Result<&[u8], FieldFault> {
+    if bytes.is_empty() {
+        return Ok(bytes);
+    }
+    let (count, rest) = read_u8(bytes)?;
+    let (bounds, behind) = read_bytes(usize::from(count) * 9, rest)?;
+    if bounds.is_empty() || !behind.is_empty() {
+        return Err(FieldFault::Range);
+    }
+    Ok(bounds)
+}
+
 fn parts_of(bytes: &[u8]) -> Result<Parts<'_>, FieldFault> {
     let (numbers, rest) = numbers_in(bytes)?;
     let rest = behind_texts(rest)?;
     let (filters, rest) = conditions_in(rest)?;
     let (aggregates, rest) = aggregates_in(rest)?;
-    let (having, bounds) = conditions_in(rest)?;
+    let (having, rest) = conditions_in(rest)?;
+    let bounds = bounds_in(rest)?;
     Ok(Parts {
         numbers,
         filters,

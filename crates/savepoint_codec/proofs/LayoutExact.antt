@@ -23,7 +23,7 @@ use Rattle.aggregates.specs.Kinds.{is_number}
 use Rattle.savepoint_codec.specs.declared.savepoint.SavedGroup.{SavedGroup}
 use Rattle.savepoint_codec.specs.declared.savepoint.Contents.{Contents}
 use Rattle.savepoint_codec.specs.Fields.{number_field, max_field, is_uid_after, partition_field, partitions_field, source_field, source_after, sources_field, kind_code, kind_of_code, kind_field, kinds_field, pane_field, is_pane_after, count_field, number_of_kind, numbers_field, entry_field, entry_after, entries_field, is_number_after, group_number, group_field, group_after, groups_field}
-use Rattle.savepoint_codec.specs.Layout.{record_field, window_fields, fields, contents_of, parts_of, savepoint_format}
+use Rattle.savepoint_codec.specs.Layout.{record_field, front_field, fields, contents_of, parts_of, unindexed_format}
 use Rattle.savepoint_codec.specs.Answer.{fault_of_read, fault_said, Fails as Refuses}
 
 number_exact : IsExact number_field
@@ -91,7 +91,7 @@ numbers_exact (kind ∷ kinds) count =
     list_exact (before (number_of_kind count kind) (λ _. numbers_field kinds count))
     (before_exact (number_of_kind count kind) (λ _. numbers_field kinds count) (number_of_kind_exact count kind) (λ _. numbers_exact kinds count))
 
-entry_exact : (kinds : List Kind) (last : Option Pane) → IsExact (entry_field kinds last)
+pub entry_exact : (kinds : List Kind) (last : Option Pane) → IsExact (entry_field kinds last)
 unfolding entry_field
 entry_exact kinds last =
     record_exact _ _ (before (where_it (is_pane_after last) Order pane_field) (λ _. before count_field (numbers_field kinds)))
@@ -102,7 +102,7 @@ entries_exact : (kinds : List Kind) → IsExact (entries_field kinds)
 unfolding entries_field
 entries_exact kinds = counted_exact (where_it (nat_lt 0) Order u64_field) (entry_after kinds) (where_exact (nat_lt 0) Order u64_field u64_exact) (λ last. entry_exact kinds (option_map (λ e. e.pane) last))
 
-group_number_exact : (max : ℕ) (last : Option ℕ) → IsExact (group_number max last)
+pub group_number_exact : (max : ℕ) (last : Option ℕ) → IsExact (group_number max last)
 unfolding group_number
 group_number_exact max last = where_exact (is_number_after last) Order (where_it (λ n. nat_lt n max) Range u16_field) (where_exact (λ n. nat_lt n max) Range u16_field u16_exact)
 
@@ -125,18 +125,20 @@ plan_record_exact : IsExact record_field
 unfolding record_field
 plan_record_exact = sized_exact u16_field u16_exact
 
-window_exact : (max : ℕ) → IsExact (window_fields max)
-unfolding window_fields
-window_exact max = before_exact uid_field (λ _. before kinds_field (groups_field max)) uid_exact (λ _. before_exact kinds_field (groups_field max) kinds_exact (groups_exact max))
+pub front_exact : IsExact front_field
+unfolding front_field
+front_exact =
+    record_exact _ _ (before number_field (λ _. before record_field (λ _. before max_field (λ _. before sources_field (λ _. before uid_field (λ _. kinds_field))))))
+    (before_exact number_field _ number_exact (λ _. before_exact record_field _ plan_record_exact (λ _. before_exact max_field _ max_exact (λ _. before_exact sources_field _ sources_exact (λ _. before_exact uid_field (λ _. kinds_field) uid_exact (λ _. kinds_exact))))))
+    (λ x h. refl) (λ f. refl)
 
 fields_exact : IsExact fields
 unfolding fields
-fields_exact =
-    before_exact number_field _ number_exact (λ _. before_exact record_field _ plan_record_exact (λ _. before_exact max_field _ max_exact (λ max. before_exact sources_field (λ _. window_fields max) sources_exact (λ _. window_exact max))))
+fields_exact = before_exact front_field (λ front. groups_field front.max front.kinds) front_exact (λ front. groups_exact front.max front.kinds)
 
-pub savepoint_exact : IsExact savepoint_format
-unfolding savepoint_format
-savepoint_exact = marked_exact (codes "WSP1") (as_record contents_of parts_of fields) (record_exact contents_of parts_of fields fields_exact (λ x h. refl) (λ s. refl))
+pub unindexed_exact : IsExact unindexed_format
+unfolding unindexed_format
+unindexed_exact = marked_exact (codes "WSP1") (as_record contents_of parts_of fields) (record_exact contents_of parts_of fields fields_exact (λ x h. refl) (λ s. refl))
 
 -- a reader's fault is the savepoint's
 pub refuses : (e : ReadFault) (said : Result Contents FieldFault) → Fails e said → Refuses (fault_of_read e) (fault_said said)
@@ -146,3 +148,4 @@ refuses (read.Bytes field.Truncated) said h = ap fault_said h
 refuses (read.Bytes field.Trailing) said h = ap fault_said h
 refuses (read.Bytes field.Order) said h = ap fault_said h
 refuses (read.Bytes field.Range) said h = ap fault_said h
+refuses (read.Bytes field.Index) said h = ap fault_said h

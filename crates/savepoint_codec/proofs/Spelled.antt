@@ -17,7 +17,7 @@ use Rattle.savepoint_codec.specs.declared.savepoint.SavedGroup.{SavedGroup}
 use Rattle.savepoint_codec.specs.EntriesData.{EntryData}
 use Rattle.savepoint_codec.specs.Fields.{number_field, max_field, is_uid_after, is_pane_after, pane_field, partition_field, partitions_field, source_field, source_after, sources_field, kind_field, kinds_field, count_field, number_of_kind, numbers_field, entry_field, entry_after, entries_field, group_number, group_field, group_after, groups_field}
 use Rattle.savepoint_codec.specs.declared.savepoint.Contents.{Contents}
-use Rattle.savepoint_codec.specs.Layout.{IsSavepoint, savepoint_format, fields, window_fields, record_field}
+use Rattle.savepoint_codec.specs.Layout.{IsSavepoint, unindexed_format, fields, front_field, front_of, record_field}
 use Rattle.savepoint_codec.specs.Writing.{HasFewPartitions, IsOfKinds, AreOfKinds, IsShort, entry_bytes}
 
 -- a count is put, and then the items
@@ -36,7 +36,7 @@ numbers-spell [] count (z ∷ zs) h = absurd cc
 numbers-spell (k ∷ kinds) count [] h = absurd cc
 numbers-spell (k ∷ kinds) count (z ∷ zs) h = ap (λ (bytes : List ℕ). i128_field.spell z ++ bytes) (numbers-spell kinds count zs cc)
 
-entry-spell : (kinds : List Kind) (last : Option EntryData) (e : EntryData) → IsOfKinds kinds e → (entry_after kinds last).spell e ≡ entry_bytes e
+pub entry-spell : (kinds : List Kind) (last : Option EntryData) (e : EntryData) → IsOfKinds kinds e → (entry_after kinds last).spell e ≡ entry_bytes e
 unfolding entry_field count_field
 entry-spell kinds last e h =
     ap (λ (bytes : List ℕ). pane_field.spell e.pane ++ (u64_field.spell e.total.count ++ bytes)) (numbers-spell kinds e.total.count e.total.numbers h)
@@ -93,7 +93,7 @@ entry_long kinds last e h =
     let parts = both (after.fits e.pane) ((before count_field (numbers_field kinds)).fits (e.total.count, e.total.numbers)) h in
     numbers_long kinds e.total.count e.total.numbers (both (count_field.fits e.total.count) ((numbers_field kinds e.total.count).fits e.total.numbers) parts.1).1
 
-group_long : (max : ℕ) (kinds : List Kind) (last : Option SavedGroup) (g : SavedGroup) → (group_after max kinds last).fits g ≡ true → AreOfKinds kinds g
+pub group_long : (max : ℕ) (kinds : List Kind) (last : Option SavedGroup) (g : SavedGroup) → (group_after max kinds last).fits g ≡ true → AreOfKinds kinds g
 unfolding group_field entries_field
 group_long max kinds last g h =
     let number = group_number max (option_map (λ x. x.group) last) in
@@ -111,16 +111,21 @@ pub record HaveSpellings (s : Contents) : Type 0 where
   pub kinds : kinds_field.fits s.kinds ≡ true
   pub groups : (groups_field s.max s.kinds).fits s.groups ≡ true
 
+-- what stands before the key groups has a spelling, and so have they
+pub in_parts : (s : Contents) → IsSavepoint s → (front_field.fits (front_of s) ≡ true) × ((groups_field s.max s.kinds).fits s.groups ≡ true)
+unfolding unindexed_format fields
+in_parts s h = both (front_field.fits (front_of s)) ((groups_field s.max s.kinds).fits s.groups) h
+
 pub have_spellings : (s : Contents) → IsSavepoint s → HaveSpellings s
-unfolding savepoint_format fields window_fields
+unfolding front_field
 have_spellings s h =
-    let a = both (number_field.fits s.number) _ h in
+    let parts = in_parts s h in
+    let a = both (number_field.fits s.number) _ parts.0 in
     let b = both (record_field.fits s.plan_record) _ a.1 in
     let d = both (max_field.fits s.max) _ b.1 in
     let e = both (sources_field.fits s.sources) _ d.1 in
-    let f = both (uid_field.fits s.window_uid) _ e.1 in
-    let g = both (kinds_field.fits s.kinds) ((groups_field s.max s.kinds).fits s.groups) f.1 in
-    record { number = a.0; plan_record = b.0; max = d.0; sources = e.0; window_uid = f.0; kinds = g.0; groups = g.1 }
+    let f = both (uid_field.fits s.window_uid) (kinds_field.fits s.kinds) e.1 in
+    record { number = a.0; plan_record = b.0; max = d.0; sources = e.0; window_uid = f.0; kinds = f.1; groups = parts.1 }
 
 pub short_contents : (s : Contents) → IsSavepoint s → IsShort s
 unfolding record_field sources_field kinds_field groups_field

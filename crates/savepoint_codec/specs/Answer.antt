@@ -6,9 +6,9 @@ use Rattle.byte_fields.specs.declared.fault.ReadFault.{ReadFault}
 use Rattle.byte_fields.specs.declared.fault.ReadFault.TheVariants as read
 use Rattle.byte_fields.specs.Format.{whole}
 use Rattle.savepoint_codec.specs.declared.fault.SaveFault.{SaveFault}
-use Rattle.savepoint_codec.specs.declared.fault.SaveFault.TheVariants.{Magic, Truncated, Trailing, Order, Range, Memory}
+use Rattle.savepoint_codec.specs.declared.fault.SaveFault.TheVariants.{Magic, Truncated, Trailing, Order, Range, Index, Memory}
 use Rattle.savepoint_codec.specs.declared.savepoint.Contents.{Contents}
-use Rattle.savepoint_codec.specs.Layout.{savepoint_format}
+use Rattle.savepoint_codec.specs.Layout.{unindexed_format}
 
 abbrev pub save_fault : FieldFault → SaveFault
 save_fault field.Magic = Magic
@@ -16,6 +16,7 @@ save_fault field.Truncated = Truncated
 save_fault field.Trailing = Trailing
 save_fault field.Order = Order
 save_fault field.Range = Range
+save_fault field.Index = Index
 
 abbrev pub fault_of_read : ReadFault → SaveFault
 fault_of_read read.Memory = Memory
@@ -25,9 +26,9 @@ abbrev pub fault_said : {X : Type 0} → Result X FieldFault → Result X SaveFa
 fault_said (Ok x) = Ok x
 fault_said (Err fault) = Err (save_fault fault)
 
--- the savepoint that bytes spell, all of them, or the first fault from their front
-unfoldable pub savepoint_of_bytes : List ℕ → Result Contents SaveFault
-savepoint_of_bytes bytes = fault_said (whole savepoint_format bytes)
+-- the savepoint that bytes spell in the layout without an index, all of them, or the first fault from their front
+unfoldable pub unindexed_of_bytes : List ℕ → Result Contents SaveFault
+unindexed_of_bytes bytes = fault_said (whole unindexed_format bytes)
 
 abbrev pub Fails : SaveFault → Result Contents SaveFault → Type 0
 Fails Memory said = Unit {0}

@@ -1,28 +1,20 @@
-//! A savepoint read from all of its bytes.
+//! A savepoint read from all of its bytes, in the layout without an index.
 
-ghost use Rattle.std.specs.Prelude.{◌≡◌, true, codes, IfOk, Ok};
+ghost use Rattle.std.specs.Prelude.{◌≡◌, ◌≤◌, true, codes, length, IfOk, Ok};
 ghost use Rattle.byte_fields.specs.Format.{mark, whole};
 ghost use Rattle.byte_fields.specs.Reads.{Reads, Gives as Read};
 ghost use Rattle.savepoint_codec.specs.declared.savepoint.Contents.{Contents as ContentsValue};
-ghost use Rattle.savepoint_codec.specs.Layout.{window_fields, savepoint_format, IsSavepoint, savepoint_bytes};
-ghost use Rattle.savepoint_codec.specs.Answer.{Gives, savepoint_of_bytes};
+ghost use Rattle.savepoint_codec.specs.Layout.{front_field, unindexed_format, IsSavepoint, unindexed_bytes};
+ghost use Rattle.plan_model.specs.declared.limits.TheConstants.{MOST_AGGREGATES};
+ghost use Rattle.savepoint_codec.specs.Answer.{Gives, unindexed_of_bytes};
 
 use crate::fault::SaveFault;
 use crate::fields::{read_kinds, read_max, read_number, read_record, read_sources};
 use crate::groups::read_groups;
-use crate::savepoint::{Contents, SavedGroup, Savepoint};
-use aggregates::Kind;
+use crate::savepoint::{Contents, Front, Savepoint};
 use byte_fields::{FieldFault, ReadFault, read_bytes};
-use plain_data::Items;
-use plan_model::{Uid, read_uid};
+use plan_model::read_uid;
 use std::alloc::Global;
-
-/// What a savepoint holds of the window operator.
-struct WindowParts {
-    uid: Uid,
-    kinds: Items<Kind>,
-    groups: Items<SavedGroup>,
-}
 
 /// The bytes behind those that a savepoint begins with.
 fn read_mark(bytes: &[u8]) -> Result<&[u8], FieldFault>
@@ -35,41 +27,45 @@ fn read_mark(bytes: &[u8]) -> Result<&[u8], FieldFault>
     }
 }
 
-#[tactic(auto, unfolding(crate::specs::Layout::window_fields))]
-fn read_window(alloc: Global, max: u16, bytes: &[u8]) -> Result<(WindowParts, &[u8]), ReadFault>
-    ensures { Read (λ x. ((x.0.uid, (x.0.kinds, x.0.groups)), x.1.now)) result ((window_fields max).read bytes.now) }
+/// What stands in a savepoint's bytes before its key groups, and the bytes behind it.
+///
+/// # Errors
+///
+/// The fault of the first field, from the front, that cannot be read; `Memory`.
+#[tactic(auto, unfolding(crate::specs::Layout::front_field))]
+pub fn read_front(alloc: Global, bytes: &[u8]) -> Result<(Front, &[u8]), ReadFault>
+    ensures read { Read (λ x. (x.0, x.1.now)) result (front_field.read bytes.now) }
+    ensures few { IfOk result (λ x. length x.0.kinds ≤ MOST_AGGREGATES) }
 {
-    let (uid, rest) = read_uid(alloc, bytes)?;
-    let (kinds, rest) = read_kinds(alloc, rest)?;
-    let (groups, rest) = read_groups(alloc, max, kinds.as_slice(), rest)?;
-    Ok((WindowParts { uid, kinds, groups }, rest))
-}
-
-#[tactic(auto, unfolding(crate::specs::Layout::savepoint_format, crate::specs::Layout::fields))]
-fn read_contents(alloc: Global, bytes: &[u8]) -> Result<(Contents, &[u8]), ReadFault>
-    ensures { Read (λ x. (x.0, x.1.now)) result (savepoint_format.read bytes.now) }
-{
-    let rest = read_mark(bytes)?;
-    let (number, rest) = read_number(rest)?;
+    let (number, rest) = read_number(bytes)?;
     let (plan_record, rest) = read_record(alloc, rest)?;
     let (max, rest) = read_max(rest)?;
     let (sources, rest) = read_sources(alloc, rest)?;
-    let (window, rest) = read_window(alloc, max, rest)?;
-    let WindowParts { uid, kinds, groups } = window;
-    let contents = Contents {
+    let (window_uid, rest) = read_uid(alloc, rest)?;
+    let (kinds, rest) = read_kinds(alloc, rest)?;
+    let front = Front {
         number,
         plan_record,
         max,
         sources,
-        window_uid: uid,
+        window_uid,
         kinds,
-        groups,
     };
-    Ok((contents, rest))
+    Ok((front, rest))
+}
+
+#[tactic(auto, unfolding(crate::specs::Layout::unindexed_format, crate::specs::Layout::fields))]
+fn read_contents(alloc: Global, bytes: &[u8]) -> Result<(Contents, &[u8]), ReadFault>
+    ensures { Read (λ x. (x.0, x.1.now)) result (unindexed_format.read bytes.now) }
+{
+    let rest = read_mark(bytes)?;
+    let (front, rest) = read_front(alloc, rest)?;
+    let (groups, rest) = read_groups(alloc, front.max, front.kinds.as_slice(), rest)?;
+    Ok((front.with_groups(groups), rest))
 }
 
 fn read_whole(alloc: Global, bytes: &[u8]) -> Result<Contents, ReadFault>
-    ensures { Read (λ contents. contents) result (whole savepoint_format bytes.now) }
+    ensures { Read (λ contents. contents) result (whole unindexed_format bytes.now) }
 {
     let (contents, rest) = read_contents(alloc, bytes)?;
     if !rest.is_empty() {
@@ -78,18 +74,18 @@ fn read_whole(alloc: Global, bytes: &[u8]) -> Result<Contents, ReadFault>
     Ok(contents)
 }
 
-/// The savepoint that the bytes spell, all of them.
+/// The savepoint that the bytes spell, all of them, in the layout without an index.
 ///
 /// # Errors
 ///
 /// The fault of the first field, from the front, that cannot be read; `Memory`. No count is trusted: room
 /// is made for no more than the bytes can hold.
 pub fn decode(alloc: Global, bytes: &[u8]) -> Result<Savepoint, SaveFault>
-    ensures exact { Gives result (savepoint_of_bytes bytes.now) }
+    ensures exact { Gives result (unindexed_of_bytes bytes.now) }
     // What is read is spelled so.
-    ensures spelled { IfOk result (λ s. bytes.now ≡ savepoint_bytes s) }
+    ensures spelled { IfOk result (λ s. bytes.now ≡ unindexed_bytes s) }
     // What is spelled so is read, unless memory runs out.
-    ensures read { (s : ContentsValue) → IsSavepoint s → bytes.now ≡ savepoint_bytes s → Gives result (Ok s) }
+    ensures read { (s : ContentsValue) → IsSavepoint s → bytes.now ≡ unindexed_bytes s → Gives result (Ok s) }
 {
     let contents = read_whole(alloc, bytes)?;
     Ok(Savepoint::from_contents(contents))

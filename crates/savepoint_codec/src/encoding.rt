@@ -1,11 +1,11 @@
-//! A savepoint put into bytes.
+//! A savepoint put into bytes, in the layout without an index.
 
 ghost use Rattle.std.specs.Prelude.{◌≡◌, ◌<◌, ◌≤◌, None, ◌++◌, length, OnOk, IfOk};
 ghost use Rattle.std.specs.List.{All, flat_map};
 ghost use Rattle.byte_fields.specs.Fields.{i128_field};
 ghost use Rattle.savepoint_codec.specs.EntriesView.{entry_data};
 ghost use Rattle.savepoint_codec.specs.Fields.{partition_field, partitions_field, source_field, sources_field, kind_code, kind_field, kinds_field, pane_field, entry_field, entries_field, group_field, groups_field};
-ghost use Rattle.savepoint_codec.specs.Layout.{record_field, window_fields, fields, parts_of, savepoint_bytes};
+ghost use Rattle.savepoint_codec.specs.Layout.{record_field, front_field, front_of, fields, parts_of, unindexed_bytes};
 ghost use Rattle.savepoint_codec.specs.Writing.{HasFewPartitions, IsOfKinds, AreOfKinds, IsShort, entry_bytes};
 
 use crate::entries::{Entries, Entry};
@@ -134,7 +134,12 @@ fn put_entry(out: &mut Vec<u8>, entry: Entry<'_>) -> Result<(), AllocError>
     put_numbers(out, entry.numbers)
 }
 
-fn put_entry_list(out: &mut Vec<u8>, entries: &Entries) -> Result<(), AllocError>
+/// The entries of a key group, one after the other.
+///
+/// # Errors
+///
+/// Only where memory runs out.
+pub fn put_entry_list(out: &mut Vec<u8>, entries: &Entries) -> Result<(), AllocError>
     ensures { OnOk result (out.new.items ≡ out.old.items ++ flat_map entry_bytes entries.now.entries) }
 {
     for i in 0..entries.len() {
@@ -194,38 +199,42 @@ fn put_groups(
     put_group_list(out, max, kinds, groups)
 }
 
-/// What a savepoint holds of the window operator.
-#[tactic(auto, unfolding(crate::specs::Layout::window_fields))]
-fn put_window(out: &mut Vec<u8>, contents: &Contents) -> Result<(), AllocError>
+/// What stands in a savepoint's bytes before its key groups.
+///
+/// # Errors
+///
+/// Only where memory runs out.
+#[tactic(auto, unfolding(crate::specs::Layout::front_field, crate::specs::Fields::number_field, crate::specs::Fields::max_field))]
+pub fn put_front(out: &mut Vec<u8>, contents: &Contents) -> Result<(), AllocError>
     requires { IsShort contents.now }
-    ensures { OnOk result (out.new.items ≡ out.old.items ++ (window_fields contents.now.max).spell (contents.now.window_uid, (contents.now.kinds, contents.now.groups))) }
-{
-    put_uid(out, contents.window_uid.as_str())?;
-    let kinds = contents.kinds.as_slice();
-    put_kinds(out, kinds)?;
-    put_groups(out, contents.max, kinds, contents.groups.as_slice())
-}
-
-#[tactic(auto, unfolding(crate::specs::Layout::fields, crate::specs::Fields::number_field, crate::specs::Fields::max_field))]
-fn put_contents(out: &mut Vec<u8>, contents: &Contents) -> Result<(), AllocError>
-    requires { IsShort contents.now }
-    ensures { OnOk result (out.new.items ≡ out.old.items ++ fields.spell (parts_of contents.now)) }
+    ensures { OnOk result (out.new.items ≡ out.old.items ++ front_field.spell (front_of contents.now)) }
 {
     put_u64(out, contents.number)?;
     put_record(out, contents.plan_record.as_slice())?;
     put_u16(out, contents.max)?;
     put_sources(out, contents.sources.as_slice())?;
-    put_window(out, contents)
+    put_uid(out, contents.window_uid.as_str())?;
+    put_kinds(out, contents.kinds.as_slice())
 }
 
-/// The one spelling of a savepoint.
+#[tactic(auto, unfolding(crate::specs::Layout::fields))]
+fn put_contents(out: &mut Vec<u8>, contents: &Contents) -> Result<(), AllocError>
+    requires { IsShort contents.now }
+    ensures { OnOk result (out.new.items ≡ out.old.items ++ fields.spell (parts_of contents.now)) }
+{
+    put_front(out, contents)?;
+    let kinds = contents.kinds.as_slice();
+    put_groups(out, contents.max, kinds, contents.groups.as_slice())
+}
+
+/// The one spelling of a savepoint in the layout without an index.
 ///
 /// # Errors
 ///
 /// Only where memory runs out.
-#[tactic(auto, unfolding(crate::specs::Layout::savepoint_format))]
+#[tactic(auto, unfolding(crate::specs::Layout::unindexed_format))]
 pub fn encode(alloc: Global, savepoint: &Savepoint) -> Result<Vec<u8>, AllocError>
-    ensures { IfOk result (λ bytes. bytes.items ≡ savepoint_bytes savepoint.now) }
+    ensures { IfOk result (λ bytes. bytes.items ≡ unindexed_bytes savepoint.now) }
 {
     let mut out = Vec::new(alloc);
     put_bytes(&mut out, b"WSP1")?;

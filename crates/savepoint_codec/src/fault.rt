@@ -10,7 +10,7 @@ use thiserror::Error;
 /// Why bytes are no savepoint, by the first field that cannot be read.
 #[derive(Clone, Copy, Debug, PartialEq, Eq, Error)]
 pub enum SaveFault {
-    /// The bytes do not begin with `WSP1`.
+    /// The bytes do not begin as those of a savepoint.
     Magic,
     /// A field passes the end of the bytes.
     Truncated,
@@ -20,6 +20,8 @@ pub enum SaveFault {
     Order,
     /// A field has a value that it cannot have.
     Range,
+    /// The index gives another place than that where a key group's entries begin.
+    Index,
     /// No memory was to be had.
     Memory,
 }
@@ -37,6 +39,7 @@ impl fmt::Display for SaveFault {
             SaveFault::Trailing => write!(f, "V3 Trailing"),
             SaveFault::Order => write!(f, "V4 Order"),
             SaveFault::Range => write!(f, "V5 Range"),
+            SaveFault::Index => write!(f, "V7 Index"),
             SaveFault::Memory => write!(f, "memory"),
         }
     }
@@ -53,6 +56,7 @@ impl From<ReadFault> for SaveFault {
             ReadFault::Bytes(FieldFault::Trailing) => SaveFault::Trailing,
             ReadFault::Bytes(FieldFault::Order) => SaveFault::Order,
             ReadFault::Bytes(FieldFault::Range) => SaveFault::Range,
+            ReadFault::Bytes(FieldFault::Index) => SaveFault::Index,
         }
     }
 }

@@ -81,7 +81,7 @@ fn read_numbers<'a>(
 }
 
 /// How many bytes an entry has: its pane, its count, and its numbers.
-fn entry_size(width: usize) -> usize
+pub fn entry_size(width: usize) -> usize
     requires { width ≤ MOST_AGGREGATES }
     ensures { result ≡ 24 + 16 * width }
 {
@@ -133,8 +133,13 @@ fn read_entry_onto<'a>(
     Ok((pane, rest))
 }
 
-/// So many entries, each after the one before.
-fn read_entry_list<'a>(
+/// So many entries, each after the one before, and the bytes behind them.
+///
+/// # Errors
+///
+/// The fault of the first field, from the front, that cannot be read; `Memory`. The count is not trusted:
+/// room is made for no more than the bytes can hold.
+pub fn read_entry_list<'a>(
     alloc: Global,
     kinds: &[Kind],
     count: u64,
@@ -182,8 +187,17 @@ fn is_number_above(last: Option<u16>, number: u16) -> bool
     }
 }
 
+/// The number of a key group of the plan's, after the one before, and the bytes behind it.
+///
+/// # Errors
+///
+/// `Truncated`, `Range` where the plan has no such group, `Order` where it is not above the one before.
 #[tactic(auto, unfolding(crate::specs::Fields::group_number))]
-fn read_group_number(max: u16, last: Option<u16>, bytes: &[u8]) -> Result<(u16, &[u8]), FieldFault>
+pub fn read_group_number(
+    max: u16,
+    last: Option<u16>,
+    bytes: &[u8],
+) -> Result<(u16, &[u8]), FieldFault>
     ensures { Reads (λ x. (x.0, x.1.now)) result ((group_number max last).read bytes.now) }
 {
     let (group, rest) = read_u16(bytes)?;

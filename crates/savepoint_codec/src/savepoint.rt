@@ -29,6 +29,17 @@ pub struct SavedGroup {
     pub entries: Entries,
 }
 
+/// What stands in a savepoint's bytes before its key groups.
+#[derive(Debug, Drop)]
+pub struct Front {
+    pub number: u64,
+    pub plan_record: Items<u8>,
+    pub max: u16,
+    pub sources: Items<SavedSource>,
+    pub window_uid: Uid,
+    pub kinds: Items<Kind>,
+}
+
 /// What a savepoint holds.
 #[derive(Debug, Drop)]
 pub struct Contents {
@@ -46,6 +57,25 @@ pub struct Contents {
     pub kinds: Items<Kind>,
     /// The key groups that have entries, ascending.
     pub groups: Items<SavedGroup>,
+}
+
+impl Front {
+    ghost use Rattle.savepoint_codec.specs.Layout.{contents_of};
+
+    /// What a savepoint holds that begins so, and has these key groups.
+    pub fn with_groups(self, groups: Items<SavedGroup>) -> Contents
+        ensures { result ≡ contents_of (self, groups) }
+    {
+        Contents {
+            number: self.number,
+            plan_record: self.plan_record,
+            max: self.max,
+            sources: self.sources,
+            window_uid: self.window_uid,
+            kinds: self.kinds,
+            groups,
+        }
+    }
 }
 
 /// A savepoint: contents that have a spelling, by its type.

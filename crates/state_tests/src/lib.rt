@@ -2,7 +2,11 @@
 #![tactic(auto)]
 
 #[cfg(test)]
+mod chance;
+#[cfg(test)]
 mod hashes;
+#[cfg(test)]
+mod indexed;
 #[cfg(test)]
 mod savepoints;
 #[cfg(test)]

@@ -5,7 +5,8 @@ use crate::making::{
     Case, FOUR_THREE, ONE_ONE, Outcome, ROWS, TWO_THREE, TWO_THREE_SHORT, outcome_asked,
     outcome_on_threads,
 };
-use savepoint_codec::{Savepoint, decode};
+use savepoint_codec::Savepoint;
+use savepoint_index::decode;
 use std::process::Abort;
 use std::random::RandomSource;
 use std::sync::atomic::{AtomicBool, Ordering};

@@ -18,7 +18,7 @@ use plan_model::{Plan, Row};
 use plan_scale::ReadScale;
 use redistribute::Start;
 use restore::check;
-use savepoint_codec::{decode, encode};
+use savepoint_index::{decode, encode};
 use std::alloc::{AllocError, Global};
 use std::random::RandomSource;
 use std::sync::atomic::AtomicBool;

@@ -123,7 +123,7 @@ fn a_savepoint_is_the_same_at_every_scale(rt: HostRuntime) -> Result<(), Fail> {
         ..first
     };
     let other = run_two(&rt, first, FOUR_EIGHT_SHORT, (FIRST, LAST))?;
-    assert_eq!(rt; one.len(), 202);
+    assert_eq!(rt; one.len(), 210);
     assert!(rt; one == other);
     Ok(())
 }

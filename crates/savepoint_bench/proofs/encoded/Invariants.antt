@@ -1,5 +1,5 @@
-use Rattle.std.proofs.Common.{◌≡◌, ◌<◌, length}
+use Rattle.savepoint_bench.specs.Count.{IsEncoded}
 use Rattle.savepoint_bench.proofs.encoded.Given as goal
 
 abbrev pub invariant-loop : goal.invariant-loop
-invariant-loop l = 0 < l.counter → l.length ≡ length l.bytes
+invariant-loop l = IsEncoded l.counter l.bytes l.length

@@ -1,6 +1,6 @@
 use Rattle.std.proofs.Common.{Ok, ap, string_bytes, sym, ◌∙◌}
-use Rattle.savepoint_codec.specs.Answer.{savepoint_of_bytes}
 use Rattle.savepoint_codec.specs.declared.savepoint.Contents.{Contents}
+use Rattle.savepoint_index.specs.Answer.{savepoint_of_bytes}
 use Rattle.job_texts.specs.declared.fault.JobFault.TheVariants.{Save}
 use Rattle.job_texts.specs.Fault.{save_fault}
 use Rattle.job_texts.specs.ShowText.{savepoint_text}
