@@ -11,6 +11,9 @@ import sys
 
 MAX = 128
 OFFSET = 10
+# How many bytes the index has of a key group, and an entry of four numbers.
+HEAD_SIZE = 18
+ENTRY_SIZE = 24 + 16 * 4
 # The canonical record of the plan: 3 columns, 128 key groups, time and key; windows of 60,000; the source `s`; no filter;
 # count, and sum, least and greatest of column 2; no having condition.
 RECORD = bytes.fromhex(
@@ -65,11 +68,14 @@ def main(folder, entries):
     for key in range(entries):
         groups.setdefault(group_of(key), []).append(key)
     with open(folder / "savepoint", "wb") as out:
-        out.write(b"WSP1" + struct.pack(">QH", 1, len(RECORD)) + RECORD + struct.pack(">H", MAX))
+        out.write(b"WSP2" + struct.pack(">QH", 1, len(RECORD)) + RECORD + struct.pack(">H", MAX))
         out.write(b"\x01\x01s\x01" + struct.pack(">Qq", OFFSET, 59_999))
         out.write(b"\x01w\x04\x00\x01\x02\x03" + struct.pack(">H", len(groups)))
+        place = out.tell() + HEAD_SIZE * len(groups)
         for group in sorted(groups):
-            out.write(struct.pack(">HQ", group, len(groups[group])))
+            out.write(struct.pack(">HQQ", group, len(groups[group]), place))
+            place += ENTRY_SIZE * len(groups[group])
+        for group in sorted(groups):
             out.write(b"".join(entry(key) for key in groups[group]))
 
 

@@ -1,4 +1,4 @@
-//! A plain program that reads and writes the layout of savepoints: plain decode|encode|show|fire TIMES FILE.
+//! A plain program that reads and writes the layout of savepoints: plain decode|encode|show|fire TIMES FILE, or plain group TIMES FILE GROUP.
 use std::collections::HashMap;
 use std::io::Write;
 
@@ -91,18 +91,48 @@ fn admits(kind: u8, count: u64, number: i128) -> bool {
     }
 }
 
-fn read_group(reader: &mut Reader<'_>, max: u16, kinds: &[u8], last: Option<u16>) -> Read<Group> {
-    let group = reader.u16()?;
-    if group >= max {
-        return Err("V5 Range");
+/// A key group in the index.
+#[derive(Clone, Copy)]
+struct Head {
+    group: u16,
+    count: u64,
+    place: u64,
+}
+
+/// How many bytes the index has of a key group.
+const HEAD_SIZE: u64 = 18;
+
+fn entry_size(kinds: &[u8]) -> u64 {
+    24 + 16 * kinds.len() as u64
+}
+
+fn read_head(reader: &mut Reader<'_>) -> Read<Head> {
+    Ok(Head { group: reader.u16()?, count: reader.u64()?, place: reader.u64()? })
+}
+
+/// The index, of which the first entries begin at `first`.
+fn read_index(reader: &mut Reader<'_>, max: u16, size: u64, first: u64, count: u16) -> Read<Vec<Head>> {
+    let mut heads: Vec<Head> = Vec::with_capacity(count as usize);
+    let mut place = Some(first);
+    for _ in 0..count {
+        let head = read_head(reader)?;
+        if head.group >= max {
+            return Err("V5 Range");
+        }
+        if head.count == 0 || heads.last().is_some_and(|last| last.group >= head.group) {
+            return Err("V4 Order");
+        }
+        if place != Some(head.place) {
+            return Err("V7 Index");
+        }
+        place = size.checked_mul(head.count).and_then(|bytes| bytes.checked_add(head.place));
+        heads.push(head);
     }
-    if last.is_some_and(|last| last >= group) {
-        return Err("V4 Order");
-    }
-    let count = reader.u64()?;
-    if count == 0 {
-        return Err("V4 Order");
-    }
+    Ok(heads)
+}
+
+fn read_entries(reader: &mut Reader<'_>, kinds: &[u8], head: Head) -> Read<Group> {
+    let Head { group, count, .. } = head;
     let room = count.min((reader.rest.len() / (24 + 16 * kinds.len())) as u64) as usize;
     let mut entries = Vec::with_capacity(room);
     let mut numbers = Vec::with_capacity(room * kinds.len());
@@ -129,9 +159,9 @@ fn read_group(reader: &mut Reader<'_>, max: u16, kinds: &[u8], last: Option<u16>
     Ok(Group { group, entries, numbers })
 }
 
-fn decode(bytes: &[u8]) -> Read<Savepoint> {
-    let mut reader = Reader { rest: bytes };
-    if reader.take(4)? != b"WSP1" {
+/// All but the key groups, and how many these are.
+fn read_front(reader: &mut Reader<'_>) -> Read<(Savepoint, u16)> {
+    if reader.take(4)? != b"WSP2" {
         return Err("V1 Magic");
     }
     let number = reader.u64()?;
@@ -165,20 +195,41 @@ fn decode(bytes: &[u8]) -> Read<Savepoint> {
         }
         kinds.push(kind);
     }
-    let mut groups: Vec<Group> = Vec::new();
-    for _ in 0..reader.u16()? {
-        let last = groups.last().map(|group| group.group);
-        groups.push(read_group(&mut reader, max, &kinds, last)?);
+    let count = reader.u16()?;
+    Ok((Savepoint { number, record, max, sources, window, kinds, groups: Vec::new() }, count))
+}
+
+fn decode(bytes: &[u8]) -> Read<Savepoint> {
+    let mut reader = Reader { rest: bytes };
+    let (mut savepoint, count) = read_front(&mut reader)?;
+    let first = (bytes.len() - reader.rest.len()) as u64 + HEAD_SIZE * count as u64;
+    let heads = read_index(&mut reader, savepoint.max, entry_size(&savepoint.kinds), first, count)?;
+    for head in heads {
+        savepoint.groups.push(read_entries(&mut reader, &savepoint.kinds, head)?);
     }
     if !reader.rest.is_empty() {
         return Err("V3 Trailing");
     }
-    Ok(Savepoint { number, record, max, sources, window, kinds, groups })
+    Ok(savepoint)
+}
+
+/// The entries of a key group, found by the index alone.
+fn decode_group(bytes: &[u8], group: u16) -> Read<Option<Group>> {
+    let mut reader = Reader { rest: bytes };
+    let (savepoint, count) = read_front(&mut reader)?;
+    for _ in 0..count {
+        let head = read_head(&mut reader)?;
+        if head.group == group {
+            let rest = usize::try_from(head.place).ok().and_then(|place| bytes.get(place..)).ok_or("V2 Truncated")?;
+            return Ok(Some(read_entries(&mut Reader { rest }, &savepoint.kinds, head)?));
+        }
+    }
+    Ok(None)
 }
 
 fn encode(s: &Savepoint) -> Vec<u8> {
     let mut out = Vec::new();
-    out.extend_from_slice(b"WSP1");
+    out.extend_from_slice(b"WSP2");
     out.extend_from_slice(&s.number.to_be_bytes());
     out.extend_from_slice(&(s.record.len() as u16).to_be_bytes());
     out.extend_from_slice(&s.record);
@@ -198,9 +249,16 @@ fn encode(s: &Savepoint) -> Vec<u8> {
     out.push(s.kinds.len() as u8);
     out.extend_from_slice(&s.kinds);
     out.extend_from_slice(&(s.groups.len() as u16).to_be_bytes());
+    let size = entry_size(&s.kinds);
+    let mut place = out.len() as u64 + HEAD_SIZE * s.groups.len() as u64;
     for group in &s.groups {
         out.extend_from_slice(&group.group.to_be_bytes());
         out.extend_from_slice(&(group.entries.len() as u64).to_be_bytes());
+        out.extend_from_slice(&place.to_be_bytes());
+        place += size * group.entries.len() as u64;
+    }
+    out.reserve_exact(place as usize - out.len());
+    for group in &s.groups {
         for (entry, numbers) in group.entries.iter().zip(group.numbers.chunks(s.kinds.len())) {
             out.extend_from_slice(&entry.start.to_be_bytes());
             out.extend_from_slice(&entry.key.to_be_bytes());
@@ -270,6 +328,12 @@ fn main() {
             let savepoint = decode(&bytes).unwrap();
             for _ in 0..times {
                 count = encode(&savepoint).len();
+            }
+        }
+        "group" => {
+            let group: u16 = words[4].parse().unwrap();
+            for _ in 0..times {
+                count = decode_group(&bytes, group).unwrap().map_or(0, |group| group.entries.len());
             }
         }
         "fire" => return fire(&decode(&bytes).unwrap()).unwrap(),

@@ -1,8 +1,8 @@
 #!/bin/sh
-# Decodes, encodes and shows a savepoint, and goes on from it to the end of its job, with this project's programs and
-# with a plain Rust program of the same layout, compares what they print, and prints what each took. Words are numbers
-# of entries (100000 1000000 where there are none); RUNS is how often each program runs (3), TIMES how often it decodes
-# or encodes (5).
+# Decodes, encodes and shows a savepoint, decodes one key group of it beside all, and goes on from it to the end of its
+# job, with this project's programs and with a plain Rust program of the same layout, compares what they print, and
+# prints what each took. Words are numbers of entries (100000 1000000 where there are none); RUNS is how often each
+# program runs (3), TIMES how often it decodes or encodes (5), GROUP which key group is decoded alone (86).
 set -e
 here=$(cd "$(dirname "$0")" && pwd)
 top=$here/../..
@@ -23,6 +23,11 @@ for entries in ${@:-100000 1000000}; do
     words="$mode ${TIMES:-5} $savepoint"
     python3 "$here/../job/compare.py" "${RUNS:-3}" plain "$folder/plain $words" streamjob "$codec $words"
   done
+  echo "decode one key group 500 times: $entries entries"
+  words="group 500 $savepoint ${GROUP:-86}"
+  python3 "$here/../job/compare.py" "${RUNS:-3}" plain "$folder/plain $words" streamjob "$codec $words"
+  echo "one key group beside all of $entries entries"
+  python3 "$here/group.py" "$codec" "$savepoint" "${GROUP:-86}" "${RUNS:-3}" || over=1
   echo "decode once, and show: $entries entries"
   python3 "$here/../job/compare.py" "${RUNS:-3}" decode "$codec decode 1 $savepoint"
   python3 "$here/../job/compare.py" "${RUNS:-3}" plain "$folder/plain show 1 $savepoint" streamjob "$program show $savepoint"
@@ -30,3 +35,4 @@ for entries in ${@:-100000 1000000}; do
   leg="leg $folder/plan.json $folder/input.json $folder/scale.json --from $savepoint"
   python3 "$here/../job/compare.py" "${RUNS:-3}" plain "$folder/plain fire 1 $savepoint" streamjob "$program $leg"
 done
+[ -z "$over" ]

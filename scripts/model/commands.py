@@ -1,13 +1,14 @@
 """What each command of streamjob has to answer: its status, standard output and standard error."""
 import collections
 import itertools
+import re
 
 from . import receipts
 from .jobs import (
     LEAST, Refusal, SINK, ends_of, leg_with_saves, level_stages, nothing_of, read_cut, read_cuts, read_input, read_legs, read_plan, read_scale, read_time, require,
     mark_of, require_choices, require_saves, require_stop, text_of, watermark_at,
 )
-from .savepoints import check, decode, encode, savepoint_of
+from .savepoints import check, decode, encode, entries_of_group, savepoint_of
 
 
 def answer(command, files, *words):
@@ -113,7 +114,13 @@ def run_told(files, plan, input_, *options):
     return text
 
 
-def show(files, savepoint):
+def show(files, savepoint, *options):
+    """The answer of `show`, whose option is `--group=G` or two words; with it of bytes that begin as a savepoint with an index and are none any other will do."""
+    if options:
+        word = options[-1].removeprefix("--group=")
+        require(re.fullmatch(r"[0-9]{1,5}", word, re.ASCII) and int(word) <= 32767, "C2 Number")
+        group = int(word)
+        return lines_of(["entry", group, start, key, count, *numbers] for start, key, count, numbers in entries_of_group(files[savepoint], group))
     saved = decode(files[savepoint])
     lines = [["number", saved.number], ["max", saved.max]]
     for uid, partitions in saved.sources:

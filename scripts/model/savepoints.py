@@ -54,20 +54,60 @@ def savepoint_of(plan, sources, left):
     return Saved(left.number, plan.record(), plan.max, sorted(partitions), plan.uid, kinds, sorted(groups.items()))
 
 
-def encode(saved):
+INDEXED, UNINDEXED = b"WSP2", b"WSP1"
+HEAD = 18  # how many bytes the index has of a key group
+
+
+def entry_size(kinds):
+    return 24 + 16 * len(kinds)
+
+
+def front(magic, saved):
+    """The fields up to the number of key groups, which are the same in both layouts."""
     def uid_field(uid):
         return bytes([len(uid)]) + uid.encode()
 
-    parts = [b"WSP1", struct.pack(">QH", saved.number, len(saved.record)), saved.record]
+    parts = [magic, struct.pack(">QH", saved.number, len(saved.record)), saved.record]
     parts += [struct.pack(">HB", saved.max, len(saved.sources))]
     for uid, partitions in saved.sources:
         parts += [uid_field(uid), bytes([len(partitions)])] + [struct.pack(">Qq", *partition) for partition in partitions]
     parts += [uid_field(saved.uid), bytes([len(saved.kinds), *saved.kinds]), struct.pack(">H", len(saved.groups))]
-    for group, entries in saved.groups:
-        parts += [struct.pack(">HQ", group, len(entries))]
-        for start, key, count, numbers in entries:
-            parts += [struct.pack(">qqQ", start, key, count)] + [number.to_bytes(16, "big", signed=True) for number in numbers]
     return b"".join(parts)
+
+
+def entries_field(entries):
+    numbers = lambda entry: b"".join(number.to_bytes(16, "big", signed=True) for number in entry[3])
+    return b"".join(struct.pack(">qqQ", *entry[:3]) + numbers(entry) for entry in entries)
+
+
+def encode(saved):
+    """The bytes of the layout that is written: an index of the key groups, and behind it the entries of all."""
+    begin = front(INDEXED, saved)
+    place, heads = len(begin) + HEAD * len(saved.groups), []
+    for group, entries in saved.groups:
+        heads.append(struct.pack(">HQQ", group, len(entries), place))
+        place += entry_size(saved.kinds) * len(entries)
+    return begin + b"".join(heads) + b"".join(entries_field(entries) for _, entries in saved.groups)
+
+
+def encode_unindexed(saved):
+    """The bytes of the layout that is read still, in which the entries of a key group stand behind its number and how many they are."""
+    groups = (struct.pack(">HQ", group, len(entries)) + entries_field(entries) for group, entries in saved.groups)
+    return front(UNINDEXED, saved) + b"".join(groups)
+
+
+ENCODINGS = [encode, encode_unindexed]
+
+
+def index_places(saved):
+    """Where the index begins to speak of each key group: its number, how many entries it has, and their place."""
+    begin = len(front(INDEXED, saved))
+    return [begin + HEAD * n for n in range(len(saved.groups))]
+
+
+def unindexed(data):
+    """The bytes of the same savepoint without an index."""
+    return encode_unindexed(decode(data))
 
 
 class Reader:
@@ -112,33 +152,59 @@ class Reader:
         require(in_range[kind], "V5 Range")
         return value
 
-    def entries(self, kinds):
-        entries, last, size = [], None, self.number(8)
+    def size(self):
+        """How many entries a key group has."""
+        size = self.number(8)
         require(size > 0, "V4 Order")
+        return size
+
+    def entries(self, kinds, size):
+        entries, last = [], None
         for _ in range(size):
             last = self.above((self.number(8, True), self.number(8, True)), last)
             count = self.within(8, 1, 2**40)
             entries.append((*last, count, [self.aggregate(kind, count) for kind in kinds]))
         return entries
 
-    def groups(self, most, kinds):
+    def unindexed_groups(self, most, kinds):
         groups, last = [], None
         for _ in range(self.number(2)):
             last = self.above(self.within(2, 0, most - 1), last)
-            groups.append((last, self.entries(kinds)))
+            groups.append((last, self.entries(kinds, self.size())))
         return groups
+
+    def index(self, most, kinds):
+        """Each key group, with how many entries it has. Places are whole numbers: one past 2^64 is no group's."""
+        heads, last, count = [], None, self.number(2)
+        place = self.place + HEAD * count
+        for _ in range(count):
+            last = self.above(self.within(2, 0, most - 1), last)
+            heads.append((last, self.size()))
+            require(self.number(8) == place, "V7 Index")
+            place += entry_size(kinds) * heads[-1][1]
+        return heads
+
+    def groups(self, most, kinds):
+        return [(group, self.entries(kinds, size)) for group, size in self.index(most, kinds)]
 
 
 def decode(data):
     reader = Reader(data)
-    require(reader.take(4) == b"WSP1", "V1 Magic")
+    magic = reader.take(4)
+    require(magic in (INDEXED, UNINDEXED), "V1 Magic")
     number = reader.within(8, 1, 2**64 - 1)
     record = reader.take(reader.number(2))
     most, sources, uid = reader.within(2, 1, 32768), reader.sources(), reader.uid()
     kinds = [reader.within(1, 0, 3) for _ in range(reader.within(1, 1, 8))]
-    groups = reader.groups(most, kinds)
+    groups = reader.groups(most, kinds) if magic == INDEXED else reader.unindexed_groups(most, kinds)
     require(reader.place == len(data), "V3 Trailing")
     return Saved(number, record, most, sources, uid, kinds, groups)
+
+
+def entries_of_group(data, group):
+    """The entries of a key group, which are found by the index alone: none of a group that is not there."""
+    require(len(data) < 4 or data[:4] == INDEXED, "V1 Magic")
+    return dict(decode(data).groups).get(group, [])
 
 
 def is_open(plan, watermark, start):

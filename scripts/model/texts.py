@@ -3,6 +3,7 @@ import copy
 import dataclasses
 import string
 
+from . import savepoints
 from .jobs import GREATEST, GREATEST_TIME, KINDS, LEAST, LEAST_TIME
 
 NUMBERS = [
@@ -423,9 +424,27 @@ def torn_savepoint(chance, data):
     return data + byte if chance.random() < 0.1 else torn(chance, data, byte)
 
 
+def misplaced(chance, saved):
+    """The savepoint with another place, or another count of entries, for one of its key groups, or as it is where it has none."""
+    data, places = savepoints.encode(saved), savepoints.index_places(saved)
+    if not places:
+        return data
+    at = chance.choice(places) + chance.choice([2, 10, 10])
+    size = savepoints.entry_size(saved.kinds)
+    # by 2^61 more entries of a multiple of eight bytes a place that wraps stays
+    number = int.from_bytes(data[at:at + 8], "big") + chance.choice([1, -1, savepoints.HEAD, size, -size, 2**61, 2**62, 2**63])
+    return data[:at] + (number % 2**64).to_bytes(8, "big") + data[at + 8:]
+
+
 def reverse_part(chance, saved):
     """Puts the sources, the key groups or the entries of one of them the other way round."""
     chance.choice([saved.sources, saved.groups, *(entries for _, entries in saved.groups)]).reverse()
+
+
+def group_word(chance, most):
+    """The word of a key group: mostly that of a key that records have, else any number, or none."""
+    group = savepoints.group_of(chance.choice([0, 1, 2]), most)
+    return str(chance.choice([group] * 6 + [0, most - 1, chance.randrange(32768), 32767, 32768, f"{group:05}", f"{group:06}", "", "x", "-1", "+1", "1.0"]))
 
 
 def torn_word(chance, word):

@@ -34,7 +34,7 @@ complete -c streamjob -n '__fish_seen_subcommand_from leg' -l receipt -r -d 'Fil
 complete -c streamjob -n '__fish_seen_subcommand_from leg' -l names -r -d 'File of the table of names, of which receipts tell too' -F
 complete -c streamjob -n '__fish_seen_subcommand_from import' -F
 complete -c streamjob -n '__fish_seen_subcommand_from import' -l names -r -d 'File of the table of names, read where it is there, and written' -F
-complete -c streamjob -n '__fish_seen_subcommand_from import' -l bound -r -d 'How far behind the greatest time of earlier entries a record may come; without it there are no watermarks' -f
+complete -c streamjob -n '__fish_seen_subcommand_from import' -l bound -r -d 'How far behind the greatest time of earlier entries a record may come; without it, only sources with a bound in the plan have watermarks' -f
 complete -c streamjob -n '__fish_seen_subcommand_from import' -l late -r -d 'File to write late records to; without it the first is refused' -F
 complete -c streamjob -n '__fish_seen_subcommand_from import' -l rows -r -d 'Most rows of an entry, 1 to 4096 (4096); watermarks stand between entries, so 1 looks at each record' -f
 complete -c streamjob -n '__fish_seen_subcommand_from import' -l bad -r -d 'File to write records to that give no row; without it the first of them are told, and nothing is written' -F
@@ -62,5 +62,6 @@ complete -c streamjob -n '__fish_seen_subcommand_from export' -l header -r -d 'W
 complete -c streamjob -n '__fish_seen_subcommand_from diff' -F
 complete -c streamjob -n '__fish_seen_subcommand_from rows' -F
 complete -c streamjob -n '__fish_seen_subcommand_from show' -F
+complete -c streamjob -n '__fish_seen_subcommand_from show' -l group -r -d 'Key group, 0 to 32767: print its entries alone; not of a savepoint without an index' -f
 complete -c streamjob -n '__fish_seen_subcommand_from group' -f
-complete -c streamjob -n '__fish_seen_subcommand_from explain' -f -a 'C1 C2 C3 D1 D2 F1 F2 P1 P2 P3 P4 P5 P6 P7 P8 P9 P10 P11 P12 P13 P14 P15 P17 I1 I2 I3 I4 I5 I6 I7 I8 I9 I10 I12 D3 D4 D5 D6 D7 D8 D9 D10 T1 T2 T3 S1 S2 S3 S4 S5 S6 S7 V1 V2 V3 V4 V5 Q1 Q2 Q3 Q4 Q5 Q6 Q7 Q8 Q9 Q11 Q12 R1 R2 R3 R4 R5 L1 L3 L4 L5 L6 L8 L7 memory'
+complete -c streamjob -n '__fish_seen_subcommand_from explain' -f -a 'C1 C2 C3 D1 D2 F1 F2 P1 P2 P3 P4 P5 P6 P7 P8 P9 P10 P11 P12 P13 P14 P15 P17 I1 I2 I3 I4 I5 I6 I7 I8 I9 I10 I12 D3 D4 D5 D6 D7 D8 D9 D10 T1 T2 T3 S1 S2 S3 S4 S5 S6 S7 V1 V2 V3 V4 V5 V7 Q1 Q2 Q3 Q4 Q5 Q6 Q7 Q8 Q9 Q11 Q12 R1 R2 R3 R4 R5 L1 L3 L4 L5 L6 L8 L7 memory'
