@@ -111,7 +111,7 @@ merge_numbers-kinds (aggregate.Sum c ∷ aggregates) (x ∷ xs) (y ∷ ys) = ap 
 merge_numbers-kinds (aggregate.Least c ∷ aggregates) (x ∷ xs) (y ∷ ys) = ap (λ l. int_min x y ∷ l) (merge_numbers-kinds aggregates xs ys)
 merge_numbers-kinds (aggregate.Greatest c ∷ aggregates) (x ∷ xs) (y ∷ ys) = ap (λ l. int_max x y ∷ l) (merge_numbers-kinds aggregates xs ys)
 
-one_number : (a : Aggregate) (r : Record) → is_i64 (number_of a r []) ≡ true → is_number 1 (kind_of a) (number_of a r []) ≡ true
+pub one_number : (a : Aggregate) (r : Record) → is_i64 (number_of a r []) ≡ true → is_number 1 (kind_of a) (number_of a r []) ≡ true
 one_number aggregate.Count r h = refl
 one_number (aggregate.Sum c) r h = grind (arith, ints)
 one_number (aggregate.Least c) r h = h

@@ -194,7 +194,7 @@ pub record_exact : {X Y : Type 0} (to : X → Y) (from : Y → X) (f : Format X)
 record_exact {X} {Y} to from f exact there back =
     seen_exact to from (λ y. f.fits (from y)) f exact (λ x h. (there x h, subst (λ (z : X). f.fits z ≡ true) (sym (there x h)) h)) (λ y h. (back y, h))
 
-same_bytes : (a b : List ℕ) → bytes_eq a b ≡ true → a ≡ b
+pub same_bytes : (a b : List ℕ) → bytes_eq a b ≡ true → a ≡ b
 same_bytes a b h = grind (arith, common_steps, bytes_eq-Decides a b)
 
 bytes_same : (a : List ℕ) → bytes_eq a a ≡ true
@@ -277,6 +277,19 @@ u16_exact = number_exact w16 wide16
 pub u64_exact : IsExact u64_field
 unfolding u64_field
 u64_exact = number_exact w64 wide64
+
+-- how long numbers are
+pub u16-length : (n : ℕ) → length (u16_field.spell n) ≡ 2
+unfolding u16_field
+u16-length n = wide16.len n
+
+pub u64-length : (n : ℕ) → length (u64_field.spell n) ≡ 8
+unfolding u64_field
+u64-length n = wide64.len n
+
+pub i64-length : (z : ℤ) → length (i64_field.spell z) ≡ 8
+unfolding i64_field
+i64-length z = u64-length _
 
 u128_exact : IsExact u128_field
 unfolding u128_field u64_field
@@ -385,7 +398,7 @@ pub counted-spell-where : {X : Type 0} (count : Format ℕ) (item : Option X →
 unfolding counted
 counted-spell-where count item spelled P alike xs all = ap (λ (bytes : List ℕ). count.spell (length xs) ++ bytes) (chain-spell item spelled P alike None (length xs) xs refl all)
 
-all_units : {X : Type 0} (xs : List X) → All (λ _. Unit {0}) xs
+pub all_units : {X : Type 0} (xs : List X) → All (λ _. Unit {0}) xs
 all_units xs k d below = tt
 
 pub counted-spell : {X : Type 0} (count : Format ℕ) (item : Option X → Format X) (spelled : X → List ℕ) → ((last : Option X) (x : X) → (item last).spell x ≡ spelled x)

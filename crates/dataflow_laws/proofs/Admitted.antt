@@ -13,15 +13,13 @@ use Rattle.stream_model.specs.declared.entry.Marked.{Marked}
 use Rattle.stream_model.specs.declared.entry.Entry.TheVariants as entry
 use Rattle.stream_model.specs.InputData.{InputData, IsEntry, IsEntryOf, IsInput, BelongsTo, partition_at, no_entry, records_of_entry, records_in, records_in_source, all_records}
 use Rattle.stream_model.specs.Watermarks.{IsCut, records_before, records_before_in, full_cut}
-use Rattle.dataflow_model.specs.declared.role.Role.{Role}
-use Rattle.dataflow_model.specs.declared.role.Role.TheVariants.{Source, Chain, Window, Sink}
 use Rattle.dataflow_model.specs.Message.{records_of}
 use Rattle.dataflow_model.specs.Role.{is_source}
 use Rattle.dataflow_model.specs.Sums.{total}
 use Rattle.dataflow_model.specs.Leg.{Leg}
 use Rattle.dataflow_model.specs.AbstractLayout.{AbstractLayout, Deals, partition_read}
 use Rattle.dataflow_model.specs.Cuts.{joined}
-use Rattle.dataflow_model.proofs.Facts.{total_same}
+use Rattle.dataflow_model.proofs.Facts.{total_same, source_yes}
 use Rattle.dataflow_laws.proofs.Dealing.{total_dealt}
 use Rattle.dataflow_laws.specs.Count.{record_count}
 use Rattle.dataflow_laws.specs.Admission.{FitsPlan}
@@ -114,19 +112,13 @@ few_of (s ∷ ss) (c ∷ cs) =
 pub few_before : (i : InputData) (cut : List (List ℕ)) → IsInput i → length (records_before i.sources cut) ≤ MOST_RECORDS
 few_before i cut input = let f = input.few in let h = few_of i.sources cut in omega (arith, f, h)
 
-reads : (r : Role) → is_source r ≡ true → r ≡ Source
-reads Source e = refl
-reads Chain e = absurd cc
-reads Window e = absurd cc
-reads Sink e = absurd cc
-
 tasks_have : (p : PlanData) (i : InputData) (leg : Leg) (l : AbstractLayout) → Deals (input_of p i) leg l → record_count l ≡ total (input_of p i).partitions (records_at p i)
 unfolding records_at
 tasks_have p i leg l d =
     total_same l.before _ (λ t. cond (is_source (l.task t).role) (total (l.task t).inputs (λ k. records_at p i (partition_read (input_of p i) l t k))) 0) (λ t m. elim (cases_Bool (is_source (l.task t).role)) [
       | inr e ↦ rw e refl
       | inl e ↦ rw e (total_same (l.task t).inputs _ (λ k. records_at p i (partition_read (input_of p i) l t k)) (λ k kl.
-          let x = d.there t k m (reads (l.task t).role e) kl in
+          let x = d.there t k m (source_yes (l.task t).role e) kl in
           ap (λ n. total n (λ n. length (records_of ((l.task t).entry k n)))) x.size
           ∙ total_same ((input_of p i).size (partition_read (input_of p i) l t k)) _ _ (λ n nl. ap (λ y. length (records_of y)) (x.entry n))))
     ])

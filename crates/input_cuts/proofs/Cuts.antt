@@ -9,7 +9,8 @@ use Rattle.stream_model.specs.declared.entry.Marked.{Marked}
 use Rattle.stream_model.specs.Watermarks.{partition_watermark, source_watermark, merged_watermark, IsCut, IsBefore}
 use Rattle.input_cuts.specs.Cuts.{first_count, first_cut}
 use Rattle.input_cuts.specs.Laws.{FirstCutIsFirst, FirstCutIsDue}
-use Rattle.input_cuts.proofs.First.{is_first, is_at}
+use Rattle.plan_model.proofs.Facts.{test_from_le}
+use Rattle.input_cuts.proofs.First.{is_first}
 
 module _ (w : ℤ) (low : w ≤ℤ highest) where
   both : (a b : ℤ) → w ≤ℤ a → w ≤ℤ b → w ≤ℤ int_min a b
@@ -75,4 +76,4 @@ pub first_cut_is_due : FirstCutIsDue
 first_cut_is_due o t s sources low ends =
     let w = t -ℤ pos 1 in
     let m = merged_watermark sources (first_cut w sources) in
-    is_at ((s +ℤ o.size) -ℤ pos 1) m (due (s +ℤ o.size) t m ends (reached w low sources))
+    test_from_le ((s +ℤ o.size) -ℤ pos 1) m (due (s +ℤ o.size) t m ends (reached w low sources))

@@ -10,12 +10,7 @@ use Rattle.stream_model.specs.declared.entry.Marked.{Marked}
 use Rattle.stream_model.specs.Watermarks.{partition_watermark}
 use Rattle.input_cuts.specs.Cuts.{first_count}
 use Rattle.stream_model.proofs.Facts.{above}
-
-pub is_at : (a b : ℤ) → a ≤ℤ b → int_le a b ≡ true
-is_at a b h = grind (arith, ints)
-
-pub at_is : (a b : ℤ) → int_le a b ≡ true → a ≤ℤ b
-at_is a b h = grind (arith, ints)
+use Rattle.plan_model.proofs.Facts.{test_from_le, le_from_test}
 
 pub is_below : (a b : ℤ) → b <ℤ a → int_le a b ≡ false
 is_below a b h = grind (arith, ints)
@@ -36,7 +31,7 @@ not_found test from (suc len) none = let here = none from (omega arith) in rw he
 pub count_at : (w : ℤ) (entries : List Marked) (n : ℕ) → n < length entries → w ≤ℤ partition_watermark entries n → ((m : ℕ) → m < n → partition_watermark entries m <ℤ w) → n ≡ first_count w entries
 count_at w entries n short reached before =
     let test = λ (k : ℕ). int_le w (partition_watermark entries k) in
-    let is = found test 0 (length entries) n (omega arith) (omega arith) (is_at w (partition_watermark entries n) reached) (λ m l. is_below w (partition_watermark entries m) (before m l)) in
+    let is = found test 0 (length entries) n (omega arith) (omega arith) (test_from_le w (partition_watermark entries n) reached) (λ m l. is_below w (partition_watermark entries m) (before m l)) in
     rw is refl
 
 pub count_past : (w : ℤ) (entries : List Marked) → ((m : ℕ) → m < length entries → partition_watermark entries m <ℤ w) → length entries ≡ first_count w entries
@@ -89,7 +84,7 @@ of_found w entries low None h = record {
 }
 of_found w entries low (Some n) h = record {
   within = (let l = h.0 in omega (arith, l));
-  reached = at_is w (partition_watermark entries n) h.1;
+  reached = le_from_test w (partition_watermark entries n) h.1;
   first = λ m l. above w (partition_watermark entries m) (h.2 m (omega arith) l);
 }
 

@@ -3,13 +3,11 @@ use Rattle.std.proofs.Common.{ℕ, zero, suc, ◌<◌, ◌≤◌, ℤ, ◌≤ℤ
 use Rattle.std.specs.Int.{int_min}
 use Rattle.std.specs.List.{AllZip}
 use Rattle.std.proofs.lemmas.Int.{ints, clamps}
+use Rattle.std.specs.Int.Signed.{≤ℤ_refl}
 use Rattle.plain_data.specs.Times.{highest}
 use Rattle.stream_model.specs.declared.entry.Marked.{Marked}
 use Rattle.stream_model.specs.Watermarks.{IsCut, partition_watermark, source_watermark, merged_watermark}
 use Rattle.dataflow_model.specs.Leg.{count_at}
-
-highest_top : highest ≤ℤ highest
-highest_top = omega (arith, ints)
 
 min_top : (a b c : ℤ) → b ≤ℤ c → int_min a b ≤ℤ c
 min_top a b c h = omega (arith, ints, clamps, h)
@@ -20,18 +18,15 @@ min_first a b c h = omega (arith, ints, clamps, h)
 min_both : (a b v : ℤ) → v ≤ℤ a → v ≤ℤ b → v ≤ℤ int_min a b
 min_both a b v h k = omega (arith, ints, clamps, h, k)
 
-le_itself : (a : ℤ) → a ≤ℤ a
-le_itself a = omega (arith, ints)
-
 pub merged_bound : (ss : List (List (List Marked))) (cs : List (List ℕ)) → merged_watermark ss cs ≤ℤ highest
-merged_bound [] cs = highest_top
-merged_bound (s ∷ ss) [] = highest_top
+merged_bound [] cs = ≤ℤ_refl highest
+merged_bound (s ∷ ss) [] = ≤ℤ_refl highest
 merged_bound (s ∷ ss) (c ∷ cs) = min_top (source_watermark s c) (merged_watermark ss cs) highest (merged_bound ss cs)
 
 source_below : (ps : List (List Marked)) (ns : List ℕ) (k : ℕ) → AllZip (λ p n. n ≤ length p) ps ns → k < length ps → source_watermark ps ns ≤ℤ partition_watermark (get_or ps k []) (slice_index ns k)
 source_below [] ns k cut l = absurd (omega (arith, l))
 source_below (p ∷ ps) [] k cut l = absurd cut
-source_below (p ∷ ps) (n ∷ ns) zero cut l = min_first (partition_watermark p n) (source_watermark ps ns) _ (le_itself (partition_watermark p n))
+source_below (p ∷ ps) (n ∷ ns) zero cut l = min_first (partition_watermark p n) (source_watermark ps ns) _ (≤ℤ_refl (partition_watermark p n))
 source_below (p ∷ ps) (n ∷ ns) (suc k) cut l = min_top (partition_watermark p n) (source_watermark ps ns) _ (source_below ps ns k cut.1 (omega (arith, l)))
 
 pub merged_below : (ss : List (List (List Marked))) (cs : List (List ℕ)) (x k : ℕ) → IsCut ss cs → x < length ss → k < length (get_or ss x []) → merged_watermark ss cs ≤ℤ partition_watermark (get_or (get_or ss x []) k []) (count_at cs x k)

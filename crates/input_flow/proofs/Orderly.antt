@@ -11,7 +11,7 @@ use Rattle.stream_model.specs.declared.entry.Entry.{Entry}
 use Rattle.stream_model.specs.declared.entry.Marked.{Marked}
 use Rattle.stream_model.specs.declared.entry.Entry.TheVariants as entry
 use Rattle.stream_model.specs.InputData.{InputData, IsEntry, partition_at, no_entry, rows_in, records_of_entry}
-use Rattle.stream_model.proofs.Facts.{watermark_goes_on, le_fold, partition_watermark-highest, watermark_low}
+use Rattle.stream_model.proofs.Facts.{watermark_goes_on, le_fold, partition_watermark-highest, watermark_low, lowest_highest}
 use Rattle.stream_model.specs.Watermarks.{IsOrderlyPartition, partition_watermark, watermark_of_entry}
 use Rattle.dataflow_model.specs.Message.{records_of}
 use Rattle.layout_rules.specs.Layouts.{source_at, number_at}
@@ -59,9 +59,6 @@ moves columns time es n d all l =
           ∙ watermark_goes_on es n d (omega arith)
           ∙ sym (ap (λ b. int_max (partition_watermark es n) (brings (get_or es n d) b)) q)
     ]
-
-lowest_highest : lowest ≤ℤ highest
-lowest_highest = omega (arith, ints)
 
 bounded : (es : List Marked) (n : ℕ) → lowest ≤ℤ partition_watermark es n
 bounded es n = elim (cases_Bool (n == length es)) [

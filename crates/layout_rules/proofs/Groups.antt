@@ -1,14 +1,13 @@
 -- Operators in stages, from the other end.
 use Rattle.std.proofs.Common.{◌≡◌, suc, ◌<◌, List, [], ◌∷◌, ◌++◌, true, ◌&&◌, ◌==◌, length, refl, sym, ap, subst, ◌∙◌, inl, inr, arith}
 use Rattle.std.specs.List.{AllByRecursion}
-use Rattle.std.proofs.lemmas.Bool.{cases_Bool, eqb-true, false≢true}
+use Rattle.std.proofs.lemmas.Bool.{cases_Bool, eqb-true, false≢true, and_parts}
 use Rattle.plan_model.specs.PlanData.{PlanData}
 use Rattle.layout_rules.specs.declared.stage.Operator.{Operator}
 use Rattle.layout_rules.specs.declared.stage.Operator.TheVariants.{Source, Filter, Window, Sink}
 use Rattle.layout_rules.specs.Rules.{filter_scale, parallelism_of, may_chain_to, is_chained, onto_first, stage_operators_from, last_of, onto_last, HasParallelism}
 use Rattle.layout_rules.specs.Scale.{ScaleData}
 use Rattle.layout_rules.specs.Laws.{OneMore, StagesAlike}
-use Rattle.layout_rules.proofs.LayoutLaws.{both_are}
 
 first_last : (o x y : Operator) (os : List Operator) (gs : List (List Operator)) → onto_first o (onto_last x ((y ∷ os) ∷ gs)) ≡ onto_last x (onto_first o ((y ∷ os) ∷ gs))
 first_last o x y os [] = refl
@@ -46,8 +45,8 @@ one_more p c o o' (x ∷ os) =
 pub same_width : (p : PlanData) (c : ScaleData) (o o' : Operator) → is_chained p c o o' ≡ true → parallelism_of c o ≡ parallelism_of c o'
 same_width p c o (Source x) e = absurd (false≢true e)
 same_width p c o (Filter f) e =
-    let z = both_are (filter_scale c f).chain ((parallelism_of c o == (filter_scale c f).parallelism) && may_chain_to p o) e in
-    let y = both_are (parallelism_of c o == (filter_scale c f).parallelism) (may_chain_to p o) z.1 in
+    let z = and_parts (filter_scale c f).chain ((parallelism_of c o == (filter_scale c f).parallelism) && may_chain_to p o) e in
+    let y = and_parts (parallelism_of c o == (filter_scale c f).parallelism) (may_chain_to p o) z.1 in
     eqb-true (parallelism_of c o) (parallelism_of c (Filter f)) y.0
 same_width p c o Window e = absurd (false≢true e)
 same_width p c o Sink e = absurd (false≢true e)

@@ -1,18 +1,18 @@
 -- A compiled layout has the laws of a layout.
 use Rattle.std.proofs.Common.{◌≡◌, ℕ, ℤ, zero, suc, ◌+◌, ◌-◌, ◌*◌, ◌<◌, ◌≤◌, List, [], ◌∷◌, Bool, true, false, ◌&&◌, eqb, ltb, leb, length, drop, get_or, Some, None, refl, sym, ap, subst, ◌∙◌, inl, inr, arith}
-use Rattle.std.proofs.lemmas.Bool.{cases_eq, cases_Bool, cases_lt, false≢true, eq-eqb, eqb-true, ltb-true, lt-ltb, le-leb}
+use Rattle.std.proofs.lemmas.Bool.{cases_eq, cases_Bool, cases_lt, false≢true, eq-eqb, eqb-true, ltb-true, lt-ltb, le-leb, and_parts, and_from}
 use Rattle.std.proofs.lemmas.Nat.{div_below, mul-add-lt, mod_below}
 use Rattle.plain_data.specs.Record.{Record}
 use Rattle.key_groups.specs.Groups.{key_group, hash_code}
 use Rattle.key_groups.specs.Ranges.{group_owner}
 use Rattle.lane_kernels.specs.Mix.{murmur_hash}
 use Rattle.plan_model.specs.PlanData.{PlanData}
-use Rattle.dataflow_model.specs.declared.role.Role.{Role}
 use Rattle.dataflow_model.specs.declared.role.Role.TheVariants.{Source, Chain, Window, Sink}
-use Rattle.dataflow_model.specs.Role.{is_source, is_window}
+use Rattle.dataflow_model.specs.Role.{is_window}
 use Rattle.dataflow_model.specs.AbstractTask.{Whole, Split}
 use Rattle.dataflow_model.specs.Leg.{Leg}
 use Rattle.dataflow_model.specs.AbstractLayout.{AbstractLayout, IsLayout, Sends}
+use Rattle.dataflow_model.proofs.Facts.{not_a_source}
 use Rattle.layout_rules.specs.declared.stage.Edge.TheVariants.{ByGroup}
 use Rattle.layout_rules.specs.declared.stage.Stage.{Stage}
 use Rattle.layout_rules.specs.Below.{sum_below, row_of, count_below}
@@ -20,19 +20,6 @@ use Rattle.layout_rules.specs.Stages.{stage_from, stage_at, parallelism_at, role
 use Rattle.layout_rules.specs.Layouts.{Entries, owner_of, passes_operators, passes_stages, routing_of, abstract_layout}
 use Rattle.layout_rules.proofs.Shape.{IsShaped}
 use Rattle.layout_rules.proofs.Rows.{first_up, row_is, row_one, row_at, length_those, select, selected, count_none, count_all}
-
-pub both_are : (a b : Bool) → a && b ≡ true → (a ≡ true) × (b ≡ true)
-both_are true b e = (refl, e)
-both_are false b e = absurd (false≢true e)
-
-pub both_true : (a b : Bool) → a ≡ true → b ≡ true → a && b ≡ true
-both_true a b e f = rw (e, f) refl
-
-pub not_source : (r : Role) → (r ≡ Source → ⊥) → is_source r ≡ false
-not_source Source h = absurd (h refl)
-not_source Chain h = refl
-not_source Window h = refl
-not_source Sink h = refl
 
 -- not true is false
 pub is_false : (b : Bool) → (b ≡ true → ⊥) → b ≡ false
@@ -114,8 +101,8 @@ module _ (p : PlanData) (e : Entries) (leg : Leg) (stages : List Stage) (w : ℕ
   -- a ring leads to the stage after
   pub rung : (s t : ℕ) → is_ring stages s t ≡ true → (t < T) × (stage_of stages t ≡ next_stage stages (stage_of stages s)) × (connects (task_stage stages s).edge (subtask_of stages s) (subtask_of stages t) ≡ true) × (stage_of stages s ≤ w) × (s < T)
   rung s t h =
-      let a = both_are (ltb t T) (eqb (stage_of stages t) (next_stage stages (stage_of stages s)) && connects (task_stage stages s).edge (subtask_of stages s) (subtask_of stages t)) h in
-      let b = both_are (eqb (stage_of stages t) (next_stage stages (stage_of stages s))) (connects (task_stage stages s).edge (subtask_of stages s) (subtask_of stages t)) a.1 in
+      let a = and_parts (ltb t T) (eqb (stage_of stages t) (next_stage stages (stage_of stages s)) && connects (task_stage stages s).edge (subtask_of stages s) (subtask_of stages t)) h in
+      let b = and_parts (eqb (stage_of stages t) (next_stage stages (stage_of stages s))) (connects (task_stage stages s).edge (subtask_of stages s) (subtask_of stages t)) a.1 in
       let l : t < T = ltb-true t T a.0 in
       let q : stage_of stages t ≡ next_stage stages (stage_of stages s) = eqb-true (stage_of stages t) (next_stage stages (stage_of stages s)) b.0 in
       let r = row t l in
@@ -135,8 +122,8 @@ module _ (p : PlanData) (e : Entries) (leg : Leg) (stages : List Stage) (w : ℕ
 
   pub ring_at : (s t : ℕ) → t < T → stage_of stages t ≡ next_stage stages (stage_of stages s) → connects (task_stage stages s).edge (subtask_of stages s) (subtask_of stages t) ≡ true → is_ring stages s t ≡ true
   ring_at s t l q j =
-      both_true (ltb t T) (eqb (stage_of stages t) (next_stage stages (stage_of stages s)) && connects (task_stage stages s).edge (subtask_of stages s) (subtask_of stages t)) (lt-ltb t T l)
-      (both_true (eqb (stage_of stages t) (next_stage stages (stage_of stages s))) (connects (task_stage stages s).edge (subtask_of stages s) (subtask_of stages t)) (eq-eqb (stage_of stages t) (next_stage stages (stage_of stages s)) q) j)
+      and_from (ltb t T) (eqb (stage_of stages t) (next_stage stages (stage_of stages s)) && connects (task_stage stages s).edge (subtask_of stages s) (subtask_of stages t)) (lt-ltb t T l)
+      (and_from (eqb (stage_of stages t) (next_stage stages (stage_of stages s))) (connects (task_stage stages s).edge (subtask_of stages s) (subtask_of stages t)) (eq-eqb (stage_of stages t) (next_stage stages (stage_of stages s)) q) j)
 
   -- a ring between subtasks i and j of two stages
   pub ring_between : (a i b j : ℕ) → a ≤ w → i < parallelism_at stages a → b ≡ next_stage stages a → j < parallelism_at stages b → (parallelism_at stages a ≡ parallelism_at stages b → i ≡ j) → is_ring stages (F a + i) (F b + j) ≡ true
@@ -199,7 +186,7 @@ module _ (p : PlanData) (e : Entries) (leg : Leg) (stages : List Stage) (w : ℕ
 
   -- how many inputs
   pub inputs_are : (t : ℕ) → (role_of (task_stage stages t).operators ≡ Source → ⊥) → (L.task t).inputs ≡ count_below (λ x. is_ring stages x t) T
-  inputs_are t ns = let z = not_source (role_of (task_stage stages t).operators) ns in rw z (length_those (λ x. is_ring stages x t) T)
+  inputs_are t ns = let z = not_a_source (role_of (task_stage stages t).operators) ns in rw z (length_those (λ x. is_ring stages x t) T)
 
   pub outputs_are : (s : ℕ) → (L.task s).outputs ≡ count_below (is_ring stages s) T
   outputs_are s = length_those (is_ring stages s) T

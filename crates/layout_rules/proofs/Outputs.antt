@@ -1,6 +1,6 @@
 -- How many rings lead out of a task.
 use Rattle.std.proofs.Common.{◌≡◌, ℕ, suc, ◌<◌, ◌≤◌, List, true, ◌&&◌, eqb, ltb, length, Some, None, [], ap, ◌∙◌, inl, inr, arith}
-use Rattle.std.proofs.lemmas.Bool.{cases_lt, eqb-true, ltb-true, eq-eqb, lt-ltb}
+use Rattle.std.proofs.lemmas.Bool.{cases_lt, eqb-true, ltb-true, eq-eqb, lt-ltb, and_parts, and_from}
 use Rattle.std.proofs.lemmas.List.{get_or_past}
 use Rattle.plain_data.specs.Times.{lowest}
 use Rattle.plan_model.specs.PlanData.{PlanData, IsPlan}
@@ -14,22 +14,22 @@ use Rattle.layout_rules.specs.Rules.{IsCompiled, window_of}
 use Rattle.layout_rules.specs.Scale.{ScaleData, IsScale}
 use Rattle.layout_rules.specs.Layouts.{Entries}
 use Rattle.layout_rules.specs.Laws.{RingsByGroup, TasksHaveOutputs}
-use Rattle.layout_rules.proofs.LayoutLaws.{both_are, both_true, is_false, row, rung, has_out}
+use Rattle.layout_rules.proofs.LayoutLaws.{is_false, row, rung, has_out}
 use Rattle.layout_rules.proofs.Rows.{first_up, row_is, row_one, length_those, select, count_none, count_all}
 use Rattle.layout_rules.proofs.Shapes.{shaped}
 
 -- a ring leads to a task of the next stage
 leads : (stages : List Stage) (t u : ℕ) → is_ring stages t u ≡ true → (u < task_count stages) × (stage_of stages u ≡ next_stage stages (stage_of stages t))
 leads stages t u h =
-    let a = both_are (ltb u (task_count stages)) (eqb (stage_of stages u) (next_stage stages (stage_of stages t)) && connects (task_stage stages t).edge (subtask_of stages t) (subtask_of stages u)) h in
-    let b = both_are (eqb (stage_of stages u) (next_stage stages (stage_of stages t))) (connects (task_stage stages t).edge (subtask_of stages t) (subtask_of stages u)) a.1 in
+    let a = and_parts (ltb u (task_count stages)) (eqb (stage_of stages u) (next_stage stages (stage_of stages t)) && connects (task_stage stages t).edge (subtask_of stages t) (subtask_of stages u)) h in
+    let b = and_parts (eqb (stage_of stages u) (next_stage stages (stage_of stages t))) (connects (task_stage stages t).edge (subtask_of stages t) (subtask_of stages u)) a.1 in
     (ltb-true u (task_count stages) a.0, eqb-true (stage_of stages u) (next_stage stages (stage_of stages t)) b.0)
 
 -- and by group one leads to each
 joins : (stages : List Stage) (t u : ℕ) → (task_stage stages t).edge ≡ Some ByGroup → u < task_count stages → stage_of stages u ≡ next_stage stages (stage_of stages t) → is_ring stages t u ≡ true
 joins stages t u e l q =
-    both_true (ltb u (task_count stages)) (eqb (stage_of stages u) (next_stage stages (stage_of stages t)) && connects (task_stage stages t).edge (subtask_of stages t) (subtask_of stages u)) (lt-ltb u (task_count stages) l)
-    (both_true (eqb (stage_of stages u) (next_stage stages (stage_of stages t))) (connects (task_stage stages t).edge (subtask_of stages t) (subtask_of stages u)) (eq-eqb (stage_of stages u) (next_stage stages (stage_of stages t)) q)
+    and_from (ltb u (task_count stages)) (eqb (stage_of stages u) (next_stage stages (stage_of stages t)) && connects (task_stage stages t).edge (subtask_of stages t) (subtask_of stages u)) (lt-ltb u (task_count stages) l)
+    (and_from (eqb (stage_of stages u) (next_stage stages (stage_of stages t))) (connects (task_stage stages t).edge (subtask_of stages t) (subtask_of stages u)) (eq-eqb (stage_of stages u) (next_stage stages (stage_of stages t)) q)
     (ap (λ o. connects o (subtask_of stages t) (subtask_of stages u)) e))
 
 pub rings_by_group : RingsByGroup

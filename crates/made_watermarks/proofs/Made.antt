@@ -1,5 +1,5 @@
 -- The greatest mark so far is made of the greatest time so far.
-use Rattle.std.proofs.Common.{◌≡◌, ◌==◌, ℕ, ℤ, pos, ◌-ℤ◌, int_lt, true, false, cond, List, [], ◌∷◌, ◌++◌, map, take, length, Option, Some, None, refl, sym, ap, ◌∙◌, arith}
+use Rattle.std.proofs.Common.{◌≡◌, ◌==◌, ℕ, ℤ, pos, ◌-ℤ◌, false, List, [], ◌∷◌, ◌++◌, map, take, length, Option, Some, None, refl, sym, ap, ◌∙◌, arith}
 use Rattle.std.specs.Int.{int_max}
 use Rattle.std.specs.List.{All, fold}
 use Rattle.std.proofs.lemmas.Bool.{ne_eqb}
@@ -17,6 +17,7 @@ use Rattle.stream_model.specs.declared.entry.Marked.{Marked}
 use Rattle.stream_model.specs.InputData.{IsEntry, IsEntryOf, records_of_entry, records_in}
 use Rattle.stream_model.specs.Marks.{IsMarked, rows_in, greatest_time, made}
 use Rattle.stream_model.specs.Watermarks.{watermark_of_entry, partition_watermark}
+use Rattle.stream_model.proofs.Facts.{keeps, fold_within}
 use Rattle.made_watermarks.specs.Laws.{WatermarkIsMade}
 
 -- ---- the greatest of two lists
@@ -70,17 +71,9 @@ module _ (bound : ℤ) (bounded : IsBound (Some bound)) where
 
 -- ---- times are in range
 
-one_of_two : (a b : ℤ) → IsTime a → IsTime b → IsTime (int_max a b)
-one_of_two a b h k = elim (int_lt b a) as (λ t. IsTime (cond t a b)) [ true ↦ h | false ↦ k ]
-
-timely_fold : (time : ℕ) (rows : List Record) (a : ℤ) → IsTime a → All (λ r. IsTime (at time r)) rows → IsTime (fold int_max a (column_of time rows))
-timely_fold time [] a h all = h
-timely_fold time (r ∷ rows) a h all =
-    timely_fold time rows (int_max a (at time r)) (one_of_two a (at time r) h (All-head (λ x. IsTime (at time x)) r rows all)) (All-tail (λ x. IsTime (at time x)) r rows all)
-
 pub timely_rows : (time : ℕ) (rows : List Record) → All (λ r. IsTime (at time r)) rows → IsTimely (greatest_of (column_of time rows))
 timely_rows time [] all = tt
-timely_rows time (r ∷ rows) all = timely_fold time rows (at time r) (All-head (λ x. IsTime (at time x)) r rows all) (All-tail (λ x. IsTime (at time x)) r rows all)
+timely_rows time (r ∷ rows) all = fold_within IsTime time rows (at time r) (All-head (λ x. IsTime (at time x)) r rows all) (All-tail (λ x. IsTime (at time x)) r rows all)
 
 timely_entry : (columns time : ℕ) (e : Entry) → IsEntryOf columns time e → IsTimely (greatest_time time e)
 timely_entry columns time (Rows batch) h = timely_rows time batch.rows h.1
@@ -89,7 +82,7 @@ timely_entry columns time (Watermark t) h = tt
 timely_greater : (a b : Option ℤ) → IsTimely a → IsTimely b → IsTimely (greater a b)
 timely_greater None b h k = k
 timely_greater (Some s) None h k = h
-timely_greater (Some s) (Some t) h k = one_of_two s t h k
+timely_greater (Some s) (Some t) h k = keeps IsTime s t h k
 
 -- ---- entry by entry
 

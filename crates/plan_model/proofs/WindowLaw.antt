@@ -90,7 +90,7 @@ is_start-to w s h is =
 pub le_from_test : (a b : ℤ) → int_le a b ≡ true → a ≤ℤ b
 le_from_test a b h = grind (arith, ints)
 
-lt_from_test : (a b : ℤ) → int_lt a b ≡ true → a <ℤ b
+pub lt_from_test : (a b : ℤ) → int_lt a b ≡ true → a <ℤ b
 lt_from_test a b h = grind (arith, ints)
 
 pub test_from_le : (a b : ℤ) → a ≤ℤ b → int_le a b ≡ true

@@ -7,6 +7,7 @@ use Rattle.std.specs.List.{All, find, list_all, list_any}
 use Rattle.std.proofs.lemmas.List.{length-map}
 use Rattle.std.proofs.lemmas.List.Elements.{All-head, All-tail}
 use Rattle.std.proofs.lemmas.Slice.Eq.{bytes_eq-Decides}
+use Rattle.std.proofs.lemmas.Bool.{or_parts}
 use Rattle.byte_fields.specs.Lists.{listed}
 use Rattle.byte_fields.specs.Fields.{u8_field}
 use Rattle.byte_fields.proofs.Exact.{IsExact, and_true, before_exact, i64_exact, listed_exact, one_value, u8_exact}
@@ -39,15 +40,11 @@ bound_is [] uid all = tt
 bound_is (s ∷ sources) uid all =
     rw (first_bound s sources uid) (one_of (bytes_eq s.uid uid) s.bound (bound_of sources uid) (All-head (λ (x : SourceSpec). IsBound x.bound) s sources all) (bound_is sources uid (All-tail (λ (x : SourceSpec). IsBound x.bound) s sources all)))
 
-or_false : (a b : Bool) → (a || b) ≡ false → (a ≡ false) × (b ≡ false)
-or_false true b h = absurd cc
-or_false false b h = (refl, h)
-
 -- a uid that no source has
 none_under : (sources : List SourceSpec) (uid : List ℕ) → list_any (bytes_eq uid) (map (λ s. s.uid) sources) ≡ false → bound_of sources uid ≡ None
 none_under [] uid h = refl
 none_under (s ∷ sources) uid h =
-    let parts = or_false (bytes_eq uid s.uid) (list_any (bytes_eq uid) (map (λ (x : SourceSpec). x.uid) sources)) h in
+    let parts = or_parts (bytes_eq uid s.uid) (list_any (bytes_eq uid) (map (λ (x : SourceSpec). x.uid) sources)) h in
     let other : bytes_eq s.uid uid ≡ false = nat_list_eq_equiv.symm s.uid uid ∙ parts.0 in
     first_bound s sources uid ∙ ap (λ (b : Bool). cond b s.bound (bound_of sources uid)) other ∙ none_under sources uid parts.1
 

@@ -1,6 +1,6 @@
 -- The window's tasks have the key groups that they own.
-use Rattle.std.proofs.Common.{◌≡◌, ℕ, suc, ◌+◌, ◌-◌, ◌<◌, ◌≤◌, ℤ, Bool, true, false, ◌&&◌, eqb, leb, length, refl, sym, ap, ◌∙◌, arith, rules}
-use Rattle.std.proofs.lemmas.Bool.{leb-true, le-leb, eqb-true, eq-eqb}
+use Rattle.std.proofs.Common.{◌≡◌, ℕ, suc, ◌+◌, ◌-◌, ◌<◌, ◌≤◌, ℤ, true, eqb, leb, length, sym, ap, ◌∙◌, arith, rules}
+use Rattle.std.proofs.lemmas.Bool.{leb-true, le-leb, eqb-true, eq-eqb, and_parts, and_from}
 use Rattle.std.proofs.lemmas.Nat.{mod_below}
 use Rattle.key_groups.specs.Groups.{key_group, hash_code}
 use Rattle.key_groups.specs.Ranges.{group_range}
@@ -20,19 +20,11 @@ use Rattle.std.specs.Cmp.{both_ways}
 pub owners : OwnersHaveRanges
 owners max par i group some fits within few = search rules
 
-both_are : (a b : Bool) → a && b ≡ true → (a ≡ true) × (b ≡ true)
-both_are true b e = (refl, e)
-both_are false b e = absurd cc
-
-both : (a b : Bool) → a ≡ true → b ≡ true → a && b ≡ true
-both true b d e = e
-both false b d e = absurd cc
-
 pub has : (r : GroupRange) (g : ℕ) → is_group_of r g ≡ true → Has r g
-has r g e = let h = both_are (leb r.first g) (leb g r.last) e in (leb-true r.first g h.0, leb-true g r.last h.1)
+has r g e = let h = and_parts (leb r.first g) (leb g r.last) e in (leb-true r.first g h.0, leb-true g r.last h.1)
 
 is_had : (r : GroupRange) (g : ℕ) → Has r g → is_group_of r g ≡ true
-is_had r g h = both (leb r.first g) (leb g r.last) (le-leb r.first g h.0) (le-leb g r.last h.1)
+is_had r g h = and_from (leb r.first g) (leb g r.last) (le-leb r.first g h.0) (le-leb g r.last h.1)
 
 -- a task of the window has a key's group just where it owns the key
 pub owns : (p : PlanData) (c : ScaleData) (u : ℕ) (key : ℤ) → IsPlan p → IsScale p c → let stages = stages_of p c in let f = parallelism_at stages in let w = window_of stages in

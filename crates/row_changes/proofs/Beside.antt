@@ -3,7 +3,7 @@ use Rattle.std.proofs.Common.{◌≡◌, ℕ, suc, ℤ, pos, ◌+◌, ◌<◌, �
 use Rattle.std.specs.List.{flat_map, zip}
 use Rattle.std.specs.Option.{option_eq}
 use Rattle.std.specs.Ordering.{int_eq}
-use Rattle.std.proofs.lemmas.Bool.{cases_Bool, false≢true, eqb-true}
+use Rattle.std.proofs.lemmas.Bool.{cases_Bool, false≢true, eqb-true, not-true}
 use Rattle.std.proofs.lemmas.Int.{ints}
 use Rattle.std.proofs.lemmas.List.{flat_map_more, take_more}
 use Rattle.std.proofs.lemmas.Option.{slice_get-get_or, get_or_from_slice_get, slice_get_within}
@@ -51,16 +51,12 @@ yes_from_no : (b : Bool) → not b ≡ false → b ≡ true
 yes_from_no true e = refl
 yes_from_no false e = absurd (false≢true (sym e))
 
-no_from_yes : (b : Bool) → not b ≡ true → b ≡ false
-no_from_yes true e = absurd (false≢true e)
-no_from_yes false e = refl
-
 -- numbers that differ at a place
 pub differ_at : (xs ys : List ℤ) (i : ℕ) (o p : Option ℤ) → o ≡ slice_get xs i → p ≡ slice_get ys i → not (option_eq int_eq o p) ≡ true → false ≡ numbers_eq xs ys
 differ_at xs ys i o p x y e = elim (cases_Bool (numbers_eq xs ys)) [
   | inl same ↦
       let both : o ≡ p = x ∙ ap (λ l. slice_get l i) (numbers_same xs ys same) ∙ sym y in
-      absurd (false≢true (sym (no_from_yes (option_eq int_eq o p) e) ∙ ap (λ q. option_eq int_eq o q) (sym both) ∙ option_self o))
+      absurd (false≢true (sym (not-true (option_eq int_eq o p) e) ∙ ap (λ q. option_eq int_eq o q) (sym both) ∙ option_self o))
   | inr other ↦ sym other
 ]
 

@@ -106,7 +106,7 @@ pub group_number_exact : (max : ℕ) (last : Option ℕ) → IsExact (group_numb
 unfolding group_number
 group_number_exact max last = where_exact (is_number_after last) Order (where_it (λ n. nat_lt n max) Range u16_field) (where_exact (λ n. nat_lt n max) Range u16_field u16_exact)
 
-group_back : (kinds : List Kind) (g : SavedGroup) → g.entries.width ≡ length kinds → ◌≡◌ {A = SavedGroup} (record { group = g.group; entries = record { width = length kinds; entries = g.entries.entries } }) g
+pub group_back : (kinds : List Kind) (g : SavedGroup) → g.entries.width ≡ length kinds → ◌≡◌ {A = SavedGroup} (record { group = g.group; entries = record { width = length kinds; entries = g.entries.entries } }) g
 group_back kinds g same = ap (λ (w : ℕ). record { group = g.group; entries = record { width = w; entries = g.entries.entries } }) (sym same)
 
 group_exact : (max : ℕ) (kinds : List Kind) (last : Option ℕ) → IsExact (group_field max kinds last)

@@ -5,6 +5,7 @@ use Rattle.std.specs.List.{All, flat_map}
 use Rattle.std.proofs.lemmas.Bool.{eqb-true}
 use Rattle.std.proofs.lemmas.List.{drop_at}
 use Rattle.std.proofs.lemmas.List.Elements.{All-head, All-tail}
+use Rattle.std.proofs.lemmas.Option.{same_Some}
 use Rattle.byte_fields.specs.declared.fault.FieldFault.{FieldFault}
 use Rattle.byte_fields.specs.declared.fault.ReadFault.{ReadFault}
 use Rattle.byte_fields.specs.declared.fault.ReadFault.TheVariants.{Memory, Bytes}
@@ -12,7 +13,7 @@ use Rattle.byte_fields.specs.Format.{before, mark}
 use Rattle.byte_fields.specs.Lists.{chain}
 use Rattle.byte_fields.specs.Fields.{u16_field, u64_field}
 use Rattle.byte_fields.specs.Reads.{Fails, Gives}
-use Rattle.byte_fields.proofs.Exact.{IsExact, both, and_true, ok_is, before_exact, chain_exact, chain-spell, record_exact, u16_exact, u64_exact}
+use Rattle.byte_fields.proofs.Exact.{IsExact, both, and_true, ok_is, before_exact, chain_exact, chain-spell, record_exact, u16_exact, u64_exact, all_units, u16-length}
 use Rattle.aggregates.specs.declared.kind.Kind.{Kind}
 use Rattle.savepoint_codec.specs.declared.savepoint.SavedGroup.{SavedGroup}
 use Rattle.savepoint_codec.specs.declared.savepoint.Front.{Front}
@@ -26,14 +27,14 @@ use Rattle.savepoint_codec.proofs.Facts.{front_exact, in_parts, short_contents}
 use Rattle.savepoint_index.specs.declared.head.GroupHead.{GroupHead}
 use Rattle.savepoint_index.specs.Index.{head_field, entry_length, first_place, heads_of, indexed_groups}
 use Rattle.savepoint_index.specs.Layout.{begin_of, indexed_fields, indexed_format, savepoint_bytes}
-use Rattle.savepoint_index.specs.Reading.{any_head, first_read}
+use Rattle.savepoint_index.specs.Reading.{any_head, value_read}
 use Rattle.savepoint_index.specs.Writing.{head_bytes, group_bytes}
 use Rattle.savepoint_index.specs.Answer.{GivesEntries, entries_in, head_of_group}
 use Rattle.savepoint_index.proofs.Fits.{bytes-length, first_fits, groups_fit, heads_fit}
 use Rattle.savepoint_index.proofs.IndexExact.{HeadFits, entries_exact, head_fits}
 use Rattle.savepoint_index.proofs.Marks.{has_mark, is_marked}
 use Rattle.savepoint_index.proofs.Apart.{long_count, short_number}
-use Rattle.savepoint_index.proofs.Spelled.{end_of, entries-spell, group-length, groups-spell, heads-length, index-length, u16-length, units}
+use Rattle.savepoint_index.proofs.Spelled.{end_of, entries-spell, group-length, groups-spell, heads-length, index-length}
 
 -- ---- one key group among others
 
@@ -76,9 +77,6 @@ there kinds group g gs front head other found =
       is = rw other found.is;
     }
 
-some_is : {X : Type 0} (x y : X) → Some x ≡ Some y → x ≡ y
-some_is x y e = cc
-
 pub located : (max : ℕ) (kinds : List Kind) (last : Option SavedGroup) (group place : ℕ) (gs : List SavedGroup) (front : List ℕ) (head : GroupHead) → length front ≡ place → (chain (group_after max kinds) last (length gs)).fits gs ≡ true
     → All (AreOfKinds kinds) gs → head_of_group group (heads_of (entry_length kinds) place gs) ≡ Some head → IsLocated kinds group gs (front ++ flat_map group_bytes gs) head
 located max kinds last group place [] front head long chained all found = absurd cc
@@ -95,7 +93,7 @@ located max kinds last group place (g ∷ gs) front head long chained all found 
         → (head_of_group group hs ≡ Some head → IsLocated kinds group gs ((front ++ group_bytes g) ++ flat_map group_bytes gs) head) → IsLocated kinds group (g ∷ gs) (front ++ flat_map group_bytes (g ∷ gs)) head
     by_test true same hs found others =
         let at : ℕ → GroupHead = λ p. record { group = g.group; count = length g.entries.entries; place = p } in
-        let is : at place ≡ head = some_is (at place) head (rw same at found) in
+        let is : at place ≡ head = same_Some (at place) head (rw same at found) in
         let begun = here max kinds last group g gs front chained (All-head (AreOfKinds kinds) g gs all) same in
         subst (IsLocated kinds group (g ∷ gs) (front ++ flat_map group_bytes (g ∷ gs))) (ap at long ∙ is) begun
     by_test false other hs found others = there kinds group g gs front head other (others (rw other at found))
@@ -178,7 +176,7 @@ heads_read s h short =
     let below : end_of size (the_first s) s.groups < 2 ^ 64 = omega (arith, bytes-length s h, short) in
     let heads = heads_fit s.max s.kinds size (the_first s) None None refl (the_first s) refl s.groups below chained in
     let fits = any_chain s.max size (the_first s) None None n (the_heads s) heads in
-    let spelled : item.spell (the_heads s) ≡ indexed s = chain-spell (λ _. any_head) head_bytes (λ _. Unit {0}) (λ last x _. any-spell x) None n (the_heads s) (heads-length size (the_first s) s.groups) (units (the_heads s)) in
+    let spelled : item.spell (the_heads s) ≡ indexed s = chain-spell (λ _. any_head) head_bytes (λ _. Unit {0}) (λ last x _. any-spell x) None n (the_heads s) (heads-length size (the_first s) s.groups) (all_units (the_heads s)) in
     ap (λ (bytes : List ℕ). item.read (bytes ++ listed s)) (sym spelled) ∙ (chain_exact (λ _. any_head) (λ _. any_exact) None n).again (the_heads s) (listed s) fits
 
 -- where the index has a key group
@@ -228,7 +226,7 @@ gives_read (Ok e) said entries is h = sym (ok_is entries e (sym is ∙ h))
 gives_read (Err fault) said entries is h = fails_memory fault said entries is h
 
 pub gives_located : (r : Result EntriesData ReadFault) (kinds : List Kind) (group : ℕ) (gs : List SavedGroup) (bytes : List ℕ) (head : GroupHead) → IsLocated kinds group gs bytes head
-    → (head.place ≤ length bytes → Gives (λ e. e) r (first_read (entries_read kinds ((chain (entry_after kinds) None head.count).read (drop head.place bytes))))) → GivesEntries Memory r (entries_in (length kinds) group gs)
+    → (head.place ≤ length bytes → Gives (λ e. e) r (value_read (entries_read kinds ((chain (entry_after kinds) None head.count).read (drop head.place bytes))))) → GivesEntries Memory r (entries_in (length kinds) group gs)
 gives_located r kinds group gs bytes head at h =
-    let said = first_read (entries_read kinds ((chain (entry_after kinds) None head.count).read (drop head.place bytes))) in
-    gives_read r said (entries_in (length kinds) group gs) (ap (λ (x : Result (List EntryData × List ℕ) FieldFault). first_read (entries_read kinds x)) at.read ∙ ap (λ (e : EntriesData). Ok e) (sym at.is)) (h at.within)
+    let said = value_read (entries_read kinds ((chain (entry_after kinds) None head.count).read (drop head.place bytes))) in
+    gives_read r said (entries_in (length kinds) group gs) (ap (λ (x : Result (List EntryData × List ℕ) FieldFault). value_read (entries_read kinds x)) at.read ∙ ap (λ (e : EntriesData). Ok e) (sym at.is)) (h at.within)

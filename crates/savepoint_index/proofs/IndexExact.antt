@@ -14,7 +14,7 @@ use Rattle.savepoint_codec.specs.declared.savepoint.SavedGroup.{SavedGroup}
 use Rattle.savepoint_codec.specs.EntriesData.{EntryData}
 use Rattle.savepoint_codec.specs.Fields.{entry_after, group_number}
 use Rattle.savepoint_codec.specs.Layout.{front_field, contents_of, parts_of}
-use Rattle.savepoint_codec.proofs.Facts.{entry_exact, front_exact, group_number_exact}
+use Rattle.savepoint_codec.proofs.Facts.{entry_exact, front_exact, group_number_exact, group_back}
 use Rattle.savepoint_index.specs.declared.head.GroupHead.{GroupHead}
 use Rattle.savepoint_index.specs.Index.{place_after, head_field, lists_field, entry_length, first_place, Indexed, indexed_field, groups_of, heads_of, lists_of, indexed_of, is_wide, indexed_groups}
 use Rattle.savepoint_index.specs.Layout.{begin_of, indexed_fields, indexed_format}
@@ -102,16 +102,13 @@ are_wide kinds [] lists = refl
 are_wide kinds (head ∷ heads) [] = refl
 are_wide kinds (head ∷ heads) (entries ∷ lists) = and_true (length kinds == length kinds) (list_all (is_wide kinds) (groups_of kinds heads lists)) (eq-eqb (length kinds) (length kinds) refl) (are_wide kinds heads lists)
 
-one_back : (kinds : List Kind) (g : SavedGroup) → g.entries.width ≡ length kinds → ◌≡◌ {A = SavedGroup} (record { group = g.group; entries = record { width = length kinds; entries = g.entries.entries } }) g
-one_back kinds g same = ap (λ (w : ℕ). record { group = g.group; entries = record { width = w; entries = g.entries.entries } }) (sym same)
-
 -- key groups are those of their index and their entries
 pub groups_back : (kinds : List Kind) (size place : ℕ) (gs : List SavedGroup) → list_all (is_wide kinds) gs ≡ true → groups_of kinds (heads_of size place gs) (lists_of gs) ≡ gs
 groups_back kinds size place [] wide = refl
 groups_back kinds size place (g ∷ gs) wide =
     let w = both (is_wide kinds g) (list_all (is_wide kinds) gs) wide in
     let rest = groups_back kinds size (place + size * length g.entries.entries) gs w.1 in
-    ap (λ (x : SavedGroup). x ∷ groups_of kinds (heads_of size (place + size * length g.entries.entries) gs) (lists_of gs)) (one_back kinds g (eqb-true _ _ w.0))
+    ap (λ (x : SavedGroup). x ∷ groups_of kinds (heads_of size (place + size * length g.entries.entries) gs) (lists_of gs)) (group_back kinds g (eqb-true _ _ w.0))
     ∙ ap (λ (xs : List SavedGroup). g ∷ xs) rest
 
 indexed_back : (max : ℕ) (kinds : List Kind) (begin : ℕ) (x : Indexed) → (indexed_field max kinds begin).fits x ≡ true → indexed_of kinds begin (groups_of kinds x.1.0 x.1.1) ≡ x

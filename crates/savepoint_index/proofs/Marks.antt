@@ -1,16 +1,12 @@
 -- What bytes begin with tells the layout.
 use Rattle.std.proofs.Common.{◌≡◌, ℕ, ◌≤◌, Bool, true, false, List, ◌++◌, length, take, drop, Result, Ok, Err, refl, sym, ap, ◌∙◌, arith, length-take, inl, inr}
-use Rattle.std.specs.Prelude.{nat_lt, bytes_eq, codes}
+use Rattle.std.specs.Prelude.{nat_lt, codes}
 use Rattle.std.proofs.lemmas.Bool.{cases_lt, le-ltb, lt-ltb}
-use Rattle.std.proofs.lemmas.Grind.{common_steps}
-use Rattle.std.proofs.lemmas.Slice.Eq.{bytes_eq-Decides}
 use Rattle.byte_fields.specs.declared.fault.FieldFault.{FieldFault}
 use Rattle.byte_fields.specs.declared.fault.FieldFault.TheVariants.{Magic, Truncated}
 use Rattle.byte_fields.specs.Format.{mark}
+use Rattle.byte_fields.proofs.Exact.{same_bytes}
 use Rattle.savepoint_index.specs.Layout.{has_index}
-
-same_bytes : (a b : List ℕ) → bytes_eq a b ≡ true → a ≡ b
-same_bytes a b h = grind (arith, common_steps, bytes_eq-Decides a b)
 
 pub has_mark : (bytes : List ℕ) → has_index bytes ≡ true → (mark (codes "WSP2")).read bytes ≡ Ok (codes "WSP2", drop 4 bytes)
 unfolding has_index

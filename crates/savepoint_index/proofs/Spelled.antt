@@ -5,7 +5,7 @@ use Rattle.std.proofs.lemmas.List.Elements.{All-head, All-tail}
 use Rattle.std.proofs.Math.Nat.{mul-suc}
 use Rattle.byte_fields.specs.Lists.{chain}
 use Rattle.byte_fields.specs.Fields.{u16_field, u64_field, i64_field, i128_field, u128_field}
-use Rattle.byte_fields.proofs.Exact.{chain-spell}
+use Rattle.byte_fields.proofs.Exact.{chain-spell, all_units, u16-length, u64-length, i64-length}
 use Rattle.aggregates.specs.declared.kind.Kind.{Kind}
 use Rattle.plan_model.specs.declared.spec.Pane.{Pane}
 use Rattle.savepoint_codec.specs.declared.savepoint.SavedGroup.{SavedGroup}
@@ -34,9 +34,6 @@ lists-spell kinds size place [] all = refl
 lists-spell kinds size place (g ∷ gs) all =
     rw (entries-spell kinds g.entries.entries (All-head (AreOfKinds kinds) g gs all), lists-spell kinds size (place + size * length g.entries.entries) gs (All-tail (AreOfKinds kinds) g gs all)) refl
 
-pub units : {X : Type 0} (xs : List X) → All (λ _. Unit {0}) xs
-units xs k d below = tt
-
 pub groups-spell : (max : ℕ) (kinds : List Kind) (begin : ℕ) (gs : List SavedGroup) → All (AreOfKinds kinds) gs
     → (indexed_groups max kinds begin).spell gs ≡ u16_field.spell (length gs) ++ (flat_map head_bytes (heads_of (entry_length kinds) (first_place begin (length gs)) gs) ++ flat_map group_bytes gs)
 unfolding indexed_groups indexed_field
@@ -44,7 +41,7 @@ groups-spell max kinds begin gs all =
     let size = entry_length kinds in
     let first = first_place begin (length gs) in
     let heads = heads_of size first gs in
-    rw (chain-spell (head_field max size first) head_bytes (λ _. Unit {0}) (λ last h _. head-spell max size first last h) None (length gs) heads (heads-length size first gs) (units heads), lists-spell kinds size first gs all) refl
+    rw (chain-spell (head_field max size first) head_bytes (λ _. Unit {0}) (λ last h _. head-spell max size first last h) None (length gs) heads (heads-length size first gs) (all_units heads), lists-spell kinds size first gs all) refl
 
 -- ---- lengths
 
@@ -56,18 +53,6 @@ end_of size place (g ∷ gs) = end_of size (place + size * length g.entries.entr
 pub at_least : (size place : ℕ) (gs : List SavedGroup) → place ≤ end_of size place gs
 at_least size place [] = omega arith
 at_least size place (g ∷ gs) = omega (arith, at_least size (place + size * length g.entries.entries) gs)
-
-pub u16-length : (n : ℕ) → length (u16_field.spell n) ≡ 2
-unfolding u16_field
-u16-length n = refl
-
-pub u64-length : (n : ℕ) → length (u64_field.spell n) ≡ 8
-unfolding u64_field
-u64-length n = refl
-
-i64-length : (z : ℤ) → length (i64_field.spell z) ≡ 8
-unfolding i64_field
-i64-length z = u64-length _
 
 i128-length : (z : ℤ) → length (i128_field.spell z) ≡ 16
 unfolding i128_field u128_field u64_field

@@ -15,9 +15,9 @@ groups_read kinds heads (Ok x) = Ok (groups_of kinds heads x.0, x.1)
 groups_read kinds heads (Err fault) = Err fault
 
 -- what is read, without the bytes behind it
-abbrev pub first_read : {X : Type 0} → Result (X × List ℕ) FieldFault → Result X FieldFault
-first_read (Ok x) = Ok x.0
-first_read (Err fault) = Err fault
+abbrev pub value_read : {X : Type 0} → Result (X × List ℕ) FieldFault → Result X FieldFault
+value_read (Ok x) = Ok x.0
+value_read (Err fault) = Err fault
 
 -- a key group in the index, with any count and place
 unfoldable pub any_head : Format GroupHead

@@ -15,7 +15,7 @@ ghost use Rattle.savepoint_codec.specs.Layout.{IsSavepoint};
 ghost use Rattle.savepoint_codec.specs.Reading.{entries_read};
 ghost use Rattle.savepoint_index.specs.declared.head.GroupHead.{GroupHead as GroupHeadValue};
 ghost use Rattle.savepoint_index.specs.Layout.{savepoint_bytes};
-ghost use Rattle.savepoint_index.specs.Reading.{any_head, first_read};
+ghost use Rattle.savepoint_index.specs.Reading.{any_head, value_read};
 ghost use Rattle.savepoint_index.specs.Answer.{head_of_group, entries_of_group, GivesEntries};
 
 use crate::decoding::read_mark;
@@ -66,7 +66,7 @@ fn read_at(
     bytes: &[u8],
 ) -> Result<Entries, ReadFault>
     requires { length kinds.now ≤ MOST_AGGREGATES }
-    ensures { head.place ≤ length bytes.now → Gives (λ entries. entries) result (first_read (entries_read kinds.now ((chain (entry_after kinds.now) None head.count).read (drop head.place bytes.now)))) }
+    ensures { head.place ≤ length bytes.now → Gives (λ entries. entries) result (value_read (entries_read kinds.now ((chain (entry_after kinds.now) None head.count).read (drop head.place bytes.now)))) }
 {
     if head.place > bytes.len() as u64 {
         return Err(ReadFault::Bytes(FieldFault::Truncated));

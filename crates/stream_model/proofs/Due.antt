@@ -11,6 +11,7 @@ use Rattle.std.proofs.lemmas.List.Concat.{flat_map-append}
 use Rattle.std.proofs.lemmas.List.Sums.{fold-append}
 use Rattle.std.proofs.lemmas.List.Elements.{All-take, All-append, All-nil, All-head, All-tail, filter-append, All-weaker}
 use Rattle.std.proofs.Math.Seq.{take-add}
+use Rattle.std.specs.Int.Signed.{≤ℤ_refl}
 use Rattle.plain_data.proofs.Facts.{filter_turned}
 use Rattle.plain_data.specs.Record.{Record, at}
 use Rattle.plan_model.specs.declared.spec.WindowSpec.{WindowSpec}
@@ -138,16 +139,13 @@ fold_within c a (x ∷ xs) h all =
     (max_within a (watermark_of_entry x) c h (All-head (λ e. watermark_of_entry e ≤ℤ c) x xs all))
     (All-tail (λ e. watermark_of_entry e ≤ℤ c) x xs all)
 
-same_le : (a : ℤ) → a ≤ℤ a
-same_le a = omega (arith, ints)
-
-lowest_highest : lowest ≤ℤ highest
+pub lowest_highest : lowest ≤ℤ highest
 lowest_highest = omega (arith, ints)
 
 pub partition_watermark-highest : (p : List Marked) (n : ℕ) → All (λ e. watermark_of_entry e ≤ℤ highest) p → partition_watermark p n ≤ℤ highest
 partition_watermark-highest p n all =
     elim (n == length p) as (λ b. (if b then highest else fold (λ w e. int_max w (watermark_of_entry e)) lowest (take n p)) ≤ℤ highest) [
-      | true ↦ same_le highest
+      | true ↦ ≤ℤ_refl highest
       | false ↦ fold_within highest lowest (take n p) lowest_highest (All-take (λ e. watermark_of_entry e ≤ℤ highest) n p all)
     ]
 
@@ -165,8 +163,8 @@ partition_watermark-later p m n all h k =
 
 source_watermark-later : (ps : List (List Marked)) (ms ns : List ℕ) → AllByRecursion (λ p. All (λ e. watermark_of_entry e ≤ℤ highest) p) ps → AllZip (λ m n. m ≤ n) ms ns → AllZip (λ p n. n ≤ length p) ps ns
     → source_watermark ps ms ≤ℤ source_watermark ps ns
-source_watermark-later [] ms ns all before cut = same_le highest
-source_watermark-later (p ∷ ps) [] [] all before cut = same_le highest
+source_watermark-later [] ms ns all before cut = ≤ℤ_refl highest
+source_watermark-later (p ∷ ps) [] [] all before cut = ≤ℤ_refl highest
 source_watermark-later (p ∷ ps) [] (n ∷ ns) all before cut = absurd before
 source_watermark-later (p ∷ ps) (m ∷ ms) [] all before cut = absurd before
 source_watermark-later (p ∷ ps) (m ∷ ms) (n ∷ ns) all before cut =
@@ -175,8 +173,8 @@ source_watermark-later (p ∷ ps) (m ∷ ms) (n ∷ ns) all before cut =
 -- the merged watermark only rises from cut to cut
 pub merged_watermark-later : (ss : List (List (List Marked))) (bs cs : List (List ℕ)) → AllByRecursion (AllByRecursion (λ p. All (λ e. watermark_of_entry e ≤ℤ highest) p)) ss → IsBefore bs cs → IsCut ss cs
     → merged_watermark ss bs ≤ℤ merged_watermark ss cs
-merged_watermark-later [] bs cs all before cut = same_le highest
-merged_watermark-later (s ∷ ss) [] [] all before cut = same_le highest
+merged_watermark-later [] bs cs all before cut = ≤ℤ_refl highest
+merged_watermark-later (s ∷ ss) [] [] all before cut = ≤ℤ_refl highest
 merged_watermark-later (s ∷ ss) [] (c ∷ cs) all before cut = absurd before
 merged_watermark-later (s ∷ ss) (b ∷ bs) [] all before cut = absurd before
 merged_watermark-later (s ∷ ss) (b ∷ bs) (c ∷ cs) all before cut =

@@ -6,6 +6,7 @@ use Rattle.std.specs.Ordering.{int_eq}
 use Rattle.std.proofs.lemmas.Int.{ints, clamps}
 use Rattle.std.proofs.lemmas.Bool.{ne_eqb}
 use Rattle.std.proofs.lemmas.List.Elements.{All-nil, All-cons}
+use Rattle.std.proofs.lemmas.Cmp.{int_eq_equiv}
 use Rattle.stream_model.specs.declared.entry.Marked.{Marked}
 use Rattle.stream_model.specs.Watermarks.{watermark_of_entry}
 use Rattle.plain_data.specs.Times.{lowest}
@@ -15,7 +16,7 @@ use Rattle.stream_model.proofs.Due.{le_fold, le_trans_z}
 abbrev step : ℤ → Marked → ℤ
 step w e = int_max w (watermark_of_entry e)
 
-max_second : (a b : ℤ) → b ≤ℤ int_max a b
+pub max_second : (a b : ℤ) → b ≤ℤ int_max a b
 max_second a b = omega (arith, ints, clamps)
 
 bounds : (a : ℤ) (es : List Marked) → All (λ e. watermark_of_entry e ≤ℤ fold step a es) es
@@ -54,15 +55,12 @@ reached a (e ∷ es) z h = elim (reached (step a e) es z h) [
 same_z : (a b : ℤ) → int_eq a b ≡ true → b ≡ a
 same_z a b h = grind (arith, ints)
 
-is_itself : (a : ℤ) → int_eq a a ≡ true
-is_itself a = grind (arith, ints)
-
 pub watermark_is_greatest : WatermarkIsGreatest
 watermark_is_greatest p n short =
     let here : (n == length p) ≡ false = ne_eqb n (length p) short in
     rw here (
       bounds lowest (take n p),
-      elim (reached lowest (take n p) (fold step lowest (take n p)) (is_itself (fold step lowest (take n p)))) [
+      elim (reached lowest (take n p) (fold step lowest (take n p)) (int_eq_equiv.refl (fold step lowest (take n p)))) [
         | inl first ↦ inl (same_z _ _ first)
         | inr one ↦ inr one
       ],

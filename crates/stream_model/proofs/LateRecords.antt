@@ -1,5 +1,5 @@
 -- The search for the first record that comes too late, and what it means where there is none.
-use Rattle.std.proofs.Common.{◌≡◌, ℕ, zero, suc, ◌+◌, ◌-◌, ◌<◌, ◌≤◌, ℤ, ◌<ℤ◌, Bool, true, false, ◌||◌, cond, map, length, get_or, take, List, [], ◌∷◌, inl, inr, Option, Some, None, option_map, refl, sym, ap, ◌∙◌, arith}
+use Rattle.std.proofs.Common.{◌≡◌, ℕ, zero, suc, ◌+◌, ◌-◌, ◌<◌, ◌≤◌, ℤ, ◌<ℤ◌, Bool, true, false, cond, length, get_or, take, List, [], ◌∷◌, inl, inr, Option, Some, None, option_map, refl, sym, ap, ◌∙◌, arith}
 use Rattle.std.proofs.lemmas.Bool.{ne_eqb, or_parts, cases_eq}
 use Rattle.std.proofs.lemmas.Int.{ints}
 use Rattle.std.proofs.lemmas.List.Sums.{fold_more}
@@ -39,11 +39,6 @@ pub late_here : (time : ℕ) (entries : List Marked) (n : ℕ) (e : Marked) (w :
     → is_late_at time entries n ≡ list_any (λ r. is_late_time w (at time r)) (records_of_entry e)
 late_here time entries n e w h is so_far =
     rw (watermark_at entries n h, slice_get_read entries (length entries) n e refl h is, so_far) refl
-
--- a test of a column's numbers is one of its records
-pub list_any_map : {A B : Type 0} (test : B → Bool) (f : A → B) (xs : List A) → list_any test (map f xs) ≡ list_any (λ x. test (f x)) xs
-list_any_map test f [] = refl
-list_any_map test f (x ∷ xs) = ap (λ (b : Bool). test (f x) || b) (list_any_map test f xs)
 
 -- ---- the search in one partition
 

@@ -1,8 +1,7 @@
 -- Of panes that ascend, those that fire come first.
-use Rattle.std.proofs.Common.{◌≡◌, ℤ, pos, ◌+ℤ◌, ◌-ℤ◌, ◌-◌, ◌<◌, length, slice_get, Bool, true, false, not, cond, ◌||◌, List, [], ◌∷◌, refl, sym, ap, subst, ◌∙◌, arith, Option, Some, None, if◌then◌else◌}
+use Rattle.std.proofs.Common.{◌≡◌, ℤ, pos, ◌+ℤ◌, ◌-ℤ◌, ◌-◌, ◌<◌, length, slice_get, Bool, true, false, not, cond, ◌||◌, List, [], ◌∷◌, refl, sym, ap, subst, ◌∙◌, arith, Some, None, if◌then◌else◌}
 use Rattle.std.specs.Prelude.{int_le}
 use Rattle.std.specs.List.{All, AllByRecursion}
-use Rattle.std.specs.Option.{is_some}
 use Rattle.std.specs.List.Sorted.{IsStrictlySortedBy}
 use Rattle.std.specs.Ordering.{is_eq, is_lt, int_cmp, ordering_then}
 use Rattle.std.specs.declared.cmp.Ordering.TheVariants.{Less}
@@ -17,7 +16,7 @@ use Rattle.window_state.specs.Windows.{acc_at, is_pane, AreOrdered}
 use Rattle.window_state.specs.Firing.{rows_due, AllDue, NoneDue}
 use Rattle.window_state.specs.Parts.{with_entry, entries_at}
 use Rattle.window_state.proofs.Updates.{pane_from_test}
-use Rattle.window_state.proofs.Entries.{tied}
+use Rattle.window_state.proofs.Entries.{tied, none_there}
 use Rattle.window_state.proofs.Ordered.{has_pane}
 use Rattle.window_state.proofs.Rows.{rows_cons}
 
@@ -59,10 +58,6 @@ absent w t q b (p ∷ ps) h other = by_case (is_eq (pane_cmp q p)) refl (absent 
         let here : is_due w t p.start ≡ b = All-head (λ (q : Pane). is_due w t q.start ≡ b) p ps h in
         clash b _ _ (sym other ∙ ap (λ (x : Pane). is_due w t x.start) (pane_from_test q p (sym (tied q p) ∙ e)) ∙ here)
     by_case false e others = ap (λ b. b || has_pane ps q) e ∙ others
-
-none_there : (o : Option AccData) → is_some o ≡ false → o ≡ None
-none_there None h = refl
-none_there (Some a) h = absurd cc
 
 -- so what is left is what does not fire
 pub left_over : (w : WindowSpec) (t : ℤ) (q : Pane) (ps : List Pane) (m n : List (Pane × AccData)) → AreOrdered ps n → NoneDue w t ps

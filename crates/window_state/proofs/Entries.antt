@@ -3,7 +3,7 @@ use Rattle.std.proofs.Common.{◌≡◌, ℤ, Bool, true, false, not, cond, ◌&
 use Rattle.std.specs.List.{filter, AllByRecursion, IsDistinct}
 use Rattle.std.specs.List.Sorted.{IsStrictlySortedBy}
 use Rattle.std.specs.Map.{keys_of}
-use Rattle.std.specs.Option.{option_map}
+use Rattle.std.specs.Option.{is_some, option_map}
 use Rattle.std.specs.Ordering.{int_eq, int_cmp, is_eq, is_lt, ordering_then}
 use Rattle.std.specs.declared.cmp.Ordering.TheVariants.{Less, Equal}
 use Rattle.std.specs.FinMap.{from_entries, get, get-from_entries, entries, from_sorted, get-from_sorted, entries-from_sorted, retain_keys, get-retain_keys, same_map}
@@ -65,6 +65,10 @@ same_totals es fs is = same_map pane_cmp_total pane_cmp-IsAntisymmetric _ _ (λ 
 pub total_cond : (b : Bool) (a o : Option AccData) → option_map (λ (x : AccData). x.total) (cond b a o) ≡ cond b (option_map (λ (x : AccData). x.total) a) (option_map (λ (x : AccData). x.total) o)
 total_cond true a o = refl
 total_cond false a o = refl
+
+pub none_there : (o : Option AccData) → is_some o ≡ false → o ≡ None
+none_there None h = refl
+none_there (Some a) h = absurd cc
 
 -- ---- entries in the order of their panes
 

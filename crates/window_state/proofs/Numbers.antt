@@ -3,13 +3,8 @@ use Rattle.std.proofs.Common.{◌≡◌, ℕ, ℤ, ◌+◌, ◌*◌, ◌<◌, �
 use Rattle.std.specs.Int.{w64}
 use Rattle.std.proofs.lemmas.Int.{ints, to_z-of_z}
 use Rattle.std.proofs.lemmas.List.{drop_more, length-set, get_or-set_other}
-use Rattle.std.proofs.lemmas.List.Elements.{All-nil, All-cons}
 use Rattle.plan_model.specs.declared.spec.Aggregate.{Aggregate}
 use Rattle.plan_model.specs.declared.spec.Aggregate.TheVariants as aggregate
-use Rattle.byte_fields.specs.Fields.{is_i64}
-use Rattle.plain_data.specs.Record.{Record}
-use Rattle.plan_model.specs.Aggregates.{number_of}
-use Rattle.aggregates.proofs.Accs.{one_numbers}
 use Rattle.aggregates.specs.declared.kind.Kind.{Kind}
 use Rattle.aggregates.specs.declared.kind.Kind.TheVariants.{Count, Sum, Least, Greatest}
 use Rattle.aggregates.specs.Kinds.{kind_of, is_number, are_numbers}
@@ -123,15 +118,8 @@ numbers_next n k ks z zs ws vs x first agree rest = λ i. (number-below n k ws v
 pub first_fits : (n : ℕ) (k : Kind) (ks : List Kind) (z : ℤ) (zs : List ℤ) → are_numbers n (k ∷ ks) (z ∷ zs) ≡ true → (is_number n k z ≡ true) × (are_numbers n ks zs ≡ true)
 first_fits n k ks z zs h = both (is_number n k z) (are_numbers n ks zs) h
 
--- ---- one record
+-- ---- one record more
 
-pub one_number : (a : Aggregate) (r : Record) → is_i64 (number_of a r []) ≡ true → is_number 1 (kind_of a) (number_of a r []) ≡ true
-one_number a r h = (first_fits 1 (kind_of a) [] (number_of a r []) [] (one_numbers (a ∷ []) r (All-cons (λ b. is_i64 (number_of b r []) ≡ true) a [] h (All-nil (λ b. is_i64 (number_of b r []) ≡ true))))).0
-
-pub is_word : (z : ℤ) → FitsSigned w64 z → is_i64 z ≡ true
-is_word z h = grind (arith, ints)
-
--- one record more
 pub count_more : (z : ℤ) → 1 ≤ count_of z → count_of z < 2 ^ 41 → count_of (to_z w64 (of_z w64 (z +ℤ pos 1))) ≡ count_of z + 1
 count_more (pos n) some few =
     let fits : FitsSigned w64 (pos (n + 1)) = grind (arith, ints) in

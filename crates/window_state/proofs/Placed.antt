@@ -22,7 +22,7 @@ use Rattle.window_state.specs.Places.{ArePlaces}
 use Rattle.window_state.specs.Words.{stride, word, count_of, acc_in, entries_in, IsWritten}
 use Rattle.window_state.proofs.Numbers.{width-few}
 use Rattle.window_state.proofs.Spread.{Stands, stands, writes_place, found-any, keys-entries, one_less}
-use Rattle.window_state.proofs.Entries.{windows_taken, sound_taken}
+use Rattle.window_state.proofs.Entries.{windows_taken, sound_taken, none_there}
 use Rattle.window_state.proofs.Updates.{pane_from_test, Writes, windows_written, sound_written}
 
 abbrev pub kinds_of : WindowSpec → List Kind
@@ -30,10 +30,6 @@ kinds_of w = map kind_of w.aggregates
 
 pub few_words : (w : WindowSpec) (n : ℕ) → IsOperator w → n ≡ stride (kinds_of w) → n ≤ 17
 few_words w n h is = omega (arith, is, width-few (kinds_of w), length-map w.aggregates kind_of, h.few)
-
-pub none_there : (o : Option AccData) → is_some o ≡ false → o ≡ None
-none_there None h = refl
-none_there (Some a) h = absurd (let clash : true ≡ false = h in cc)
 
 pub no_place : (ks : List Kind) (ws : List ℤ) (ps : List Pane) (q : Pane) → list_any (is_pane q) ps ≡ false → acc_at (entries_in ks ws 0 ps) q ≡ None
 no_place ks ws ps q h = none_there _ (found-any ks ws 0 ps q ∙ h)

@@ -8,6 +8,8 @@ use Rattle.std.specs.Int.Signed.{pos-nat_abs, yes_non_neg}
 use Rattle.std.proofs.Math.IntN.{nat_abs}
 use Rattle.std.proofs.lemmas.Int.{ints, to_z-of_z, to_z_pos}
 use Rattle.std.proofs.lemmas.List.{take_more, take-append-drop}
+use Rattle.std.proofs.lemmas.Cmp.{int_eq_equiv}
+use Rattle.std.proofs.Math.Bool.{or-true}
 use Rattle.plain_data.specs.Record.{Record, at}
 use Rattle.plan_model.specs.declared.spec.Aggregate.{Aggregate}
 use Rattle.plan_model.specs.declared.spec.WindowSpec.{WindowSpec}
@@ -72,16 +74,9 @@ pub slid_fresh : (w : WindowSpec) (r : Record) (x : Option Aggregated) (q : Pane
 slid_fresh w r x q b h =
     ap (λ p. if p && int_eq (at w.key r) q.key then merge w.aggregates x (aggregate_of w.aggregates (r ∷ [])) else x) (reached_once w (at w.time r) q.start b h)
 
-is_itself : (a : ℤ) → int_eq a a ≡ true
-is_itself a = grind (arith, ints)
-
 is_first : (a b c : Bool) → (a && b) ≡ c → c ≡ true → a ≡ true
 is_first true b c e h = refl
 is_first false b c e h = absurd cc
-
-or_true : (a : Bool) → (a || true) ≡ true
-or_true true = refl
-or_true false = refl
 
 -- the record counts at the window that begins b before its time, at its key
 pub counts_there : (w : WindowSpec) (r : Record) (q : Pane) (b n m rest : ℕ) → 0 < n → w.slide ≡ pos n → w.size ≡ pos m → int_rem_euclid (at w.time r -ℤ w.offset) (pos n) ≡ pos rest
@@ -89,10 +84,10 @@ pub counts_there : (w : WindowSpec) (r : Record) (q : Pane) (b n m rest : ℕ) �
 counts_there w r q b n m rest h slide size is e low begins key =
     let t : ℤ = at w.time r in
     let y : Option Aggregated = aggregate_of w.aggregates (r ∷ []) in
-    let here : int_eq (t -ℤ pos b) q.start ≡ true = ap (λ s. int_eq s q.start) begins ∙ is_itself q.start in
-    let reached : is_reached w t (b + n) q.start ≡ true = reached_more w t q.start b n m rest h slide size is e low ∙ ap (λ x. is_reached w t b q.start || x) here ∙ or_true (is_reached w t b q.start) in
+    let here : int_eq (t -ℤ pos b) q.start ≡ true = ap (λ s. int_eq s q.start) begins ∙ int_eq_equiv.refl q.start in
+    let reached : is_reached w t (b + n) q.start ≡ true = reached_more w t q.start b n m rest h slide size is e low ∙ ap (λ x. is_reached w t b q.start || x) here ∙ or-true (is_reached w t b q.start) in
     let window : is_window_of w t q.start ≡ true = is_first (is_window_of w t q.start) _ true reached refl in
-    let same : int_eq (at w.key r) q.key ≡ true = ap (λ k. int_eq k q.key) key ∙ is_itself q.key in
+    let same : int_eq (at w.key r) q.key ≡ true = ap (λ k. int_eq k q.key) key ∙ int_eq_equiv.refl q.key in
     sym (merge-one w r q None) ∙ (λ i. if window i && same i then merge w.aggregates None y else None)
 
 -- so the window there can take it
@@ -101,7 +96,7 @@ pub room_fresh : (w : WindowSpec) (r : Record) (old now : Option Aggregated) (q 
     → ((x y : Aggregated) → old ≡ Some x → aggregate_at w (r ∷ []) q ≡ Some y → x.count + y.count ≤ 2 ^ 41)
     → now ≡ slid w r old q b → (a : Aggregated) → now ≡ Some a → a.count < 2 ^ 41
 room_fresh w r old now q b n m rest h slide size rem e low begins key room is a has =
-    let fresh : slid w r old q b ≡ old = slid_fresh w r old q b (ap (λ s. int_eq s q.start) begins ∙ is_itself q.start) in
+    let fresh : slid w r old q b ≡ old = slid_fresh w r old q b (ap (λ s. int_eq s q.start) begins ∙ int_eq_equiv.refl q.start) in
     let most = room a _ (sym (is ∙ fresh) ∙ has) (counts_there w r q b n m rest h slide size rem e low begins key) in
     omega (arith, most)
 

@@ -8,7 +8,7 @@ use Rattle.savepoint_codec.specs.declared.savepoint.Front.{Front}
 use Rattle.savepoint_codec.specs.Fields.{entry_after}
 use Rattle.savepoint_codec.specs.Reading.{entries_read}
 use Rattle.savepoint_index.specs.Index.{entry_length}
-use Rattle.savepoint_index.specs.Reading.{first_read}
+use Rattle.savepoint_index.specs.Reading.{value_read}
 use Rattle.savepoint_index.specs.Answer.{head_of_group}
 use Rattle.savepoint_index.proofs.Found.{cannot, count_way, fails_memory, found, front_way, gives_located, heads_way, listed, mark_read, not_there, the_first, the_heads}
 use Rattle.savepoint_index.proofs.group.read_group.Goals as goal
@@ -48,5 +48,5 @@ returns-clause-entries c = λ s h is.
     let front = (count_way s c.args.bytes.now c.in_ok-rest.rest.now c.in_ok-front.rest.now c.in_ok-front.front h is c.in_ok-rest.ensures c.in_ok-front.ensures.read).0 in
     let kinds : c.as_slice.result.now ≡ s.kinds = c.as_slice.ensures ∙ ap (λ (f : Front). f.kinds) front in
     let at = found s c.args.group c.in-Some.head h some in
-    let given = subst (λ (ks : List Kind). c.in-Some.head.place ≤ length c.args.bytes.now → Gives (λ e. e) c.read_at.result (first_read (entries_read ks ((chain (entry_after ks) None c.in-Some.head.count).read (drop c.in-Some.head.place c.args.bytes.now))))) kinds c.read_at.ensures in
+    let given = subst (λ (ks : List Kind). c.in-Some.head.place ≤ length c.args.bytes.now → Gives (λ e. e) c.read_at.result (value_read (entries_read ks ((chain (entry_after ks) None c.in-Some.head.count).read (drop c.in-Some.head.place c.args.bytes.now))))) kinds c.read_at.ensures in
     gives_located c.read_at.result s.kinds c.args.group s.groups c.args.bytes.now c.in-Some.head (rw is at) given

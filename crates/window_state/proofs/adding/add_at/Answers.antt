@@ -8,9 +8,9 @@ use Rattle.aggregates.specs.Kinds.{AccData}
 use Rattle.window_state.specs.State.{OpenWindows, totals}
 use Rattle.window_state.specs.Windows.{acc_at, total_at, is_pane}
 use Rattle.window_state.specs.Places.{PlacesData}
-use Rattle.window_state.proofs.Entries.{get-totals}
+use Rattle.window_state.proofs.Entries.{get-totals, none_there}
 use Rattle.window_state.proofs.Updates.{written_there}
-use Rattle.window_state.proofs.Placed.{none_there, on_ok}
+use Rattle.window_state.proofs.Placed.{on_ok}
 use Rattle.window_state.proofs.adding.add_at.Goals as goal
 
 pub add-requires-clause-room : goal.add-requires-clause-room

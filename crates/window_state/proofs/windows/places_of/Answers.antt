@@ -4,7 +4,7 @@ use Rattle.window_state.specs.Windows.{acc_at}
 use Rattle.window_state.specs.Parts.{accs_in}
 use Rattle.window_state.specs.Places.{PlacesData}
 use Rattle.window_state.proofs.PartMaps.{part_put, part_again}
-use Rattle.window_state.proofs.Placed.{none_there}
+use Rattle.window_state.proofs.Entries.{none_there}
 use Rattle.window_state.proofs.windows.places_of.Goals as goal
 use Rattle.window_state.proofs.windows.places_of.Goals.{then-not-contains+in_ok-push_acc, else-not-contains}
 

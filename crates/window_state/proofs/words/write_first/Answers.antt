@@ -9,7 +9,9 @@ use Rattle.plan_model.specs.Aggregates.{number_of}
 use Rattle.aggregates.specs.Kinds.{kind_of, is_number}
 use Rattle.window_state.specs.Words as words_of
 use Rattle.window_state.specs.Words.{width_of}
-use Rattle.window_state.proofs.Numbers.{AgreeBelow, kind_at, kinds_from, rest_next, kinds_next, end_next, written_next, numbers_next, one_number, is_word}
+use Rattle.byte_fields.proofs.Exact.{is_i64_from}
+use Rattle.aggregates.proofs.Accs.{one_number}
+use Rattle.window_state.proofs.Numbers.{AgreeBelow, kind_at, kinds_from, rest_next, kinds_next, end_next, written_next, numbers_next}
 use Rattle.window_state.proofs.words.write_first.Goals as goal
 
 wide : (z : ℤ) → FitsSigned w64 z → to_z w128 (of_z w128 (to_z w64 (of_z w64 z))) ≡ z
@@ -23,7 +25,7 @@ write_number-requires-clause-fit c =
     let r = get_or c.args.batch.now.rows c.args.row [] in
     let fits : FitsSigned w64 c.number_of_one.result = search rules in
     let is = wide c.number_of_one.result fits ∙ c.number_of_one.ensures in
-    let small : is_i64 (number_of a r []) ≡ true = subst (λ z. is_i64 z ≡ true) c.number_of_one.ensures (is_word c.number_of_one.result fits) in
+    let small : is_i64 (number_of a r []) ≡ true = subst (λ z. is_i64 z ≡ true) c.number_of_one.ensures (is_i64_from c.number_of_one.result fits) in
     (1, omega arith, ap (is_number 1 (kind_of a)) is ∙ one_number a r small)
 
 pub loop-aggregate-preserved : goal.loop-aggregate-preserved
@@ -41,7 +43,7 @@ loop-aggregate-preserved c =
     let next = ap (map f) (rest_next aggregates i inside) in
     let fits : FitsSigned w64 c.number_of_one.result = search rules in
     let same = wide c.number_of_one.result fits ∙ c.number_of_one.ensures in
-    let small : is_i64 (f a) ≡ true = subst (λ z. is_i64 z ≡ true) c.number_of_one.ensures (is_word c.number_of_one.result fits) in
+    let small : is_i64 (f a) ≡ true = subst (λ z. is_i64 z ≡ true) c.number_of_one.ensures (is_i64_from c.number_of_one.result fits) in
     let width = c.width_of-at.ensures in
     let start : c.args.at + 1 ≤ at = c.loop-aggregate.invariant.start in
     record {
