@@ -34,6 +34,7 @@ pub type Source = Items<Partition>;
 impl Marked {
     /// The entry of a source with this bound, marked. Where the source has a bound, an entry brings the greatest time of
     /// its rows, less the bound and 1; where it has none, a watermark brings itself, and rows bring the least i64.
+    #[inline(always)]
     pub fn new(entry: Entry, bound: Option<i64>, columns: usize, time: usize) -> Marked
         requires time_in { time < columns }
         requires sound { IsEntryOf columns time entry }
@@ -52,6 +53,7 @@ impl Marked {
 
 impl Entry {
     /// The watermark that a source with this bound makes of the entry.
+    #[inline(never)]
     fn made_mark(&self, bound: i64, columns: usize, time: usize) -> i64
         requires time_in { time < columns }
         requires sound { IsEntryOf columns time self.now }
@@ -69,6 +71,7 @@ impl Entry {
     }
 
     /// The watermark that stands in the partition: rows have none.
+    #[inline(always)]
     fn own_mark(&self, columns: usize, time: usize) -> i64
         requires sound { IsEntryOf columns time self.now }
         ensures says { result ≡ own_mark self.now }
