@@ -5,8 +5,6 @@
 mod asked;
 mod joined;
 mod joint;
-#[cfg(test)]
-mod tests;
 
 pub use asked::AskedField;
 pub use joined::{joined_text, push_text};

@@ -4,8 +4,6 @@
 mod number;
 mod part;
 mod reading;
-#[cfg(test)]
-mod tests;
 mod zones;
 
 pub use number::calendar_number;

@@ -9,8 +9,6 @@ mod point;
 mod products;
 mod scaling;
 mod scientific;
-#[cfg(test)]
-mod tests;
 
 pub use digits::raised_digits;
 pub use point::{DecimalPoint, swap_points};

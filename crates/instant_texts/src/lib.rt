@@ -4,8 +4,6 @@
 mod fine;
 mod parts;
 mod seconds;
-#[cfg(test)]
-mod tests;
 mod unit;
 
 pub use fine::{held, instant};

@@ -1,5 +1,5 @@
-use crate::{FineUnit, instant};
 use field_values::FieldFault;
+use instant_texts::{FineUnit, instant};
 
 fn said(text: &str, unit: FineUnit) -> Result<i64, FieldFault> {
     instant(text.as_bytes(), unit)

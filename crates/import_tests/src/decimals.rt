@@ -1,4 +1,4 @@
-use crate::{DecimalPoint, exact, exact_product, product, swap_points};
+use decimal_texts::{DecimalPoint, exact, exact_product, product, swap_points};
 use field_values::{FieldFault, Places};
 
 fn said(text: &str, places: u32) -> Result<i64, FieldFault> {

@@ -1,4 +1,4 @@
-use crate::{AskedField, Joint, joined_text, push_text};
+use asked_fields::{AskedField, Joint, joined_text, push_text};
 
 #[test]
 fn finds_the_parts_of_a_name(rt: HostRuntime) {

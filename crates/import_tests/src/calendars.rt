@@ -1,4 +1,4 @@
-use crate::{CalendarPart, ZoneFault, Zones, calendar_number, read_zone};
+use calendar_numbers::{CalendarPart, ZoneFault, Zones, calendar_number, read_zone};
 
 const FOLDER: &str = "/usr/share/zoneinfo";
 
