@@ -1,2 +1,3 @@
 pub mod Dates
+pub mod Decimals
 pub mod Cells

@@ -1,11 +1,14 @@
 //! Decimals.
 
-ghost use Rattle.std.specs.Prelude.{◌≡◌, ◌≤◌, ◌+◌, Ok, IsTrue, OnOk, string_bytes};
+ghost use Rattle.std.specs.Prelude.{◌≡◌, ◌≤◌, ◌<◌, ◌+◌, ◌^◌, ◌∷◌, ◌++◌, Ok, OnOk, true, drop, length, string_bytes};
+ghost use Rattle.std.specs.Fmt.{decimal};
+ghost use Rattle.std.specs.List.{list_all};
 ghost use Rattle.field_values.specs.Decimals.{scaled_said};
 ghost use Rattle.row_tables.specs.Cells.{IsShown};
+ghost use Rattle.row_tables.specs.Decimals.{decimal_text, is_decimal_byte, size_text};
 
 use crate::fault::CellFault;
-use field_values::{Places, scaled};
+use field_values::Places;
 use itoa::write_digits;
 use row_lines::push_decimal;
 use std::alloc::AllocError;
@@ -27,7 +30,9 @@ pub(crate) fn fill_digits(places: &mut [u8], number: u64) {
 }
 
 /// Puts bytes of ASCII behind a text.
-pub(crate) fn push_bytes(text: &mut String, bytes: &[u8]) -> Result<(), CellFault> {
+pub(crate) fn push_bytes(text: &mut String, bytes: &[u8]) -> Result<(), CellFault>
+    ensures { OnOk result (string_bytes text.new ≡ string_bytes text.old ++ bytes.now) }
+{
     let Ok(bytes) = str::from_utf8(bytes) else {
         return Err(CellFault::Unread);
     };
@@ -50,44 +55,75 @@ fn put_places(line: &mut [u8; ROOM], number: u64, places: usize) -> usize
     start - 1
 }
 
-/// Puts what stands in its room from a place on behind a text, behind a hyphen where the number is negative.
-fn push_signed(
-    text: &mut String,
-    line: &mut [u8; ROOM],
-    start: usize,
-    is_negative: bool,
-) -> Result<(), CellFault>
-    requires some { 1 ≤ start }
-    requires inside { start ≤ 48 }
+/// Writes a point and as many digits of a part as its power of ten has zeros to the end of their room, and answers where the point
+/// stands. The power and the part have a 1 and these digits, so that the point goes where the 1 is.
+fn fill_part(room: &mut [u8; ROOM], scale: u64, part: u64) -> usize
+    requires part { part < scale }
+    requires scale { scale ≤ 10 ^ 18 }
+    ensures place { result + length (decimal (scale + part)) ≡ 48 }
+    ensures text { drop result room.new ≡ 46 ∷ drop 1 (decimal (scale + part)) }
 {
-    if !is_negative {
-        return push_bytes(text, &line[start..]);
-    }
-    line[start - 1] = b'-';
-    push_bytes(text, &line[start - 1..])
+    let point = write_digits(scale + part, room, ROOM);
+    room[point] = b'.';
+    point
 }
 
-/// What stands before and behind the point of a number that is scaled by ten to the power of the places.
-fn parts_of(size: u64, places: u32) -> (u64, u64)
-    ensures { result.0 ≤ size }
+/// Writes a number that is scaled by ten to the power of the places to the end of its room, and answers where it starts.
+fn fill_size(room: &mut [u8; ROOM], size: u64, places: u32) -> usize
+    requires size { size ≤ 2 ^ 63 }
+    requires places { places ≤ 18 }
+    ensures some { 1 ≤ result }
+    ensures inside { result ≤ 48 }
+    ensures text { drop result room.new ≡ size_text places size }
 {
     if places == 0 {
-        return (size, 0);
+        return write_digits(size, room, ROOM);
     }
-    let scale = 10u64.checked_pow(places).unwrap_or(u64::MAX).max(1);
-    (size / scale, size % scale)
+    let scale = 10u64.pow(places);
+    let point = fill_part(room, scale, size % scale);
+    write_digits(size / scale, room, point)
 }
 
-/// Puts a decimal with a point behind a text: a number of 64 bits that is scaled by ten to the power of the places.
-fn push_narrow(text: &mut String, number: i64, places: u32) -> Result<(), CellFault> {
-    let (whole, part) = parts_of(number.unsigned_abs(), places);
-    let mut line = [b'0'; ROOM];
-    let start = put_places(&mut line, part, places as usize);
-    let start = write_digits(whole, &mut line, start);
-    push_signed(text, &mut line, start, number < 0)
+/// Writes a decimal to the end of its room, and answers where it starts.
+fn fill_scaled(room: &mut [u8; ROOM], number: i64, places: Places) -> usize
+    ensures inside { result ≤ 48 }
+    ensures text { drop result room.new ≡ decimal_text places number }
+{
+    let start = fill_size(room, number.unsigned_abs(), places.get());
+    if number >= 0 {
+        return start;
+    }
+    room[start - 1] = b'-';
+    start - 1
 }
 
-/// The same of a number of more bits.
+/// Puts a decimal behind a line: a number of 64 bits that is scaled by ten to the power of the places, which reads as the number.
+///
+/// # Errors
+///
+/// Only where memory runs out.
+pub fn put_scaled(line: &mut Vec<u8>, number: i64, places: Places) -> Result<(), AllocError>
+    ensures text { OnOk result (line.new.items ≡ line.old.items ++ decimal_text places number) }
+    ensures said { scaled_said places (decimal_text places number) ≡ Ok number }
+    ensures plain { list_all is_decimal_byte (decimal_text places number) ≡ true }
+{
+    let mut room = [b'0'; ROOM];
+    let start = fill_scaled(&mut room, number, places);
+    line.extend_from_slice(&room[start..])
+}
+
+/// Writes a decimal of 64 bits into a cell, which reads as the number.
+fn write_narrow(cell: &mut String, number: i64, places: Places) -> Result<(), CellFault>
+    ensures { OnOk result (scaled_said places (string_bytes cell.new) ≡ Ok number) }
+{
+    let mut room = [b'0'; ROOM];
+    let start = fill_scaled(&mut room, number, places);
+    cell.clear();
+    push_bytes(cell, &room[start..])?;
+    Ok(())
+}
+
+/// Puts a decimal of more than 64 bits behind a text: a number that is scaled by ten to the power of the places.
 fn push_wide(text: &mut String, number: i128, places: u32) -> Result<(), CellFault> {
     let size = number.unsigned_abs();
     if number < 0 {
@@ -104,16 +140,6 @@ fn push_wide(text: &mut String, number: i128, places: u32) -> Result<(), CellFau
     push_bytes(text, &line[start..])
 }
 
-/// Whether a text reads as a number that is scaled so.
-fn reads_as(text: &str, number: i64, places: Places) -> bool
-    ensures { IsTrue result → scaled_said places text.now ≡ Ok number }
-{
-    match scaled(text.as_bytes(), places) {
-        Ok(read) => read == number,
-        Err(_) => false,
-    }
-}
-
 /// Writes a decimal into a cell: a number that is scaled by ten to the power of the places. One of 64 bits reads as the number.
 ///
 /// # Errors
@@ -122,14 +148,9 @@ fn reads_as(text: &str, number: i64, places: Places) -> bool
 pub(crate) fn write_scaled(cell: &mut String, number: i128, places: Places) -> Result<(), CellFault>
     ensures { OnOk result (IsShown places number (string_bytes cell.new)) }
 {
-    cell.clear();
     let Ok(narrow) = i64::try_from(number) else {
+        cell.clear();
         return push_wide(cell, number, places.get());
     };
-    push_narrow(cell, narrow, places.get())?;
-    if reads_as(cell.as_str(), narrow, places) {
-        Ok(())
-    } else {
-        Err(CellFault::Unread)
-    }
+    write_narrow(cell, narrow, places)
 }

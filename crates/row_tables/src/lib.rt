@@ -9,5 +9,6 @@ mod kind;
 mod time;
 
 pub use cell::write_cell;
+pub use decimal::put_scaled;
 pub use fault::CellFault;
 pub use kind::{CellKind, DatePart, kind_of_aggregate, kind_of_column};
