@@ -1,4 +1,5 @@
 pub mod Members
 pub mod Plain
+pub mod Records
 pub mod Rows
 pub mod Tables

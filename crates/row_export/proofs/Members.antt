@@ -79,7 +79,7 @@ member_last (n ∷ titles) (c ∷ kinds) (t ∷ texts) title kind text h k =
     let k' : length kinds ≡ length texts = omega (arith, k) in
     ap (λ l. key n ∷ cell_token c t ∷ l) (member_last titles kinds texts title kind text h' k')
 
-as_many : (kinds : List CellKind) (names : List (List ℕ)) (numbers : List ℤ) (texts : List (List ℕ)) → ShowsRow kinds names numbers texts → length kinds ≡ length texts
+pub as_many : (kinds : List CellKind) (names : List (List ℕ)) (numbers : List ℤ) (texts : List (List ℕ)) → ShowsRow kinds names numbers texts → length kinds ≡ length texts
 as_many [] names [] [] h = refl
 as_many [] names [] (t ∷ texts) h = absurd h
 as_many [] names (n ∷ numbers) texts h = absurd h

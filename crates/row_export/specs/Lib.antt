@@ -1,4 +1,5 @@
 pub mod Faults
 pub mod Objects
+pub mod Records
 pub mod Shown
 pub mod Titles

@@ -34,6 +34,12 @@ key_text title = quoted title ++ 58 ∷ []
 abbrev pub comma_at : ℕ → List ℕ
 comma_at place = cond (nat_lt 0 place) (44 ∷ []) []
 
+-- a text has a value behind it, whose cell shows a number
+pub record HasValue (kind : CellKind) (names : List (List ℕ)) (number : ℤ) (before after : List ℕ) : Type 0 where
+  pub cell : List ℕ
+  pub shown : Shows kind names number cell
+  pub text : after ≡ before ++ token_text (cell_token kind cell)
+
 -- a text has a member behind it, called by a key, whose cell shows a number
 pub record HasMember (place : ℕ) (key : List ℕ) (kind : CellKind) (names : List (List ℕ)) (number : ℤ) (before after : List ℕ) : Type 0 where
   pub cell : List ℕ

@@ -3,10 +3,12 @@
 
 mod cells;
 mod fault;
+mod fields;
 mod header;
 mod objects;
 mod record;
 mod table;
+mod values;
 mod writing;
 
 pub use fault::ExportFault;

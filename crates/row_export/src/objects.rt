@@ -1,20 +1,20 @@
 //! A table as JSON objects, row by row.
 
-ghost use Rattle.std.specs.Prelude.{◌≡◌, ◌++◌, ◌∷◌, [], IfOk, IfErr, IsTrue, List, OnOk, length, map, string_bytes};
+ghost use Rattle.std.specs.Prelude.{◌≡◌, [], IfOk, IfErr, List, OnOk, length, map, string_bytes};
 ghost use Rattle.std.specs.Io.KnownBytes.{Appends};
-ghost use Rattle.json.specs.Print.{escape, escape_byte, quoted, token_text};
 ghost use Rattle.row_lines.specs.Rows.{numbers_in};
 ghost use Rattle.row_lines.specs.Sequences.{rows_left, width_of, last_of};
 ghost use Rattle.row_tables.specs.declared.kind.CellKind.{CellKind as Kind};
 ghost use Rattle.row_export.specs.Faults.{IsTableFault};
 ghost use Rattle.row_export.specs.Shown.{WritesTable, kinds_of, titles_of};
-ghost use Rattle.row_export.specs.Objects.{cell_token, comma_at, key_text, HasMember, HasMembers, IsLine, object_line};
+ghost use Rattle.row_export.specs.Objects.{key_text, HasMember, HasMembers, IsLine, object_line};
 
 use crate::cells::CellWriter;
 use crate::fault::ExportFault;
 use crate::record::{has_width, number_at};
 use crate::table::Table;
-use json::{Writer, is_number};
+use crate::values::push_comma;
+use json::Writer;
 use plan_model::Row;
 use row_lines::{RowLines, RowsFault};
 use row_tables::{CellFault, CellKind};
@@ -41,96 +41,7 @@ fn keys_of(alloc: Global, titles: &[String]) -> Result<Vec<Vec<u8>>, AllocError>
     Ok(keys)
 }
 
-/// Whether a byte stands in a string of JSON as it is.
-fn is_plain_byte(byte: u8) -> bool
-    ensures { IsTrue result → escape_byte byte ≡ byte ∷ [] }
-{
-    if byte < b' ' {
-        return false;
-    }
-    if byte == b'"' {
-        return false;
-    }
-    byte != b'\\'
-}
-
-/// Whether a text stands in a string of JSON as it is.
-fn is_plain(text: &[u8]) -> bool
-    ensures { IsTrue result → escape text.now ≡ text.now }
-{
-    let mut plain = true;
-    for byte in text {
-        if !is_plain_byte(*byte) {
-            plain = false;
-        }
-    }
-    plain
-}
-
-/// Puts a string whose bytes have to be escaped behind a line.
-fn put_escaped(line: &mut Vec<u8>, text: &str) -> Result<(), AllocError>
-    ensures { OnOk result (line.new.items ≡ line.old.items ++ quoted text.now) }
-{
-    let mut string = Writer::new(Vec::new(*line.allocator()));
-    string.string(text)?;
-    line.extend_from_slice(string.into_inner().as_slice())
-}
-
-/// Puts a string behind a line.
-fn put_string(line: &mut Vec<u8>, text: &str) -> Result<(), AllocError>
-    ensures { OnOk result (line.new.items ≡ line.old.items ++ quoted text.now) }
-{
-    if !is_plain(text.as_bytes()) {
-        return put_escaped(line, text);
-    }
-    line.push(b'"')?;
-    line.extend_from_slice(text.as_bytes())?;
-    line.push(b'"')?;
-    Ok(())
-}
-
-/// Puts a cell behind what a line has of an object: a decimal as a number, and any other text as a string.
-fn put_cell(line: &mut Vec<u8>, kind: CellKind, text: &str) -> Result<(), CellFault>
-    ensures { OnOk result (line.new.items ≡ line.old.items ++ token_text (cell_token kind text.now)) }
-{
-    match kind {
-        CellKind::Number(_) => {
-            if !is_number(text) {
-                return Err(CellFault::Unread);
-            }
-            line.extend_from_slice(text.as_bytes())?;
-        }
-        _ => put_string(line, text)?,
-    }
-    Ok(())
-}
-
-/// Puts the comma before the member at a place behind a line, where one is needed.
-fn push_comma(line: &mut Vec<u8>, place: usize) -> Result<(), AllocError>
-    ensures { OnOk result (line.new.items ≡ line.old.items ++ comma_at place) }
-{
-    if place > 0 {
-        line.push(b',')?;
-    }
-    Ok(())
-}
-
-/// Puts a member behind what a line has of an object, behind a comma where it is not the first.
-fn put_member(
-    line: &mut Vec<u8>,
-    place: usize,
-    key: &[u8],
-    kind: CellKind,
-    text: &str,
-) -> Result<(), CellFault>
-    ensures { OnOk result (line.new.items ≡ line.old.items ++ (comma_at place ++ (key.now ++ token_text (cell_token kind text.now)))) }
-{
-    push_comma(line, place)?;
-    line.extend_from_slice(key)?;
-    put_cell(line, kind, text)
-}
-
-/// Puts the member of a number behind what a line has of an object.
+/// Puts the member of a number behind what a line has of an object, behind a comma where it is not the first.
 fn put_number(
     line: &mut Vec<u8>,
     writer: &mut CellWriter,
@@ -142,8 +53,9 @@ fn put_number(
 ) -> Result<(), CellFault>
     ensures { OnOk result (HasMember place key.now kind.now (map string_bytes names.now) number line.old.items line.new.items) }
 {
-    let text = writer.write(*kind, names, number)?;
-    put_member(line, place, key, *kind, text)
+    push_comma(line, place)?;
+    line.extend_from_slice(key)?;
+    writer.put_value(line, kind, names, number)
 }
 
 /// Puts a member for each number of a row behind what a line has of an object, by the keys of their titles.

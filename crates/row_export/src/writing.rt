@@ -17,7 +17,7 @@ use crate::table::Table;
 use csv::{Error, ErrorKind, StringRecord, Writer, WriterBuilder};
 use row_lines::{RowLines, RowsFault};
 use std::alloc::Global;
-use std::io::{Read, Write};
+use std::io::{BufWriter, Read, Write};
 
 fn write_fault(error: &Error) -> ExportFault
     ensures { (kinds : List Kind) → IsTableFault kinds result }
@@ -42,25 +42,26 @@ fn put<W: Write + Drop>(out: &mut Writer<W>, cells: &StringRecord) -> Result<(),
 }
 
 /// Writes the rows that are left as CSV, a record each.
-fn put_rows<R: Read + Drop, W: Write + Drop>(
+fn put_rows<R: Read + Drop, W: Write>(
     alloc: Global,
     rows: &mut RowLines<R>,
     table: &Table,
     names: &[String],
-    out: &mut Writer<W>,
+    out: &mut W,
 ) -> Result<(), ExportFault>
-    requires { IsBetween out.old }
     ensures table { OnOk result (WritesTable csv_line (kinds_of table.now) (map string_bytes names.now) [] (width_of rows.old) (last_of rows.old)
-        (rows_left R.remaining rows.old) (text_written W.contents out.old) (text_written W.contents out.new)) }
+        (rows_left R.remaining rows.old) (W.contents out.old) (W.contents out.new)) }
     ensures refused { IfErr result (IsTableFault (kinds_of table.now)) }
 {
-    let mut cells = StringRecord::new(alloc);
     let mut writer = CellWriter::new(alloc);
+    let mut line = Vec::new(alloc);
     for _ in 0..u64::MAX {
         match rows.advance() {
             Ok(Some(row)) => {
-                fill_record(&mut cells, &mut writer, &table.kinds, names, &row)?;
-                put(out, &cells)?;
+                fill_record(&mut line, &mut writer, &table.kinds, names, &row)?;
+                if out.write_all(line.as_slice()).is_err() {
+                    return Err(ExportFault::Write);
+                }
             }
             Ok(None) => return Ok(()),
             Err(RowsFault::Memory) => return Err(ExportFault::Memory),
@@ -70,23 +71,25 @@ fn put_rows<R: Read + Drop, W: Write + Drop>(
     Err(ExportFault::Rows(RowsFault::Read))
 }
 
-/// Writes the record of a table's names, where there is to be one.
-fn put_header<W: Write + Drop>(
+/// Writes the record of a table's names, where there is to be one, and gives back the writer.
+fn write_header<W: Write + Drop>(
     alloc: Global,
     table: &Table,
     has_header: bool,
-    out: &mut Writer<W>,
-) -> Result<(), ExportFault>
-    requires { IsBetween out.old }
-    ensures written { OnOk result (Appends (text_written W.contents out.old) (text_written W.contents out.new)
-        (flat_map csv_line (header_shown has_header (titles_of table.now)))) }
-    ensures between { OnOk result (IsBetween out.new) }
+    out: W,
+) -> Result<W, ExportFault>
+    ensures written { IfOk result (λ done. Appends (W.contents out) (W.contents done) (flat_map csv_line (header_shown has_header (titles_of table.now)))) }
     ensures refused { (kinds : List Kind) → IfErr result (IsTableFault kinds) }
 {
     if !has_header {
-        return Ok(());
+        return Ok(out);
     }
-    put(out, &header_of(alloc, &table.names)?)
+    let mut writer = WriterBuilder::new().from_writer(out);
+    put(&mut writer, &header_of(alloc, &table.names)?)?;
+    match writer.into_inner() {
+        Ok(out) => Ok(out),
+        Err(_) => Err(ExportFault::Write),
+    }
 }
 
 /// Writes rows as CSV, behind a record of the names of their numbers where there is to be a header, and gives back the writer.
@@ -106,10 +109,12 @@ pub fn write_table<R: Read + Drop, W: Write + Drop>(
         (width_of rows.old) (last_of rows.old) (rows_left R.remaining rows.old) (W.contents out) (W.contents done)) }
     ensures refused { IfErr result (IsTableFault (kinds_of table.now)) }
 {
-    let mut writer = WriterBuilder::new().from_writer(out);
-    put_header(alloc, table, has_header, &mut writer)?;
-    put_rows(alloc, rows, table, names, &mut writer)?;
-    match writer.into_inner() {
+    let out = write_header(alloc, table, has_header, out)?;
+    let Ok(mut buffered) = BufWriter::new(alloc, out) else {
+        return Err(ExportFault::Memory);
+    };
+    put_rows(alloc, rows, table, names, &mut buffered)?;
+    match buffered.into_inner() {
         Ok(out) => Ok(out),
         Err(_) => Err(ExportFault::Write),
     }

@@ -1,6 +1,7 @@
 -- What a cell says.
-use Rattle.std.specs.Prelude.{◌≡◌, ℕ, ◌+◌, ℤ, pos, List, slice_get, Option, Some, None, Ok, FitsSigned}
+use Rattle.std.specs.Prelude.{◌≡◌, ℕ, ◌+◌, ℤ, pos, Bool, true, false, List, ◌++◌, slice_get, Option, Some, None, Ok, FitsSigned}
 use Rattle.std.specs.Int.{w64}
+use Rattle.std.specs.List.{list_all}
 use Rattle.field_values.specs.Decimals.{scaled_said}
 use Rattle.field_values.specs.Instants.{milliseconds_said}
 use Rattle.instant_texts.specs.Instants.{instant_said, unit_digits}
@@ -15,6 +16,7 @@ use Rattle.row_tables.specs.declared.kind.CellKind.{CellKind}
 use Rattle.row_tables.specs.declared.kind.CellKind.TheVariants.{Number, Time, Fine, Date, Name}
 use Rattle.row_tables.specs.declared.kind.DatePart.TheVariants.{Day, Month, Year}
 use Rattle.row_tables.specs.Dates.{IsDate}
+use Rattle.row_tables.specs.Decimals.{is_decimal_byte}
 
 -- a decimal reads as the number that it shows, where that has 64 bits
 abbrev pub IsShown : ℕ → ℤ → List ℕ → Type 0
@@ -31,6 +33,20 @@ Shows Time names number text = milliseconds_said text ≡ Ok number
 Shows (Fine unit) names number text = instant_said (unit_digits unit) text ≡ Ok number
 Shows (Date part) names number text = IsDate part number text
 Shows Name names number text = IsNameOf names number text
+
+-- a text has the decimal of a number behind it, of digits, a point and a hyphen alone
+pub record HasDecimal (kind : CellKind) (number : ℤ) (before after : List ℕ) : Type 0 where
+  pub places : ℕ
+  pub cell : List ℕ
+  pub is : kind ≡ Number places
+  pub said : scaled_said places cell ≡ Ok number
+  pub plain : list_all is_decimal_byte cell ≡ true
+  pub text : after ≡ before ++ cell
+
+-- it was put there, or the text is as it was
+abbrev pub PutsDecimal : Bool → CellKind → ℤ → List ℕ → List ℕ → Type 0
+PutsDecimal true kind number before after = HasDecimal kind number before after
+PutsDecimal false kind number before after = after ≡ before
 
 -- what a number of the calendar is shown as: hours and weekdays as they are
 abbrev pub part_kind : CalendarPart → CellKind

@@ -1,13 +1,14 @@
 //! The text of a cell.
 
-ghost use Rattle.std.specs.Prelude.{ℕ, List, OnOk, map, string_bytes};
-ghost use Rattle.row_tables.specs.Cells.{Shows};
+ghost use Rattle.std.specs.Prelude.{ℕ, List, IfOk, OnOk, map, string_bytes};
+ghost use Rattle.row_tables.specs.Cells.{Shows, PutsDecimal};
 
 use crate::date::write_date;
-use crate::decimal::write_scaled;
+use crate::decimal::{put_scaled, write_scaled};
 use crate::fault::CellFault;
 use crate::kind::CellKind;
 use crate::time::{write_fine, write_time};
+use std::alloc::AllocError;
 
 /// Writes the name of a number into a cell.
 fn write_name(cell: &mut String, names: &[String], number: i128) -> Result<(), CellFault>
@@ -62,4 +63,22 @@ pub fn write_cell(
             write_moment(cell, kind, number)
         }
     }
+}
+
+/// Puts what a number is shown as behind a line where that is a decimal of 64 bits, and tells whether it is.
+///
+/// # Errors
+///
+/// Only where memory runs out.
+pub fn put_decimal(line: &mut Vec<u8>, kind: &CellKind, number: i128) -> Result<bool, AllocError>
+    ensures { IfOk result (λ is_put. PutsDecimal is_put kind.now number line.old.items line.new.items) }
+{
+    let CellKind::Number(places) = kind else {
+        return Ok(false);
+    };
+    let Ok(narrow) = i64::try_from(number) else {
+        return Ok(false);
+    };
+    put_scaled(line, narrow, *places)?;
+    Ok(true)
 }

@@ -102,7 +102,7 @@ fn fill_scaled(room: &mut [u8; ROOM], number: i64, places: Places) -> usize
 /// # Errors
 ///
 /// Only where memory runs out.
-pub fn put_scaled(line: &mut Vec<u8>, number: i64, places: Places) -> Result<(), AllocError>
+pub(crate) fn put_scaled(line: &mut Vec<u8>, number: i64, places: Places) -> Result<(), AllocError>
     ensures text { OnOk result (line.new.items ≡ line.old.items ++ decimal_text places number) }
     ensures said { scaled_said places (decimal_text places number) ≡ Ok number }
     ensures plain { list_all is_decimal_byte (decimal_text places number) ≡ true }

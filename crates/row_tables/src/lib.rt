@@ -8,7 +8,6 @@ mod fault;
 mod kind;
 mod time;
 
-pub use cell::write_cell;
-pub use decimal::put_scaled;
+pub use cell::{put_decimal, write_cell};
 pub use fault::CellFault;
 pub use kind::{CellKind, DatePart, kind_of_aggregate, kind_of_column};

@@ -1,24 +1,17 @@
-use Rattle.std.proofs.Common.{rules, ◌≡◌, ◌++◌, ◌∷◌, [], Some, map, slice_get, string_bytes, sym, ap, subst, ◌∙◌, ◌+◌, take}
-use Rattle.std.proofs.lemmas.Option.{slice_get-get_or}
-use Rattle.csv.specs.Records.{fields_of}
+use Rattle.std.proofs.Common.{rules, arith, ◌≡◌, ◌≤◌, ◌++◌, ◌∷◌, [], length, map, string_bytes, sym, subst}
 use Rattle.row_lines.specs.Rows.{numbers_in}
-use Rattle.row_tables.specs.Cells.{Shows}
-use Rattle.row_export.specs.Shown.{ShowsRow}
-use Rattle.row_export.proofs.Rows.{row_more}
+use Rattle.row_export.specs.Records.{HasFields, IsRecord}
+use Rattle.row_export.proofs.Records.{record_made}
 use Rattle.row_export.proofs.record.fill_record.Goals as goal
 
-pub loop-place-preserved : goal.loop-place-preserved
-loop-place-preserved c =
+pub returns-clause-record : goal.returns-clause-record
+returns-clause-record c =
     let kinds = c.args.kinds.now in
     let names = map string_bytes c.args.names.now in
     let numbers = numbers_in c.args.row.now in
-    let text = c.in-Ok.cell.now in
-    let at_kind : slice_get kinds c.loop-place.place ≡ Some c.index-kinds-place.result =
-    slice_get-get_or kinds c.loop-place.place c.index-kinds-place.result c.loop-place-test.true ∙ ap (λ x. Some x) (sym c.index-kinds-place.is) in
-    let at_number : slice_get numbers c.loop-place.place ≡ Some c.in-Some.number = search rules in
-    let shows : Shows c.index-kinds-place.result names c.in-Some.number text = search rules in
-    let fields : fields_of c.push_field.new.self ≡ fields_of c.loop-place.cells ++ text ∷ [] = search rules in
-    record {
-      shown = subst (ShowsRow (take (c.loop-place.place + 1) kinds) names (take (c.loop-place.place + 1) numbers)) (sym fields)
-          (row_more kinds names numbers (fields_of c.loop-place.cells) c.loop-place.place c.index-kinds-place.result c.in-Some.number text at_kind at_number c.loop-place.invariant.shown shows);
-    }
+    let text = c.put_fields.new.line.items in
+    let wide : length numbers ≡ length kinds = search rules in
+    let none : c.clear.new.self.items ≡ [] = search rules in
+    let ended : c.push.new.self.items ≡ text ++ 10 ∷ [] = search rules in
+    let has : HasFields kinds names numbers [] text = subst (λ l. HasFields kinds names numbers l text) none c.in_ok-put_fields.ensures.fields in
+    subst (IsRecord kinds names numbers) (sym ended) (record_made kinds names numbers text (omega (arith, wide)) has)

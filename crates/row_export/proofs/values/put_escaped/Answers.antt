@@ -2,7 +2,7 @@ use Rattle.std.proofs.Common.{rules, ◌≡◌, ◌∷◌, [], ◌∙◌}
 use Rattle.json.specs.Token.{string}
 use Rattle.json.specs.Print.{print, quoted}
 use Rattle.row_export.proofs.Members.{print_string}
-use Rattle.row_export.proofs.objects.put_escaped.Goals as goal
+use Rattle.row_export.proofs.values.put_escaped.Goals as goal
 
 pub returns : goal.returns
 returns c =
