@@ -1,10 +1,11 @@
 //! The words of an import.
 
-ghost use Rattle.std.specs.Prelude.{◌≡◌, IfSome, is_some};
+ghost use Rattle.std.specs.Prelude.{◌≡◌, ◌≤◌, IfSome, MatchOption, Some, None, is_some};
 ghost use Rattle.std.specs.List.{list_all};
 ghost use Rattle.import_words.specs.Files.{parts};
 ghost use Rattle.import_words.specs.Judging.{IsRefusal};
 ghost use Rattle.import_command.specs.Dealing.{IsByPlan, GivesDealing};
+ghost use Rattle.import_command.specs.Numbers.{number_said, parts_said};
 ghost use Rattle.import_command.specs.Once.{column_of, GivesPlaces, GivesOnce};
 ghost use Rattle.import_command.specs.Separating.{GivesSeparator, GivesPoint};
 
@@ -65,7 +66,9 @@ pub struct ImportWords<'a> {
 }
 
 /// The number that digits write, if it has 64 bits.
-fn number_of(word: &str) -> Option<u64> {
+fn number_of(word: &str) -> Option<u64>
+    ensures { result ≡ number_said word.now }
+{
     if !are_digits(word.as_bytes()) {
         return None;
     }
@@ -157,17 +160,25 @@ fn refused_device(alloc: Global, path: &str) -> ImportFault
     )
 }
 
+/// In how many parts an input of so many key groups is dealt out, as a word says it: 1 to the lesser of 64 and these.
+fn parts_of(max: MaxParallelism, word: &str) -> Option<Parallelism>
+    ensures said { result ≡ parts_said max word.now }
+    ensures fits { IfSome result (λ parts. parts ≤ max) }
+{
+    let count = number_of(word)?;
+    if count > MOST_SUBTASKS as u64 {
+        return None;
+    }
+    Parallelism::new(count as u32, max)
+}
+
 /// To so many parts of a plan's input as a word says, if it can be dealt out so.
 fn dealing_by(plan: &Plan, word: &str) -> Option<Dealing>
-    ensures { IfSome result (IsByPlan plan.now) }
+    ensures { MatchOption result (parts_said plan.now.max word.now ≡ None) (λ dealing. (parts_said plan.now.max word.now ≡ Some dealing.parts) × IsByPlan plan.now dealing.parts dealing) }
 {
     let max = MaxParallelism::new(plan.max())?;
-    let count = u32::try_from(number_of(word)?).ok()?;
-    Dealing::new(
-        max,
-        Parallelism::new(count, max)?,
-        plan.window().key as usize,
-    )
+    let parts = parts_of(max, word)?;
+    Dealing::new(max, parts, plan.window().key as usize)
 }
 
 /// How an input is dealt out to parts, if it is.
@@ -181,7 +192,7 @@ pub(crate) fn dealing_of(
     words: &ImportWords<'_>,
     plan: &Plan,
 ) -> Result<Option<Dealing>, ImportFault>
-    ensures { GivesDealing words.now.ranges plan.now result }
+    ensures { GivesDealing words.now plan.now result }
 {
     let Some(word) = words.ranges else {
         return Ok(None);
