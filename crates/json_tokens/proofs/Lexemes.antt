@@ -156,21 +156,16 @@ negative_number ds h some above fits = ap (number_from true) (scan_digits ds h) 
 
 -- ---- whole numbers
 
--- the wrapped number of few digits is the number that they write
-pub digits_counted : (t : List ℕ) (n value : ℕ) → n ≡ prefix_len is_ascii_digit t → n ≤ 19 → value ≡ digits_value 10 (take n t) % 2 ^ 64 → value ≡ digits_value 10 (take n t)
-digits_counted t n value same few e =
+pub digits_counted : (t : List ℕ) (n value : ℕ) → n ≡ 0 + prefix_len is_ascii_digit (drop 0 t) → n ≤ 19 → value ≡ (0 * 10 ^ (n - 0) + digits_value 10 (take (n - 0) (drop 0 t))) % 2 ^ 64 → value ≡ digits_value 10 (take n t)
+digits_counted t n value counted few e =
+    let same : n ≡ prefix_len is_ascii_digit t = omega (arith, counted) in
     let all : AllDigits 10 (take n t) = subst (λ k. AllDigits 10 (take k t)) (sym same) (all_digits t) in
     let short : length (take n t) ≤ 19 = omega (arith, length-take n t) in
     let less : digits_value 10 (take n t) < 10 ^ 19 = lt_of_lt_of_le (digits_value-lt 10 (take n t) all) (pow-le-pow_right (lit< tt) short) in
     let fits : digits_value 10 (take n t) < 2 ^ 64 = omega (arith, less) in
-    e ∙ omega (arith, fits)
-
--- all digits are read from the start
-pub read_whole : (t : List ℕ) (n value : ℕ) → value ≡ (0 * 10 ^ (n - 0) + digits_value 10 (take (n - 0) (drop 0 t))) % 2 ^ 64 → value ≡ digits_value 10 (take n t) % 2 ^ 64
-read_whole t n value e =
     let cut : n - 0 ≡ n = omega arith in
     let sum : 0 * 10 ^ (n - 0) + digits_value 10 (take (n - 0) t) ≡ digits_value 10 (take n t) = rw cut (omega arith) in
-    e ∙ ap (λ k. k % 2 ^ 64) sum
+    e ∙ ap (λ k. k % 2 ^ 64) sum ∙ omega (arith, fits)
 
 module _ (t : List ℕ) (size : ℕ) (rest : List ℕ) (d : BeginsDigits t size rest) where
   whole_count : d.count ≤ length t

@@ -1,8 +1,6 @@
 //! Bytes at the front of a text.
-ghost use Rattle.std.specs.Prelude.{◌≡◌, ◌≤◌, ◌∷◌, ◌%◌, ◌^◌, length, take, IfSome};
+ghost use Rattle.std.specs.Prelude.{◌≡◌, ◌≤◌, ◌∷◌, length, IfSome};
 ghost use Rattle.std.specs.List.{prefix_len};
-ghost use Rattle.std.specs.Str.Parse.{digits_value};
-ghost use Rattle.core.specs.Float.Numeral.{digits_len};
 ghost use Rattle.json.specs.Word.{head, is_space};
 ghost use Rattle.json.specs.Lex.{between, lex};
 ghost use Rattle.json.specs.Run.{is_plain};
@@ -12,9 +10,6 @@ use core::dec2flt::read_digits;
 
 /// The most digits whose number surely fits 64 bits.
 const MOST_DIGITS: usize = 19;
-
-/// How many bytes a word has.
-const WORD_BYTES: usize = 8;
 
 #[inline(always)]
 fn is_space(byte: u8) -> bool
@@ -62,30 +57,12 @@ fn ends_number(byte: u8) -> bool
     byte == b',' || byte == b']' || byte == b'}' || is_space(byte)
 }
 
-/// How many digits come first, and the number that they write, wrapped to 64 bits.
-///
-/// Most numbers end within eight bytes, which are one word: there nothing is asked of a second.
-#[inline(always)]
-fn leading_digits(text: &[u8]) -> (usize, u64)
-    ensures end { result.0 ≡ digits_len text.now }
-    ensures within { result.0 ≤ length text.now }
-    ensures value { result.1 ≡ digits_value 10 (take result.0 text.now) % 2 ^ 64 }
-{
-    if text.len() >= WORD_BYTES {
-        let (count, value) = read_digits(&text[..WORD_BYTES], 0, 0);
-        if count < WORD_BYTES {
-            return (count, value);
-        }
-    }
-    read_digits(text, 0, 0)
-}
-
 /// The digits that come first, as a number, and what follows them.
 #[inline(always)]
 pub fn digits(text: &[u8]) -> Option<(u64, &[u8])>
     ensures { IfSome result (λ found. BeginsDigits text.now found.0 found.1.now) }
 {
-    let (count, value) = leading_digits(text);
+    let (count, value) = read_digits(text, 0, 0);
     if count == 0 || MOST_DIGITS < count || (count != 1 && first(text) == b'0') {
         return None;
     }

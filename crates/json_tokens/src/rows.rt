@@ -111,7 +111,6 @@ fn rows_at<'a>(
 /// # Errors
 ///
 /// `Other` where the next value is written otherwise, or is none, or has more numbers; `Memory`.
-#[inline(never)]
 pub fn scan_rows(
     reader: &mut Scanner<'_>,
     cells: &mut Vec<i64>,
