@@ -11,5 +11,7 @@ mod reading;
 mod writing;
 
 pub use fault::{FieldFault, ReadFault};
-pub use reading::{read_bytes, read_few, read_i64, read_i128, read_u8, read_u16, read_u64};
+pub use reading::{
+    read_bytes, read_few, read_i64, read_i128, read_mark, read_u8, read_u16, read_u64,
+};
 pub use writing::{put_bytes, put_i64, put_i128, put_u8, put_u16, put_u64};

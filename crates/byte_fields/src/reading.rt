@@ -2,7 +2,7 @@
 
 ghost use Rattle.std.specs.Prelude.{◌≡◌, ◌≤◌, IfOk};
 ghost use Rattle.byte_fields.specs.Reads.{Reads};
-ghost use Rattle.byte_fields.specs.Format.{raw};
+ghost use Rattle.byte_fields.specs.Format.{raw, mark};
 ghost use Rattle.byte_fields.specs.Fields.{u8_field, few_field, u16_field, u64_field, i64_field, u128_field, i128_field};
 
 use crate::fault::FieldFault;
@@ -19,6 +19,21 @@ pub fn read_bytes(count: usize, bytes: &[u8]) -> Result<(&[u8], &[u8]), FieldFau
         return Err(FieldFault::Truncated);
     }
     Ok(bytes.split_at(count))
+}
+
+/// The bytes behind those of a mark.
+///
+/// # Errors
+///
+/// `Truncated`, or `Magic` where there are others.
+pub fn read_mark<'a>(magic: &[u8], bytes: &'a [u8]) -> Result<&'a [u8], FieldFault>
+    ensures { Reads (λ rest. (magic.now, rest.now)) result ((mark magic.now).read bytes.now) }
+{
+    let (front, rest) = read_bytes(magic.len(), bytes)?;
+    if front != magic {
+        return Err(FieldFault::Magic);
+    }
+    Ok(rest)
 }
 
 /// A byte.

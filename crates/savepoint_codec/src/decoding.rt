@@ -1,8 +1,8 @@
 //! A savepoint read from all of its bytes, in the layout without an index.
 
-ghost use Rattle.std.specs.Prelude.{◌≡◌, ◌≤◌, true, codes, length, IfOk, Ok};
-ghost use Rattle.byte_fields.specs.Format.{mark, whole};
-ghost use Rattle.byte_fields.specs.Reads.{Reads, Gives as Read};
+ghost use Rattle.std.specs.Prelude.{◌≡◌, ◌≤◌, true, length, IfOk, Ok};
+ghost use Rattle.byte_fields.specs.Format.{whole};
+ghost use Rattle.byte_fields.specs.Reads.{Gives as Read};
 ghost use Rattle.savepoint_codec.specs.declared.savepoint.Contents.{Contents as ContentsValue};
 ghost use Rattle.savepoint_codec.specs.Layout.{front_field, unindexed_format, IsSavepoint, unindexed_bytes};
 ghost use Rattle.plan_model.specs.declared.limits.TheConstants.{MOST_AGGREGATES};
@@ -12,20 +12,9 @@ use crate::fault::SaveFault;
 use crate::fields::{read_kinds, read_max, read_number, read_record, read_sources};
 use crate::groups::read_groups;
 use crate::savepoint::{Contents, Front, Savepoint};
-use byte_fields::{FieldFault, ReadFault, read_bytes};
+use byte_fields::{FieldFault, ReadFault, read_mark};
 use plan_model::read_uid;
 use std::alloc::Global;
-
-/// The bytes behind those that a savepoint begins with.
-fn read_mark(bytes: &[u8]) -> Result<&[u8], FieldFault>
-    ensures { Reads (λ rest. (codes "WSP1", rest.now)) result ((mark (codes "WSP1")).read bytes.now) }
-{
-    let (front, rest) = read_bytes(4, bytes)?;
-    match front {
-        b"WSP1" => Ok(rest),
-        _ => Err(FieldFault::Magic),
-    }
-}
 
 /// What stands in a savepoint's bytes before its key groups, and the bytes behind it.
 ///
@@ -58,7 +47,7 @@ pub fn read_front(alloc: Global, bytes: &[u8]) -> Result<(Front, &[u8]), ReadFau
 fn read_contents(alloc: Global, bytes: &[u8]) -> Result<(Contents, &[u8]), ReadFault>
     ensures { Read (λ x. (x.0, x.1.now)) result (unindexed_format.read bytes.now) }
 {
-    let rest = read_mark(bytes)?;
+    let rest = read_mark(b"WSP1", bytes)?;
     let (front, rest) = read_front(alloc, rest)?;
     let (groups, rest) = read_groups(alloc, front.max, front.kinds.as_slice(), rest)?;
     Ok((front.with_groups(groups), rest))

@@ -1,8 +1,8 @@
 //! A savepoint read from all of its bytes, in either layout.
 
-ghost use Rattle.std.specs.Prelude.{◌≡◌, true, codes, IfOk, Ok};
-ghost use Rattle.byte_fields.specs.Format.{mark, whole};
-ghost use Rattle.byte_fields.specs.Reads.{Reads, Gives as Read};
+ghost use Rattle.std.specs.Prelude.{◌≡◌, true, IfOk, Ok};
+ghost use Rattle.byte_fields.specs.Format.{whole};
+ghost use Rattle.byte_fields.specs.Reads.{Gives as Read};
 ghost use Rattle.savepoint_codec.specs.declared.savepoint.Contents.{Contents as ContentsValue};
 ghost use Rattle.savepoint_codec.specs.Answer.{Gives, fault_said};
 ghost use Rattle.savepoint_codec.specs.Layout.{IsSavepoint};
@@ -10,26 +10,15 @@ ghost use Rattle.savepoint_index.specs.Layout.{indexed_format, has_index, Spells
 ghost use Rattle.savepoint_index.specs.Answer.{savepoint_of_bytes};
 
 use crate::heads::read_groups;
-use byte_fields::{FieldFault, ReadFault, read_bytes};
+use byte_fields::{FieldFault, ReadFault, read_mark};
 use savepoint_codec::{Contents, SaveFault, Savepoint, decode as decode_unindexed, read_front};
 use std::alloc::Global;
-
-/// The bytes behind those that a savepoint with an index begins with.
-pub(crate) fn read_mark(bytes: &[u8]) -> Result<&[u8], FieldFault>
-    ensures { Reads (λ rest. (codes "WSP2", rest.now)) result ((mark (codes "WSP2")).read bytes.now) }
-{
-    let (front, rest) = read_bytes(4, bytes)?;
-    match front {
-        b"WSP2" => Ok(rest),
-        _ => Err(FieldFault::Magic),
-    }
-}
 
 /// Whether bytes begin as those of a savepoint with an index.
 fn is_indexed(bytes: &[u8]) -> bool
     ensures { result ≡ has_index bytes.now }
 {
-    match read_mark(bytes) {
+    match read_mark(b"WSP2", bytes) {
         Ok(_) => true,
         Err(_) => false,
     }
@@ -39,7 +28,7 @@ fn is_indexed(bytes: &[u8]) -> bool
 fn read_contents(alloc: Global, bytes: &[u8]) -> Result<(Contents, &[u8]), ReadFault>
     ensures { Read (λ x. (x.0, x.1.now)) result (indexed_format.read bytes.now) }
 {
-    let rest = read_mark(bytes)?;
+    let rest = read_mark(b"WSP2", bytes)?;
     let (front, behind) = read_front(alloc, rest)?;
     let begin = (bytes.len() - behind.len()) as u64;
     let (groups, rest) = read_groups(alloc, front.max, front.kinds.as_slice(), begin, behind)?;

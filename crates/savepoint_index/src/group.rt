@@ -18,10 +18,9 @@ ghost use Rattle.savepoint_index.specs.Layout.{savepoint_bytes};
 ghost use Rattle.savepoint_index.specs.Reading.{any_head, value_read};
 ghost use Rattle.savepoint_index.specs.Answer.{head_of_group, entries_of_group, GivesEntries};
 
-use crate::decoding::read_mark;
 use crate::head::GroupHead;
 use aggregates::Kind;
-use byte_fields::{FieldFault, ReadFault, read_u16, read_u64};
+use byte_fields::{FieldFault, ReadFault, read_mark, read_u16, read_u64};
 use savepoint_codec::{Entries, SaveFault, read_entry_list, read_front};
 use std::alloc::Global;
 
@@ -81,7 +80,7 @@ fn read_group(alloc: Global, bytes: &[u8], group: u32) -> Result<Entries, ReadFa
     ensures entries { (s : Contents) → IsSavepoint s → bytes.now ≡ savepoint_bytes s → GivesEntries read.Memory result (entries_of_group group s) }
     ensures marked { (fault : FieldFaultValue) → (mark (codes "WSP2")).read bytes.now ≡ Err fault → result ≡ Err (read.Bytes fault) }
 {
-    let rest = read_mark(bytes)?;
+    let rest = read_mark(b"WSP2", bytes)?;
     let (front, rest) = read_front(alloc, rest)?;
     let (count, rest) = read_u16(rest)?;
     match find_head(count, group, rest)? {
