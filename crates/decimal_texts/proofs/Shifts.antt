@@ -1,6 +1,6 @@
 -- Digits that are cut off at the end, and what is left of the number.
 use Rattle.std.proofs.Common.{◌≡◌, ℕ, ◌+◌, ◌-◌, ◌*◌, ◌/◌, ◌%◌, ◌^◌, ◌<◌, ◌≤◌, ◌⊎◌, ◌&&◌, Bool, true, false, Option, Some, None, eqb, List, [], ◌∷◌, ◌++◌, length, take, drop, arith, refl, sym, ap, ◌∙◌, inl, inr, append_assoc, length-append, length-drop}
-use Rattle.std.proofs.lemmas.Bool.{false≢true, eqb-true, cases_lt}
+use Rattle.std.proofs.lemmas.Bool.{and_parts, false≢true, eqb-true, cases_lt}
 use Rattle.std.proofs.lemmas.Bool.Decides.{nat_tests, eqb_tells}
 use Rattle.std.proofs.lemmas.List.{take-append-drop, take_all, drop_all, append-nil}
 use Rattle.std.proofs.lemmas.List.Folds.{list_all-append}
@@ -9,35 +9,20 @@ use Rattle.std.proofs.Math.Nat.{mul-le-mul_right, one-le-pow, pow-succ', pow-le-
 use Rattle.std.specs.Char.{is_ascii_digit, digit_value}
 use Rattle.std.specs.List.{list_all}
 use Rattle.std.specs.Str.Parse.{digits_value, digits_value_after}
-use Rattle.field_values.proofs.Numbers.{after_joined, after_at_least, value_below, power_at_least}
+use Rattle.field_values.proofs.Numbers.{after_value, after_joined, after_at_least, value_below, power_at_least}
 use Rattle.std.specs.Option.{SomeIff}
 use Rattle.std.proofs.Common.{ok_or, ltb}
 use Rattle.field_values.specs.declared.fault.FieldFault.TheVariants.{TooLarge}
 use Rattle.decimal_texts.specs.Exact.{exact_quotient, held}
 
--- digits behind a number
-pub after_value : (n : ℕ) (es : List ℕ) → digits_value_after 10 n es ≡ n * 10 ^ length es + digits_value 10 es
-after_value n [] = omega arith
-after_value n (e ∷ es) =
-    let d = digit_value e in
-    let first : digits_value_after 10 n (e ∷ es) ≡ (n * 10 + d) * 10 ^ length es + digits_value 10 es = after_value (n * 10 + d) es in
-    let second : digits_value 10 (e ∷ es) ≡ (0 * 10 + d) * 10 ^ length es + digits_value 10 es = after_value (0 * 10 + d) es in
-    let power : n * 10 ^ length (e ∷ es) ≡ n * (10 * 10 ^ length es) = ap (λ (k : ℕ). n * k) (pow-succ' 10 (length es)) in
-    omega arith
-
 pub both_value : (xs ys : List ℕ) → digits_value 10 (xs ++ ys) ≡ digits_value 10 xs * 10 ^ length ys + digits_value 10 ys
 both_value xs ys = after_joined 0 xs ys ∙ after_value (digits_value 10 xs) ys
-
-pub both_true : (a b : Bool) → (a && b) ≡ true → (a ≡ true) × (b ≡ true)
-both_true true true h = (refl, refl)
-both_true true false h = absurd (false≢true h)
-both_true false b h = absurd (false≢true h)
 
 -- zeros write 0
 pub zeros_value : (ds : List ℕ) → list_all (λ b. eqb b 48) ds ≡ true → digits_value 10 ds ≡ 0
 zeros_value [] h = refl
 zeros_value (d ∷ ds) h =
-    let parts = both_true (eqb d 48) (list_all (λ b. eqb b 48) ds) h in
+    let parts = and_parts (eqb d 48) (list_all (λ b. eqb b 48) ds) h in
     let none : digit_value d ≡ 0 = ap digit_value (eqb-true d 48 parts.0) in
     ap (λ (k : ℕ). digits_value_after 10 (0 * 10 + k) ds) none ∙ zeros_value ds parts.1
 
@@ -48,7 +33,7 @@ digit_some d h other = grind (arith, nat_tests)
 pub others_value : (ds : List ℕ) → list_all is_ascii_digit ds ≡ true → list_all (λ b. eqb b 48) ds ≡ false → 0 < digits_value 10 ds
 others_value [] h other = absurd (false≢true (sym other))
 others_value (d ∷ ds) h other =
-    let parts = both_true (is_ascii_digit d) (list_all is_ascii_digit ds) h in
+    let parts = and_parts (is_ascii_digit d) (list_all is_ascii_digit ds) h in
     elim (eqb_tells d 48) [
       | inl zero ↦
           let none : digit_value d ≡ 0 = ap digit_value zero.1 in
@@ -103,7 +88,7 @@ quotient_left n up down a b e some small =
 pub kept_digits : (ds : List ℕ) (n : ℕ) → list_all is_ascii_digit ds ≡ true → (list_all is_ascii_digit (take n ds) ≡ true) × (list_all is_ascii_digit (drop n ds) ≡ true)
 kept_digits ds n h =
     let parts = sym (list_all-append is_ascii_digit (take n ds) (drop n ds)) ∙ ap (list_all is_ascii_digit) (take-append-drop n ds) ∙ h in
-    both_true (list_all is_ascii_digit (take n ds)) (list_all is_ascii_digit (drop n ds)) parts
+    and_parts (list_all is_ascii_digit (take n ds)) (list_all is_ascii_digit (drop n ds)) parts
 
 joined_digits : (xs ys : List ℕ) → list_all is_ascii_digit xs ≡ true → list_all is_ascii_digit ys ≡ true → list_all is_ascii_digit (xs ++ ys) ≡ true
 joined_digits xs ys h k = rw (list_all-append is_ascii_digit xs ys, h) k

@@ -10,7 +10,7 @@ use Rattle.std.specs.List.{list_all, position_or_len}
 use Rattle.std.specs.Str.Parse.{digits_value, digits_value_after}
 use Rattle.std.proofs.lemmas.Str.Parse.{IsNumeralModel, IsDigitsTest, numerals_by_value, digit_at, digits_value_short}
 use Rattle.std.proofs.lemmas.Int.Digits.{digits_value-lt}
-use Rattle.std.proofs.Math.Nat.{mul-le-mul_left, one-le-pow}
+use Rattle.std.proofs.Math.Nat.{mul-le-mul_left, one-le-pow, pow-succ'}
 use Rattle.field_values.specs.Decimals.{magnitude}
 use Rattle.std.proofs.Math.Seq.{drop-cons}
 
@@ -41,6 +41,16 @@ next_digit n ds i h lt =
 pub after_joined : (n : ℕ) (ds es : List ℕ) → digits_value_after 10 n (ds ++ es) ≡ digits_value_after 10 (digits_value_after 10 n ds) es
 after_joined n [] es = refl
 after_joined n (d ∷ ds) es = after_joined (n * 10 + digit_value d) ds es
+
+-- digits behind a number
+pub after_value : (n : ℕ) (es : List ℕ) → digits_value_after 10 n es ≡ n * 10 ^ length es + digits_value 10 es
+after_value n [] = omega arith
+after_value n (e ∷ es) =
+    let d = digit_value e in
+    let first : digits_value_after 10 n (e ∷ es) ≡ (n * 10 + d) * 10 ^ length es + digits_value 10 es = after_value (n * 10 + d) es in
+    let second : digits_value 10 (e ∷ es) ≡ (0 * 10 + d) * 10 ^ length es + digits_value 10 es = after_value (0 * 10 + d) es in
+    let power : n * 10 ^ length (e ∷ es) ≡ n * (10 * 10 ^ length es) = ap (λ (k : ℕ). n * k) (pow-succ' 10 (length es)) in
+    omega arith
 
 -- where a number is too large after one digit, it is so after all
 pub too_large : (n before : ℕ) (ds : List ℕ) (i : ℕ) → list_all is_ascii_digit ds ≡ true → i < length ds → digits_value_after 10 n (drop i ds) ≡ digits_value_after 10 before ds → 2 ^ 64 ≤ n * 10 + (get_or ds i 0 - 48) → 2 ^ 64 ≤ digits_value_after 10 before ds

@@ -2,7 +2,7 @@
 use Rattle.std.proofs.Common.{◌≡◌, ◌≢◌, ℕ, ◌+◌, ◌-◌, ◌*◌, ◌^◌, ◌<◌, ◌≤◌, ◌⊎◌, inl, inr, suc, cond, true, false, Bool, not, ◌&&◌, List, [], ◌∷◌, ◌++◌, length, take, drop, eqb, Err, Ok, ℤ, pos, ◌+ℤ◌, ◌*ℤ◌, arith, refl, sym, ap, ◌∙◌, length-drop}
 use Rattle.std.proofs.lemmas.Bool.Decides.{nat_tests}
 use Rattle.std.proofs.lemmas.Int.{ints}
-use Rattle.std.proofs.Math.Bool.{and-true}
+use Rattle.std.proofs.Math.Bool.{and-true, and-false}
 use Rattle.std.proofs.Math.Seq.{take-append_seam, drop-append_seam}
 use Rattle.std.specs.List.{position_or_len, list_all}
 use Rattle.field_values.specs.declared.fault.FieldFault.TheVariants.{NoTime, TooFine, NoSuchTime}
@@ -22,10 +22,6 @@ use Rattle.std.proofs.lemmas.Nat.{pow-add}
 use Rattle.std.proofs.Math.Nat.{one-le-pow, pow-le-pow_right, mul-lt-mul_of_pos_right}
 use Rattle.field_values.proofs.Numbers.{value_below}
 use Rattle.decimal_texts.proofs.Shifts.{kept_digits}
-
-and_no : (b : Bool) → (b && false) ≡ false
-and_no true = refl
-and_no false = refl
 
 either_long : (b : Bool) (xs ys : List ℕ) (n : ℕ) → n ≤ length xs → n ≤ length ys → n ≤ length (cond b xs ys)
 either_long true xs ys n h k = h
@@ -47,7 +43,7 @@ long_is_no_zone text long =
     let behind = length-drop 3 text in
     let more : eqb (length text) 1 ≡ false = grind (arith, nat_tests) in
     let minutes = long_minutes (drop 3 text) (omega arith) in
-    rw (more, minutes) (and_no _)
+    rw (more, minutes) (and-false _)
 
 short_is_no_clock : (text : List ℕ) → length text ≢ 19 → is_clock text ≡ false
 unfolding is_clock
@@ -58,7 +54,7 @@ short_is_no_clock text other =
 pub not_whole : (clock zone : List ℕ) → (length clock ≢ 19) ⊎ ((length clock ≡ 19) × (6 < length zone)) → whole_said clock zone ≡ Err NoTime
 unfolding whole_said
 not_whole clock zone (inl other) = rw (short_is_no_clock clock other) refl
-not_whole clock zone (inr long) = rw (long_is_no_zone zone long.1, and_no (is_clock clock)) refl
+not_whole clock zone (inr long) = rw (long_is_no_zone zone long.1, and-false (is_clock clock)) refl
 
 first_step : (p : ℕ → Bool) (x : ℕ) (xs : List ℕ) (b : Bool) → p x ≡ b → position_or_len p (drop (position_or_len p xs) xs) ≡ 0 → position_or_len p (drop (position_or_len p (x ∷ xs)) (x ∷ xs)) ≡ 0
 first_step p x xs true h more = simp h refl

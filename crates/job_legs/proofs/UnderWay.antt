@@ -1,6 +1,6 @@
 -- Legs that are on their way.
 use Rattle.std.proofs.Common.{◌≡◌, ◌∙◌, ℕ, suc, ◌+◌, ◌*◌, ◌-◌, ◌<◌, ◌≤◌, ◌^◌, nat_le, Bool, true, false, ◌&&◌, List, [], ◌∷◌, length, take, filter, drop, ◌++◌, MatchResult, Result, Option, Some, None, refl, sym, ap, subst, inl, inr, arith}
-use Rattle.std.proofs.lemmas.Bool.{leb-true}
+use Rattle.std.proofs.lemmas.Bool.{and_parts, leb-true}
 use Rattle.std.specs.List.{All, list_all}
 use Rattle.std.proofs.lemmas.List.Elements.{All-head}
 use Rattle.std.specs.Option.{option_to_list}
@@ -73,11 +73,6 @@ abbrev pub turns_behind : List LegSpec → ℕ
 turns_behind [] = 0
 turns_behind (leg ∷ more) = 1 + length (saves_in more) + turns_behind more
 
-both : (a b : Bool) → a && b ≡ true → (a ≡ true) × (b ≡ true)
-both true true e = (refl, refl)
-both true false e = absurd cc
-both false b e = absurd cc
-
 but_one : (leg : LegSpec) (legs : List LegSpec) → length (leg ∷ legs) - 1 ≡ length legs
 but_one leg legs = omega (arith)
 
@@ -86,7 +81,7 @@ unfolding GoOn
 goes_of [] h = tt
 goes_of (leg ∷ []) h = tt
 goes_of (leg ∷ next ∷ legs) h =
-    let b = both (stops leg.stop) (list_all is_stop (take (length legs) (next ∷ legs))) (subst (λ n. list_all is_stop (take n (leg ∷ next ∷ legs)) ≡ true) (but_one leg (next ∷ legs)) h) in
+    let b = and_parts (stops leg.stop) (list_all is_stop (take (length legs) (next ∷ legs))) (subst (λ n. list_all is_stop (take n (leg ∷ next ∷ legs)) ≡ true) (but_one leg (next ∷ legs)) h) in
     (b.0, goes_of (next ∷ legs) (subst (λ n. list_all is_stop (take n (next ∷ legs)) ≡ true) (sym (but_one next legs)) b.1))
 
 pub start : (p : PlanData) (i : InputData) (all : List LegSpec) (r : Reached) → are_legs all ≡ true → ((q : Pane) → due_rows p i.sources (empty_cut i.sources) q ≡ None) → r.rows.items ≡ [] → r.savepoint ≡ None → IsOnWay p i all all (saves_in all) r
@@ -94,7 +89,7 @@ unfolding are_legs
 start p i [] r list none rows saved = absurd cc
 start p i (leg ∷ legs) r list none rows saved =
     let all = leg ∷ legs in
-    let parts = both (nat_le 1 (length all) && nat_le (length all) MOST_LEGS) (list_all is_stop (take (length all - 1) all)) list in
+    let parts = and_parts (nat_le 1 (length all) && nat_le (length all) MOST_LEGS) (list_all is_stop (take (length all - 1) all)) list in
     let before : IsBefore p i all all r = record {
       cut = empty_cut i.sources;
       number = 0;
@@ -107,7 +102,7 @@ start p i (leg ∷ legs) r list none rows saved =
       count = omega arith;
       done = 0;
       some = omega arith;
-      few = leb-true (length all) MOST_LEGS (both (nat_le 1 (length all)) (nat_le (length all) MOST_LEGS) parts.0).1;
+      few = leb-true (length all) MOST_LEGS (and_parts (nat_le 1 (length all)) (nat_le (length all) MOST_LEGS) parts.0).1;
       bounded = omega arith;
       can = λ h. h;
       forbids = λ fault h. h;

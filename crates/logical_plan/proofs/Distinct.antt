@@ -3,18 +3,11 @@ use Rattle.std.proofs.Common.{◌≡◌, ℕ, ◌+◌, ◌<◌, Bool, true, fals
 use Rattle.std.specs.Prelude.{bytes_eq}
 use Rattle.std.specs.List.{list_any}
 use Rattle.std.specs.Cmp.Lexicographic.{nat_list_eq_equiv}
+use Rattle.std.proofs.lemmas.Bool.{or_parts, not-true, not-false}
 use Rattle.std.proofs.lemmas.List.{map-append, take-append-drop}
 use Rattle.std.proofs.lemmas.List.Folds.{list_any-append}
 use Rattle.plan_model.specs.Uids.{are_distinct}
 use Rattle.plan_model.proofs.Facts.{front_more, and_false}
-
-pub list_any_map : {A B : Type 0} (test : B → Bool) (f : A → B) (xs : List A) → list_any test (map f xs) ≡ list_any (λ x. test (f x)) xs
-list_any_map test f [] = refl
-list_any_map test f (x ∷ xs) = ap (λ (b : Bool). test (f x) || b) (list_any_map test f xs)
-
-or_false : (a b : Bool) → (a || b) ≡ false → (a ≡ false) × (b ≡ false)
-or_false true b h = absurd cc
-or_false false b h = (refl, h)
 
 or_true : (a b : Bool) → (a || b) ≡ true → (a ≡ true) ⊎ ((a ≡ false) × (b ≡ true))
 or_true true b h = inl refl
@@ -32,7 +25,7 @@ are_distinct_push : (xs : List (List ℕ)) (x : List ℕ) → are_distinct xs �
 are_distinct_push [] x h new = refl
 are_distinct_push (y ∷ ys) x h new =
     let here = and_true (list_any (bytes_eq y) ys) (are_distinct ys) h in
-    let apart = or_false (bytes_eq x y) (list_any (bytes_eq x) ys) new in
+    let apart = or_parts (bytes_eq x y) (list_any (bytes_eq x) ys) new in
     let other : bytes_eq y x ≡ false = turned y x ∙ apart.0 in
     rw (list_any-append (bytes_eq y) ys (x ∷ []), here.0, other) (are_distinct_push ys x here.1 apart.1)
 
@@ -56,19 +49,11 @@ added_new : (front now : List (List ℕ)) (x : List ℕ) (r : Bool) → r ≡ tr
     → (now ≡ front ++ x ∷ []) × (are_distinct now ≡ true)
 added_new front now x r is_true is_new is_now distinct =
     let e : now ≡ front ++ x ∷ [] = rw is_true at is_now in
-    (e, rw e (are_distinct_push front x distinct (not_true _ (sym is_new ∙ is_true))))
-  where
-    not_true : (b : Bool) → not b ≡ true → b ≡ false
-    not_true true h = absurd cc
-    not_true false h = refl
+    (e, rw e (are_distinct_push front x distinct (not-true _ (sym is_new ∙ is_true))))
 
 -- and where it was there
 added_again : (front all more : List (List ℕ)) (x : List ℕ) (r : Bool) → r ≡ false → r ≡ not (list_any (bytes_eq x) front) → all ≡ front ++ x ∷ more → are_distinct all ≡ false
-added_again front all more x r is_false is_new split = rw split (are_distinct_again front x more (not_false _ (sym is_new ∙ is_false)))
-  where
-    not_false : (b : Bool) → not b ≡ false → b ≡ true
-    not_false true h = refl
-    not_false false h = absurd cc
+added_again front all more x r is_false is_new split = rw split (are_distinct_again front x more (not-false _ (sym is_new ∙ is_false)))
 
 front_rest : {A : Type 0} (f : A → List ℕ) (xs : List A) (i : ℕ) (d : A) → i < length xs → map f xs ≡ map f (take i xs) ++ f (get_or xs i d) ∷ map f (drop (i + 1) xs)
 front_rest f xs i d lt =

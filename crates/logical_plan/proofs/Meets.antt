@@ -5,12 +5,10 @@ use Rattle.std.specs.Prelude.{unsigned_abs, int_lt, int_le, nat_le}
 use Rattle.std.specs.List.{All, list_all}
 use Rattle.std.proofs.lemmas.Bool.{leb-true}
 use Rattle.std.proofs.lemmas.Bool.Decides.{nat_tests}
-use Rattle.std.proofs.lemmas.Float.{T_from_true}
 use Rattle.std.proofs.lemmas.List.{length-map}
 use Rattle.std.proofs.lemmas.List.Elements.{All-map}
 use Rattle.std.proofs.lemmas.List.Folds.{list_all-append, list_all-map}
 use Rattle.std.proofs.lemmas.List.Sums.{AllPass-from_list_all, list_all-from_AllPass}
-use Rattle.std.specs.Int.Signed.{le_z_yes, lt_z_yes}
 use Rattle.answers.specs.Answer.{first_unmet}
 use Rattle.answers.proofs.Facts.{met_first}
 use Rattle.json_parts.specs.Tests.{is_within, is_place}
@@ -24,6 +22,7 @@ use Rattle.logical_plan.specs.declared.text.PlanText.{PlanText}
 use Rattle.plan_model.specs.PlanData.{IsBound, IsPlan, IsWindow, has_column, uids}
 use Rattle.logical_plan.specs.Requirements.{is_aggregate_of, text_uids, requirements, has_columns, has_column_indices, has_max, has_sources, has_partitions, has_uids, has_distinct_uids, has_filters, has_size, has_slide, has_offset, has_panes, has_aggregates, is_bound, has_bounds}
 use Rattle.logical_plan.specs.Answer.{source_data, filter_data, aggregate_data, having_data, plan_data}
+use Rattle.plan_model.proofs.Facts.{le_from_test, lt_from_test}
 use Rattle.byte_fields.proofs.Exact.{both}
 
 -- what the requirements say, one by one
@@ -125,12 +124,6 @@ place_within (pos m) (pos n) h = grind (arith, nat_tests)
 place_within (negsuc m) (pos n) h = let e : false ≡ true = (both (int_le (pos 0) (pos n)) false h).1 in absurd cc
 place_within bound (negsuc n) h = absurd cc
 
-le_from : (a b : ℤ) → int_le a b ≡ true → a ≤ℤ b
-le_from a b h = le_z_yes (T_from_true (int_le a b) h)
-
-lt_from : (a b : ℤ) → int_lt a b ≡ true → a <ℤ b
-lt_from a b h = lt_z_yes (T_from_true (int_lt a b) h)
-
 -- what holds of each element that passes a test holds of each element mapped
 all_map : {A B : Type 0} (test : A → Bool) (f : A → B) (P : B → Type 0) (xs : List A) → ((x : A) → test x ≡ true → P (f x)) → list_all test xs ≡ true → All P (map f xs)
 all_map test f P xs each h = All-map P f xs (λ k d lt. each _ (AllPass-from_list_all test xs h k d lt))
@@ -143,7 +136,7 @@ column_within columns (text.Greatest c) h = place_within columns c h
 
 bound_meets : (bound : Option ℤ) → is_bound bound ≡ true → IsBound bound
 bound_meets None h = tt
-bound_meets (Some b) h = let parts = both (int_le (pos 0) b) (int_le b GREATEST_BOUND) h in (le_from _ _ parts.0, le_from _ _ parts.1)
+bound_meets (Some b) h = let parts = both (int_le (pos 0) b) (int_le b GREATEST_BOUND) h in (le_from_test _ _ parts.0, le_from_test _ _ parts.1)
 
 source_uids : (ss : List SourceText) → map (λ s. s.uid) (map source_data ss) ≡ map (λ (s : SourceText). s.uid) ss
 source_uids [] = refl
@@ -161,13 +154,13 @@ window_meets t m =
     let size = both (int_le (pos 1) t.window.size) _ m.size in
     let slide = both (int_le (pos 1) t.window.slide) _ m.slide in
     record {
-      sized = le_from _ _ size.0;
-      size_small = le_from _ _ size.1;
-      slides = le_from _ _ slide.0;
-      slide_small = le_from _ _ slide.1;
-      offset_above = lt_from _ _ m.above;
-      offset_below = lt_from _ _ m.below;
-      panes = le_from _ _ m.panes;
+      sized = le_from_test _ _ size.0;
+      size_small = le_from_test _ _ size.1;
+      slides = le_from_test _ _ slide.0;
+      slide_small = le_from_test _ _ slide.1;
+      offset_above = lt_from_test _ _ m.above;
+      offset_below = lt_from_test _ _ m.below;
+      panes = le_from_test _ _ m.panes;
     }
 
 pub is_plan : (t : PlanText) → Meets t → All (λ f. FitsSigned w64 f.value) (map filter_data t.filters) → All (λ h. FitsSigned w64 h.value) (map having_data t.window.having) → IsPlan (plan_data t)

@@ -1,6 +1,7 @@
 -- A leg that goes on by the receipt of the one before.
 use Rattle.std.proofs.Common.{◌≡◌, ◌⊎◌, ◌==◌, ◌&&◌, ◌++◌, ℕ, Bool, true, false, cond, nat_le, List, [], length, map, get_or, Option, Some, None, option_map, Result, Ok, Err, inl, inr, refl, ap, ◌∙◌, subst, arith, length-append}
 use Rattle.std.proofs.Math.Seq.{take-append_seam}
+use Rattle.std.proofs.lemmas.Bool.{and_from, eq-eqb}
 use Rattle.std.proofs.lemmas.Slice.Eq.{bytes_eq-Decides}
 use Rattle.input_changes.specs.Agreement.{HaveSameEntries}
 use Rattle.plan_model.specs.PlanData.{PlanData}
@@ -24,16 +25,8 @@ IsFine result = (result ≡ Ok tt) ⊎ (result ≡ Err fault.Memory)
 
 -- ---- what is the same is found to be so
 
-as_many : (n : ℕ) → (n == n) ≡ true
-as_many n = grind arith
-
-pub both : (a b : Bool) → a ≡ true → b ≡ true → (a && b) ≡ true
-both true true a b = refl
-both true false a b = absurd cc
-both false b a c = absurd cc
-
 same_itself : (c : Counted) → is_same c c ≡ true
-same_itself c = both _ _ (as_many c.count) ((bytes_eq-Decides c.digest c.digest).1 refl)
+same_itself c = and_from _ _ (eq-eqb c.count c.count refl) ((bytes_eq-Decides c.digest c.digest).1 refl)
 
 plan_itself : (bytes : List ℕ) → plan_checked (counted_bytes bytes) bytes ≡ Ok tt
 plan_itself bytes = ap (λ (b : Bool). cond b (Ok tt) (Err fault.Plan)) (same_itself (counted_bytes bytes))
@@ -43,7 +36,7 @@ longer bytes more = grind (arith, length-append)
 
 begins_itself : (bytes more : List ℕ) → begins_with (counted_bytes bytes) (bytes ++ more) ≡ true
 begins_itself bytes more =
-    both _ _ (longer bytes more) (ap (λ (s : List ℕ). is_same (counted_bytes s) (counted_bytes bytes)) (take-append_seam bytes more) ∙ same_itself (counted_bytes bytes))
+    and_from _ _ (longer bytes more) (ap (λ (s : List ℕ). is_same (counted_bytes s) (counted_bytes bytes)) (take-append_seam bytes more) ∙ same_itself (counted_bytes bytes))
 
 names_grown : (names : Option (List ℕ)) (more : List ℕ) → names_checked (counted_names names) (option_map (λ bytes. bytes ++ more) names) ≡ Ok tt
 names_grown None more = refl

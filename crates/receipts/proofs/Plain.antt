@@ -1,15 +1,11 @@
 -- Bytes that JSON writes as they are.
 use Rattle.std.proofs.Common.{◌≡◌, ◌<◌, ◌≤◌, ◌++◌, ℕ, zero, suc, Bool, true, false, not, List, [], ◌∷◌, refl, ap₂, arith}
-use Rattle.std.proofs.lemmas.Bool.{and_parts, eqb-false, leb-true, ltb-true}
+use Rattle.std.proofs.lemmas.Bool.{and_parts, not-true, eqb-false, leb-true, ltb-true}
 use Rattle.std.specs.List.{list_all}
 use Rattle.std.specs.Str.{IsAscii}
 use Rattle.json.specs.Print.{escape}
 use Rattle.json.proofs.Printed.Strings.{escape_byte_plain}
 use Rattle.receipts.specs.ReadBack.{is_plain}
-
-not_so : (b : Bool) → not b ≡ true → b ≡ false
-not_so true e = absurd cc
-not_so false e = refl
 
 pub record Plain (b : ℕ) : Type 0 where
   pub low : 32 ≤ b
@@ -22,7 +18,7 @@ plain_parts b e =
     let low = and_parts _ _ e in
     let high = and_parts _ _ low.1 in
     let others = and_parts _ _ high.1 in
-    record { low = leb-true 32 b low.0; high = ltb-true b 127 high.0; quote = eqb-false b 34 (not_so _ others.0); backslash = eqb-false b 92 (not_so _ others.1) }
+    record { low = leb-true 32 b low.0; high = ltb-true b 127 high.0; quote = eqb-false b 34 (not-true _ others.0); backslash = eqb-false b 92 (not-true _ others.1) }
 
 pub escape_plain : (s : List ℕ) → list_all is_plain s ≡ true → escape s ≡ s
 escape_plain [] e = refl

@@ -1,6 +1,6 @@
 -- Members that are put into an object one after another, each under a name of its own.
 use Rattle.std.proofs.Common.{◌≡◌, ◌||◌, ℕ, Bool, true, false, not, bytes_eq, List, [], ◌∷◌, map, Some, Ordering, Less, Equal, Greater, nat_cmp, refl, sym, ◌∙◌}
-use Rattle.std.proofs.lemmas.Bool.{and_parts, or_parts, true≢false}
+use Rattle.std.proofs.lemmas.Bool.{and_parts, and_from, or_parts, or_left, or_right, true≢false}
 use Rattle.std.proofs.lemmas.Slice.Eq.{bytes_eq-Decides}
 use Rattle.std.specs.Cmp.Lexicographic.{slice_cmp}
 use Rattle.std.specs.List.{list_all, list_any}
@@ -10,7 +10,6 @@ use Rattle.serde_json.specs.Data.{Data, Members, no_members, member, put}
 use Rattle.serde_json.specs.Find.{get_member}
 use Rattle.serde_json.proofs.Views.{get_member-put, get_member-put_other}
 use Rattle.json_parts.specs.Parts.{is_one_of, names_of}
-use Rattle.receipts.proofs.Kept.{both}
 
 abbrev pub Named : Type 0
 Named = List ℕ × Data
@@ -51,12 +50,12 @@ all_there (z ∷ zs) ms distinct = (kept z.0 zs (put z.0 z.1 ms) distinct.0 ∙ 
 
 named_at : (o : Ordering) (P : List ℕ → Bool) (k l : List ℕ) (d e : Data) (ms : Members) → P k ≡ true → P l ≡ true → list_all P (names_of ms) ≡ true → list_all P (names_of (put k d ms)) ≡ true
     → list_all P (names_of (match_ordering o (member k d (member l e ms)) (member l d ms) (member l e (put k d ms)))) ≡ true
-named_at Less P k l d e ms here there rest later = both _ _ here (both _ _ there rest)
-named_at Equal P k l d e ms here there rest later = both _ _ there rest
-named_at Greater P k l d e ms here there rest later = both _ _ there later
+named_at Less P k l d e ms here there rest later = and_from _ _ here (and_from _ _ there rest)
+named_at Equal P k l d e ms here there rest later = and_from _ _ there rest
+named_at Greater P k l d e ms here there rest later = and_from _ _ there later
 
 named_put : (P : List ℕ → Bool) (k : List ℕ) (d : Data) (ms : Members) → P k ≡ true → list_all P (names_of ms) ≡ true → list_all P (names_of (put k d ms)) ≡ true
-named_put P k d no_members here all = both _ _ here refl
+named_put P k d no_members here all = and_from _ _ here refl
 named_put P k d (member l e ms) here all =
     let parts = and_parts (P l) (list_all P (names_of ms)) all in
     named_at (slice_cmp nat_cmp k l) P k l d e ms here parts.0 parts.1 (named_put P k d ms here parts.1)
@@ -67,24 +66,16 @@ all_named P (z ∷ zs) ms each all =
     let parts = and_parts (P z.0) (list_all P (names_in zs)) each in
     all_named P zs (put z.0 z.1 ms) parts.1 (named_put P z.0 z.1 ms parts.0 all)
 
-second : (a b : Bool) → b ≡ true → (a || b) ≡ true
-second true b e = refl
-second false b e = e
-
-first : (a b : Bool) → a ≡ true → (a || b) ≡ true
-first true b e = refl
-first false b e = absurd cc
-
 -- a name is one of those behind it
 later : (k : List ℕ) (ks : List (List ℕ)) (names : List (List ℕ)) → list_all (is_one_of names) ks ≡ true → list_all (is_one_of (k ∷ names)) ks ≡ true
 later k [] names all = refl
 later k (l ∷ ks) names all =
     let parts = and_parts _ _ all in
-    both _ _ (second (bytes_eq k l) _ parts.0) (later k ks names parts.1)
+    and_from _ _ (or_right (bytes_eq k l) _ parts.0) (later k ks names parts.1)
 
 one_of_itself : (ks : List (List ℕ)) → list_all (is_one_of ks) ks ≡ true
 one_of_itself [] = refl
-one_of_itself (k ∷ ks) = both _ _ (first (bytes_eq k k) _ ((bytes_eq-Decides k k).1 refl)) (later k ks ks (one_of_itself ks))
+one_of_itself (k ∷ ks) = and_from _ _ (or_left (bytes_eq k k) _ ((bytes_eq-Decides k k).1 refl)) (later k ks ks (one_of_itself ks))
 
 pub no_other : (zs : List Named) → list_all (is_one_of (names_in zs)) (names_of (put_all zs no_members)) ≡ true
 no_other zs = all_named (is_one_of (names_in zs)) zs no_members (one_of_itself (names_in zs)) refl

@@ -1,6 +1,6 @@
 -- Decimals read as their numbers.
 use Rattle.std.proofs.Common.{◌≡◌, ℕ, zero, suc, ◌+◌, ◌-◌, ◌*◌, ◌/◌, ◌%◌, ◌^◌, ◌<◌, ◌≤◌, ℤ, pos, negsuc, Bool, true, false, ◌&&◌, ◌||◌, not, cond, eqb, ltb, List, [], ◌∷◌, ◌++◌, length, take, drop, Option, None, Some, Ok, Err, ok_or, FitsSigned, inl, inr, if◌then◌else◌, arith, rules, refl, sym, ap, subst, ◌∙◌, append-nil, length-append}
-use Rattle.std.proofs.lemmas.Bool.{false≢true, cases_lt, lt-ltb, le-ltb, le-leb, lt-leb}
+use Rattle.std.proofs.lemmas.Bool.{and_parts, or_right, cases_lt, lt-ltb, le-ltb, le-leb, lt-leb}
 use Rattle.std.proofs.lemmas.Bool.Decides.{nat_tests}
 use Rattle.std.proofs.lemmas.Fmt.{decimal_is_IsNumeral, length-decimal-le}
 use Rattle.std.proofs.lemmas.List.Folds.{list_all-append}
@@ -11,26 +11,11 @@ use Rattle.std.specs.Fmt.{decimal}
 use Rattle.std.specs.Int.{w64}
 use Rattle.std.specs.List.{list_all, position_or_len}
 use Rattle.std.specs.Str.Parse.{digits_value, digits_value_after, starts_with_minus}
-use Rattle.field_values.proofs.Numbers.{own, after_joined, value_below}
+use Rattle.field_values.proofs.Numbers.{own, after_value, after_joined, value_below}
 use Rattle.field_values.specs.Decimals.{is_point, scaled_said, whole_digits, decimal_digits, from_point, is_decimal, magnitude, signed, without_minus}
 use Rattle.field_values.specs.Digits.{are_digits, is_fraction}
 use Rattle.field_values.specs.declared.fault.FieldFault.TheVariants.{NoNumber, MorePlaces, TooLarge}
 use Rattle.row_tables.specs.Decimals.{decimal_text, is_decimal_byte, part_digits, size_text}
-
-both_true : (a b : Bool) → (a && b) ≡ true → (a ≡ true) × (b ≡ true)
-both_true true true h = (refl, refl)
-both_true true false h = absurd (false≢true h)
-both_true false b h = absurd (false≢true h)
-
--- digits behind a number
-after_value : (n : ℕ) (es : List ℕ) → digits_value_after 10 n es ≡ n * 10 ^ length es + digits_value 10 es
-after_value n [] = omega arith
-after_value n (e ∷ es) =
-    let d = digit_value e in
-    let first : digits_value_after 10 n (e ∷ es) ≡ (n * 10 + d) * 10 ^ length es + digits_value 10 es = after_value (n * 10 + d) es in
-    let second : digits_value 10 (e ∷ es) ≡ (0 * 10 + d) * 10 ^ length es + digits_value 10 es = after_value (0 * 10 + d) es in
-    let power : n * 10 ^ length (e ∷ es) ≡ n * (10 * 10 ^ length es) = ap (λ (k : ℕ). n * k) (pow-succ' 10 (length es)) in
-    omega arith
 
 decimal_digits_are : (n : ℕ) → n < 2 ^ 64 → list_all is_ascii_digit (decimal n) ≡ true
 decimal_digits_are n h = own.from (decimal n) (decimal_is_IsNumeral n h).0.1
@@ -49,7 +34,7 @@ one_digit (suc (suc k)) q v r e a b = absurd (omega (arith, e, a, b))
 part_from : (places part : ℕ) (ds : List ℕ) → list_all is_ascii_digit ds ≡ true → digits_value 10 ds ≡ 10 ^ places + part → part < 10 ^ places → length ds ≤ suc places → IsPart places part (drop 1 ds)
 part_from places part [] h value small few = absurd (omega (arith, value, small))
 part_from places part (d ∷ ds) h value small few =
-    let parts = both_true (is_ascii_digit d) (list_all is_ascii_digit ds) h in
+    let parts = and_parts (is_ascii_digit d) (list_all is_ascii_digit ds) h in
     let split : digits_value 10 (d ∷ ds) ≡ (0 * 10 + digit_value d) * 10 ^ length ds + digits_value 10 ds = after_value (0 * 10 + digit_value d) ds in
     let below : digits_value 10 (d ∷ ds) < 10 ^ length (d ∷ ds) = value_below (d ∷ ds) h in
     let long : length ds ≡ places = elim (cases_lt (length ds) places) [
@@ -83,12 +68,12 @@ point_step c xs h = ap (λ (b : Bool). cond (not b) (1 + position_or_len is_poin
 point_at : (whole rest : List ℕ) → list_all is_ascii_digit whole ≡ true → position_or_len is_point rest ≡ 0 → position_or_len is_point (whole ++ rest) ≡ length whole
 point_at [] rest h none = none
 point_at (c ∷ whole) rest h none =
-    let parts = both_true (is_ascii_digit c) (list_all is_ascii_digit whole) h in
+    let parts = and_parts (is_ascii_digit c) (list_all is_ascii_digit whole) h in
     omega (arith, point_step c (whole ++ rest) parts.0, point_at whole rest parts.1 none)
 
 no_minus : (whole rest : List ℕ) → 0 < length whole → list_all is_ascii_digit whole ≡ true → starts_with_minus (whole ++ rest) ≡ false
 no_minus [] rest some h = absurd (omega (arith, some))
-no_minus (c ∷ whole) rest some h = not_minus c (both_true (is_ascii_digit c) (list_all is_ascii_digit whole) h).0
+no_minus (c ∷ whole) rest some h = not_minus c (and_parts (is_ascii_digit c) (list_all is_ascii_digit whole) h).0
 
 -- what a text says whose parts are known
 says : (places : ℕ) (negative : Bool) (text whole rest : List ℕ) (n : ℕ) → without_minus text ≡ whole ++ rest → starts_with_minus text ≡ negative → position_or_len is_point (whole ++ rest) ≡ length whole → are_digits whole ≡ true → is_fraction rest ≡ true
@@ -113,13 +98,9 @@ no_fraction : is_fraction [] ≡ true
 unfolding is_fraction
 no_fraction = refl
 
-either : (a b : Bool) → b ≡ true → (a || b) ≡ true
-either true b h = refl
-either false b h = h
-
 fraction_some : (ds : List ℕ) → are_digits ds ≡ true → is_fraction (46 ∷ ds) ≡ true
 unfolding is_fraction
-fraction_some ds h = either (eqb (length (46 ∷ ds)) 0) (are_digits ds) h
+fraction_some ds h = or_right (eqb (length (46 ∷ ds)) 0) (are_digits ds) h
 
 size_of : (places whole part n : ℕ) (ds es : List ℕ) → digits_value 10 ds ≡ whole → IsPart places part es → 10 ^ places * whole + part ≡ n → magnitude places ds es ≡ n
 unfolding magnitude
@@ -179,7 +160,7 @@ reads places (negsuc n) few fits =
 digits_plain : (ds : List ℕ) → list_all is_ascii_digit ds ≡ true → list_all is_decimal_byte ds ≡ true
 digits_plain [] h = refl
 digits_plain (d ∷ ds) h =
-    let parts = both_true (is_ascii_digit d) (list_all is_ascii_digit ds) h in
+    let parts = and_parts (is_ascii_digit d) (list_all is_ascii_digit ds) h in
     ap (λ (b : Bool). (b || eqb d 46 || eqb d 45) && list_all is_decimal_byte ds) parts.0 ∙ digits_plain ds parts.1
 
 size_plain : (places n : ℕ) → places ≤ 18 → n < 2 ^ 64 → list_all is_decimal_byte (size_text places n) ≡ true

@@ -23,9 +23,5 @@ returns-clause-value c =
 pub returns-clause-bound : goal.returns-clause-bound
 unfolding fraction_units
 returns-clause-bound c =
-    let taken = all_taken c.args.digits.now c.args.count c.min.result c.min.ensures in
-    let same : digits_value 10 (take c.min.result c.args.digits.now) * 10 ^ (c.args.count - length (take c.min.result c.args.digits.now)) ≡ fraction_units c.args.count c.args.digits.now
-    = ap (λ (l : List ℕ). digits_value 10 l * 10 ^ (c.args.count - length l)) taken in
     let few = few_units c.args.digits.now c.args.count c.requires.digits c.requires.few in
-    let all = c.unwrap_or.ensures ∙ given c.raised_digits.result _ (omega (arith, same, few)) c.raised_digits.ensures ∙ same in
-    omega (arith, all, few)
+    omega (arith, returns-clause-value c, few)

@@ -1,10 +1,19 @@
-use Rattle.std.proofs.Common.{rules, arith, ◌≡◌, ◌≤◌, ◌<◌, ◌+◌, ◌/◌, ◌%◌, ◌^◌, ◌∷◌, [], ◌++◌, drop, length, sym, ap, subst, ◌∙◌, append-nil}
+use Rattle.std.proofs.Common.{rules, arith, ℕ, ◌≡◌, ◌≤◌, ◌<◌, ◌+◌, ◌/◌, ◌%◌, ◌^◌, ◌∷◌, [], ◌++◌, drop, length, sym, ap, subst, ◌∙◌, append-nil}
 use Rattle.std.proofs.lemmas.Fmt.{decimal_nonempty, length-decimal-le}
 use Rattle.std.proofs.lemmas.List.{drop_all}
 use Rattle.std.proofs.Math.Nat.{one-le-pow, pow-le-pow_right, div-le_self, mod-lt}
 use Rattle.std.specs.Fmt.{decimal}
 use Rattle.row_tables.specs.Decimals.{size_text}
 use Rattle.row_tables.proofs.decimal.fill_size.Goals as goal
+
+-- both parts of a size have few digits, the second with a one before it
+few_digits : (size places scale : ℕ) → size ≤ 2 ^ 63 → places ≤ 18 → scale ≡ 10 ^ places → (length (decimal (scale + size % scale)) ≤ 19) × (length (decimal (size / scale)) ≤ 19)
+few_digits size places scale small few is =
+    let one = one-le-pow places 10 (omega arith) in
+    let power : 10 ^ places ≤ 10 ^ 18 = pow-le-pow_right (omega arith) few in
+    let part : size % scale < scale = mod-lt size (omega (arith, one, is)) in
+    let whole : size / scale ≤ size = div-le_self size scale in
+    (length-decimal-le 19 (scale + size % scale) (omega arith) (omega (arith, part, power, is)) (omega (arith, part, power, is)), length-decimal-le 19 (size / scale) (omega arith) (omega (arith, whole, small)) (omega (arith, whole, small)))
 
 pub write_digits-requires : goal.write_digits-requires
 write_digits-requires c = (omega (arith, length-decimal-le 19 c.args.size (omega arith) (omega arith) (omega arith)), search rules)
@@ -38,22 +47,10 @@ nonzero_div-size c =
 
 pub write_digits-requires-2 : goal.write_digits-requires-2
 write_digits-requires-2 c =
-    let scale = c.pow-scale.result in
-    let one = one-le-pow c.args.places 10 (omega arith) in
-    let some : 0 < scale = search rules in
-    let power : 10 ^ c.args.places ≤ 10 ^ 18 = pow-le-pow_right (omega arith) c.requires.places in
-    let high : scale ≤ 10 ^ 18 = search rules in
-    let part : c.args.size % scale < scale = mod-lt c.args.size some in
-    let below = length-decimal-le 19 (scale + c.args.size % scale) (omega arith) (omega arith) (omega arith) in
-    (omega (arith, c.fill_part-point.ensures.place, below, length-decimal-le 19 (c.args.size / scale) (omega arith) (omega (arith, div-le_self c.args.size scale)) (omega (arith, div-le_self c.args.size scale))), search rules)
+    let few = few_digits c.args.size c.args.places c.pow-scale.result c.requires.size c.requires.places c.pow-scale.ensures in
+    (omega (arith, c.fill_part-point.ensures.place, few.0, few.1), search rules)
 
 pub returns-clause-some : goal.returns-clause-some
 returns-clause-some c =
-    let scale = c.pow-scale.result in
-    let one = one-le-pow c.args.places 10 (omega arith) in
-    let some : 0 < scale = search rules in
-    let power : 10 ^ c.args.places ≤ 10 ^ 18 = pow-le-pow_right (omega arith) c.requires.places in
-    let high : scale ≤ 10 ^ 18 = search rules in
-    let part : c.args.size % scale < scale = mod-lt c.args.size some in
-    let below = length-decimal-le 19 (scale + c.args.size % scale) (omega arith) (omega arith) (omega arith) in
-    omega (arith, c.fill_part-point.ensures.place, below, c.write_digits-2.ensures.start, length-decimal-le 19 (c.args.size / scale) (omega arith) (omega (arith, div-le_self c.args.size scale)) (omega (arith, div-le_self c.args.size scale)))
+    let few = few_digits c.args.size c.args.places c.pow-scale.result c.requires.size c.requires.places c.pow-scale.ensures in
+    omega (arith, c.fill_part-point.ensures.place, few.0, c.write_digits-2.ensures.start, few.1)
