@@ -12,6 +12,7 @@ mod parts;
 mod rows;
 
 pub use fault::BatchFault;
+pub use parts::places_by_target;
 use std::marker::Model;
 
 /// The most rows of a batch.

@@ -98,14 +98,23 @@ fn true_places(alloc: Global, mask: &[bool]) -> Result<Vec<usize>, AllocError>
     Ok(places)
 }
 
-/// For each target below n the places at which it stands.
-fn places_by_target(alloc: Global, targets: &[u32], n: u32) -> Result<Vec<Vec<usize>>, AllocError>
+/// For each target below n the places at which it stands, in order.
+///
+/// # Errors
+///
+/// Only where memory runs out.
+pub fn places_by_target(
+    alloc: Global,
+    targets: &[u32],
+    n: u32,
+) -> Result<Vec<Vec<usize>>, AllocError>
     requires { All (λ target. target < n) targets.now }
     ensures { IfOk result (λ lists. map (λ places. places.items) lists.items ≡ map (λ t. kept (map (λ target. target == t) targets.now) (range_with_len 0 (length targets.now))) (range_with_len 0 n)) }
 {
+    let share = targets.len().saturating_mul(2) / (n as usize).max(1);
     let mut lists = Vec::with_capacity(alloc, n as usize)?;
     while lists.len() < n as usize {
-        lists.push(Vec::new(alloc))?;
+        lists.push(Vec::with_capacity(alloc, share)?)?;
     }
     for (place, target) in targets.iter().enumerate() {
         let places: &mut Vec<usize> = &mut lists[*target as usize];

@@ -3,9 +3,9 @@
 ghost use Rattle.std.specs.Prelude.{◌≡◌, ◌<◌, ◌≤◌, map, length, IfOk};
 ghost use Rattle.std.specs.List.{All, range_with_len};
 ghost use Rattle.plain_data.specs.Record.{column_of};
-ghost use Rattle.key_dealing.specs.Dealing.{owner, dealt};
+ghost use Rattle.key_dealing.specs.Dealing.{owner, dealt, rows_at, ArePlaces};
 
-use columns::Batch;
+use columns::{Batch, places_by_target};
 use key_groups::{MaxParallelism, Parallelism, groups_into, owner_of};
 use std::alloc::{AllocError, Global};
 
@@ -56,4 +56,26 @@ pub fn pieces_of(
         Ok(pieces) => Ok(pieces),
         Err(_) => Err(AllocError),
     }
+}
+
+/// The places of the records of a batch that each subtask is dealt, in order.
+///
+/// # Errors
+///
+/// Only where memory runs out.
+pub fn places_of(
+    alloc: Global,
+    max: MaxParallelism,
+    par: Parallelism,
+    key: u32,
+    batch: &Batch,
+) -> Result<Vec<Vec<usize>>, AllocError>
+    requires fits { par ≤ max }
+    requires key { key < batch.now.width }
+    ensures rows { IfOk result (λ lists. map (λ places. rows_at batch.now.rows places.items) lists.items ≡ map (λ j. (dealt max par key batch.now j).rows) (range_with_len 0 par)) }
+    ensures inside { IfOk result (λ lists. All (λ places. ArePlaces batch.now.rows places.items) lists.items) }
+{
+    let numbers = batch.column(key as usize);
+    let owners = owners_of(alloc, max, par, numbers)?;
+    places_by_target(alloc, &owners, par.get())
 }

@@ -3,4 +3,4 @@
 
 mod dealing;
 
-pub use dealing::pieces_of;
+pub use dealing::{pieces_of, places_of};
