@@ -1,0 +1,4 @@
+mod Starts
+mod Boundaries
+mod Totals
+mod Fits

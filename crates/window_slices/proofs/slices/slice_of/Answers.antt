@@ -1,0 +1,8 @@
+use Rattle.window_slices.proofs.Fits.{slice_start_is}
+use Rattle.window_slices.proofs.slices.slice_of.Goals as goal
+
+pub returns-clause-start : goal.returns-clause-start
+returns-clause-start c =
+    let start = c.last_start_by.ensures in
+    let end = c.last_end_by.ensures in
+    slice_start_is c.args.time c.max.result c.last_start_by.result c.last_end_by.result c.requires.time c.max.ensures.value start.behind start.reached end.behind end.reached
