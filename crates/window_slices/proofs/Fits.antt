@@ -6,7 +6,7 @@ use Rattle.plan_model.specs.declared.limits.TheConstants.{TIME_LIMIT, LONGEST_WI
 use Rattle.plan_model.specs.declared.spec.WindowSpec.{WindowSpec}
 use Rattle.plan_model.specs.PlanData.{IsWindow}
 use Rattle.plan_model.specs.Windows.{IsTime}
-use Rattle.window_slices.specs.Slices.{last_start_by, last_end_by, slice_end, IsSliceStart}
+use Rattle.window_slices.specs.Slices.{last_start_by, last_end_by, slice_start, slice_end, IsSliceStart}
 
 whole : (z : ℤ) → neg_ℤ (pos (2 ^ 63)) ≤ℤ z → z <ℤ pos (2 ^ 63) → to_z w64 (of_z w64 z) ≡ z
 whole z h k = omega (arith, ints)
@@ -17,12 +17,6 @@ slide_whole w iw =
     let low = iw.slides in
     let high = iw.slide_small in
     whole w.slide (omega (arith, ints, low)) (omega (arith, ints, high))
-
-size_whole : (w : WindowSpec) → IsWindow w → to_z w64 (of_z w64 w.size) ≡ w.size
-size_whole w iw =
-    let low = iw.sized in
-    let high = iw.size_small in
-    whole w.size (omega (arith, ints, low)) (omega (arith, ints, high))
 
 offset_whole : (w : WindowSpec) → IsWindow w → to_z w64 (of_z w64 w.offset) ≡ w.offset
 offset_whole w iw =
@@ -115,17 +109,55 @@ time_above t h = grind (arith, ints)
 time_below : (t : ℤ) → IsTime t → t <ℤ TIME_LIMIT
 time_below t h = grind (arith, ints)
 
--- where the slice of a time starts
-pub slice_start_is : (t m a b : ℤ) → IsTime t → m ≡ int_max (to_z w64 (of_z w64 a)) (to_z w64 (of_z w64 b)) → (to_z w64 (of_z w64 t) -ℤ LONGEST_WINDOW) ≤ℤ a → a ≤ℤ to_z w64 (of_z w64 t)
-    → (to_z w64 (of_z w64 t) -ℤ LONGEST_WINDOW) ≤ℤ b → b ≤ℤ to_z w64 (of_z w64 t) → IsSliceStart (to_z w64 (of_z w64 m))
-slice_start_is t m a b is em alow ahigh blow bhigh =
-    let low = time_above t is in
-    let high = time_below t is in
-    let at : to_z w64 (of_z w64 t) ≡ t = whole t (omega (arith, ints, low)) (omega (arith, ints, high)) in
-    let fa : to_z w64 (of_z w64 a) ≡ a = whole a (omega (arith, ints, low, alow, at)) (omega (arith, ints, high, ahigh, at)) in
-    let fb : to_z w64 (of_z w64 b) ≡ b = whole b (omega (arith, ints, low, blow, at)) (omega (arith, ints, high, bhigh, at)) in
-    let most : m ≡ int_max a b = em ∙ (λ i. int_max (fa i) (fb i)) in
-    let mlow : (t -ℤ LONGEST_WINDOW) ≤ℤ m = omega (arith, ints, clamps, most, alow, at) in
-    let mhigh : m ≤ℤ t = omega (arith, ints, clamps, most, ahigh, bhigh, at) in
-    let fm : to_z w64 (of_z w64 m) ≡ m = whole m (omega (arith, ints, low, mlow)) (omega (arith, ints, high, mhigh)) in
-    record { above = omega (arith, ints, fm, low, mlow); below = omega (arith, ints, fm, high, mhigh) }
+-- the slice of a time starts at the later of two
+module _ (t m a b : ℤ) (is : IsTime t) (most : m ≡ int_max (to_z w64 (of_z w64 a)) (to_z w64 (of_z w64 b))) (alow : (to_z w64 (of_z w64 t) -ℤ LONGEST_WINDOW) ≤ℤ a) (ahigh : a ≤ℤ to_z w64 (of_z w64 t))
+    (blow : (to_z w64 (of_z w64 t) -ℤ LONGEST_WINDOW) ≤ℤ b) (bhigh : b ≤ℤ to_z w64 (of_z w64 t)) where
+  time : to_z w64 (of_z w64 t) ≡ t
+  time =
+      let low = time_above t is in
+      let high = time_below t is in
+      whole t (omega (arith, ints, low)) (omega (arith, ints, high))
+
+  later : m ≡ int_max a b
+  later =
+      let low = time_above t is in
+      let high = time_below t is in
+      let at = time in
+      let fa : to_z w64 (of_z w64 a) ≡ a = whole a (omega (arith, ints, low, alow, at)) (omega (arith, ints, high, ahigh, at)) in
+      let fb : to_z w64 (of_z w64 b) ≡ b = whole b (omega (arith, ints, low, blow, at)) (omega (arith, ints, high, bhigh, at)) in
+      most ∙ (λ i. int_max (fa i) (fb i))
+
+  near : (t -ℤ LONGEST_WINDOW) ≤ℤ m
+  near =
+      let at = time in
+      let is_later = later in
+      omega (arith, ints, clamps, is_later, alow, at)
+
+  reached : m ≤ℤ t
+  reached =
+      let at = time in
+      let is_later = later in
+      omega (arith, ints, clamps, is_later, ahigh, bhigh, at)
+
+  latest : to_z w64 (of_z w64 m) ≡ m
+  latest =
+      let low = time_above t is in
+      let high = time_below t is in
+      let least = near in
+      let greatest = reached in
+      whole m (omega (arith, ints, low, least)) (omega (arith, ints, high, greatest))
+
+  pub slice_start_near : IsSliceStart (to_z w64 (of_z w64 m))
+  slice_start_near =
+      let low = time_above t is in
+      let high = time_below t is in
+      let least = near in
+      let greatest = reached in
+      let at = latest in
+      record { above = omega (arith, ints, at, low, least); below = omega (arith, ints, at, high, greatest) }
+
+  pub slice_start_is : (w : WindowSpec) → a ≡ last_start_by w (to_z w64 (of_z w64 t)) → b ≡ last_end_by w (to_z w64 (of_z w64 t)) → to_z w64 (of_z w64 m) ≡ slice_start w t
+  slice_start_is w ea eb =
+      let first = ea ∙ ap (last_start_by w) time in
+      let second = eb ∙ ap (last_end_by w) time in
+      latest ∙ later ∙ (λ i. int_max (first i) (second i))
