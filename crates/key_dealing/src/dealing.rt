@@ -6,11 +6,11 @@ ghost use Rattle.plain_data.specs.Record.{column_of};
 ghost use Rattle.key_dealing.specs.Dealing.{owner, dealt, rows_at, ArePlaces};
 
 use columns::{Batch, places_by_target};
-use key_groups::{MaxParallelism, Parallelism, groups_into, owner_of};
+use key_groups::{MaxParallelism, Parallelism, groups_into, owners_into};
 use std::alloc::{AllocError, Global};
 
 /// The subtask that owns each key.
-fn owners_into(max: MaxParallelism, par: Parallelism, keys: &[i64], out: &mut [u32])
+fn owners_of_keys(max: MaxParallelism, par: Parallelism, keys: &[i64], out: &mut [u32])
     requires fits { par ≤ max }
     requires alike { length keys.now ≡ length out.old }
     ensures owners { out.new ≡ map (owner max par) keys.now }
@@ -18,9 +18,7 @@ fn owners_into(max: MaxParallelism, par: Parallelism, keys: &[i64], out: &mut [u
 {
     let _groups = max.get();
     groups_into(keys, max, out);
-    for o in out.iter_mut() {
-        *o = owner_of(max, par, *o);
-    }
+    owners_into(max, par, out);
 }
 
 fn owners_of(
@@ -34,7 +32,7 @@ fn owners_of(
     ensures below { IfOk result (λ owners. All (λ o. o < par) owners.items) }
 {
     let mut owners = vec![in alloc; 0u32; keys.len()]?;
-    owners_into(max, par, keys, &mut owners);
+    owners_of_keys(max, par, keys, &mut owners);
     Ok(owners)
 }
 

@@ -1,4 +1,4 @@
-ghost use Rattle.std.specs.Prelude.{◌%◌, ◌<◌, ◌≡◌, ◌≤◌, length, map};
+ghost use Rattle.std.specs.Prelude.{◌%◌, ◌^◌, ◌<◌, ◌≡◌, ◌≤◌, length, map};
 ghost use Rattle.key_groups.specs.Groups.{hash_code, key_group};
 
 use crate::limits::MaxParallelism;
@@ -34,12 +34,32 @@ fn hash_codes_into(keys: &[i64], codes: &mut [u32])
     }
 }
 
-fn remainders(hashes: &mut [u32], groups: u32)
+// A division costs several times what all else of a group does, and most jobs have a power of two of them.
+fn low_bits(hashes: &mut [u32], bits: u32)
+    requires { bits ≤ 15 }
+    ensures { hashes.new ≡ map (λ hash. hash % 2 ^ bits) hashes.old }
+{
+    let mask = (1 << bits) - 1;
+    for hash in hashes.iter_mut() {
+        *hash &= mask;
+    }
+}
+
+fn divided(hashes: &mut [u32], groups: u32)
     requires { 0 < groups }
     ensures { hashes.new ≡ map (λ hash. hash % groups) hashes.old }
 {
     for hash in hashes.iter_mut() {
         *hash %= groups;
+    }
+}
+
+fn remainders(hashes: &mut [u32], max: MaxParallelism)
+    ensures { hashes.new ≡ map (λ hash. hash % max) hashes.old }
+{
+    match max.whole_bits() {
+        Some(bits) => low_bits(hashes, bits),
+        None => divided(hashes, max.get()),
     }
 }
 
@@ -52,7 +72,7 @@ fn chunk_groups(keys: &[i64], max: MaxParallelism, out: &mut [u32])
     let codes = &mut buffer[..keys.len()];
     hash_codes_into(keys, codes);
     mix_into(codes, out);
-    remainders(out, max.get());
+    remainders(out, max);
 }
 
 /// The group of each key of a column, as [`group_of`] gives it.

@@ -14,4 +14,4 @@ pub mod laws;
 
 pub use group::{group_of, groups_into};
 pub use limits::{MOST_GROUPS, MOST_SUBTASKS, MaxParallelism, Parallelism};
-pub use ranges::{GroupRange, owner_of, range_of};
+pub use ranges::{GroupRange, owner_of, owners_into, range_of};

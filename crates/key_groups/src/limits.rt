@@ -1,9 +1,12 @@
-ghost use Rattle.std.specs.Prelude.{SomeIff, ◌≡◌, ◌≤◌};
+ghost use Rattle.std.specs.Prelude.{SomeIff, IfSome, ◌≡◌, ◌≤◌, ◌^◌};
 
 use std::marker::Model;
 
 /// The most key groups.
 pub const MOST_GROUPS: u32 = 32768;
+
+// As many bits as tell the most key groups apart.
+const MOST_BITS: u32 = 15;
 
 /// The most subtasks of an operator.
 pub const MOST_SUBTASKS: u32 = 64;
@@ -45,6 +48,18 @@ impl MaxParallelism {
         ensures small { self ≤ MOST_GROUPS }
     {
         self.groups
+    }
+
+    // How many bits tell the key groups apart, where they are as many as some bits tell apart.
+    pub(crate) fn whole_bits(self) -> Option<u32>
+        ensures small { IfSome result (λ bits. bits ≤ 15) }
+        ensures power { IfSome result (λ bits. 2 ^ bits ≡ self) }
+    {
+        let bits = self.groups.trailing_zeros().min(MOST_BITS);
+        if 1 << bits != self.groups {
+            return None;
+        }
+        Some(bits)
     }
 }
 

@@ -1,4 +1,5 @@
-ghost use Rattle.std.specs.Prelude.{◌<◌, ◌≡◌, ◌≤◌};
+ghost use Rattle.std.specs.Prelude.{◌<◌, ◌≡◌, ◌≤◌, ◌*◌, ◌/◌, ◌^◌, map};
+ghost use Rattle.std.specs.List.{All};
 ghost use Rattle.key_groups.specs.Ranges.{group_owner, group_range};
 
 use crate::limits::{MaxParallelism, Parallelism};
@@ -38,4 +39,41 @@ pub fn owner_of(max: MaxParallelism, par: Parallelism, group: u32) -> u32
     ensures below { result < par }
 {
     group * par.get() / max.get()
+}
+
+fn owners_by_shift(groups: &mut [u32], par: u32, bits: u32)
+    requires few { par ≤ 64 }
+    requires bits { bits ≤ 15 }
+    requires groups { All (λ group. group < 2 ^ bits) groups.old }
+    ensures { groups.new ≡ map (λ group. group * par / 2 ^ bits) groups.old }
+{
+    for group in groups.iter_mut() {
+        *group = *group * par >> bits;
+    }
+}
+
+fn owners_by_division(groups: &mut [u32], par: u32, max: u32)
+    requires few { par ≤ 64 }
+    requires small { max ≤ 32768 }
+    requires groups { All (λ group. group < max) groups.old }
+    ensures { groups.new ≡ map (λ group. group * par / max) groups.old }
+{
+    for group in groups.iter_mut() {
+        *group = *group * par / max;
+    }
+}
+
+/// Puts in place of each key group the subtask that owns it, as [`owner_of`] gives it.
+///
+/// The groups are below the number of key groups, and the operator has no more subtasks than that.
+pub fn owners_into(max: MaxParallelism, par: Parallelism, groups: &mut [u32])
+    requires groups { All (λ group. group < max) groups.old }
+    requires fits { par ≤ max }
+    ensures owners { groups.new ≡ map (group_owner max par) groups.old }
+    ensures below { All (λ owner. owner < par) groups.new }
+{
+    match max.whole_bits() {
+        Some(bits) => owners_by_shift(groups, par.get(), bits),
+        None => owners_by_division(groups, par.get(), max.get()),
+    }
 }

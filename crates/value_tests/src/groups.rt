@@ -1,5 +1,5 @@
 use key_groups::{
-    GroupRange, MaxParallelism, Parallelism, group_of, groups_into, owner_of, range_of,
+    GroupRange, MaxParallelism, Parallelism, group_of, groups_into, owner_of, owners_into, range_of,
 };
 use std::test::Fail;
 
@@ -48,5 +48,33 @@ fn ranges_and_owners_are_the_known_ones(rt: HostRuntime) -> Result<(), Fail> {
     assert!(rt; two.get() == 2);
     assert_eq!(rt; owner_of(max, two, 94), 1);
     key_groups::laws::owners_and_ranges();
+    Ok(())
+}
+
+fn owners_of<const N: usize>(max: u32, par: u32, groups: [u32; N]) -> Result<[u32; N], Fail> {
+    let max = MaxParallelism::new(max).ok_or("max")?;
+    let par = Parallelism::new(par, max).ok_or("par")?;
+    let mut owners = groups;
+    if par.get() > max.get() || owners.iter().any(|group| *group >= max.get()) {
+        return Err(Fail::from("a group is too large"));
+    }
+    owners_into(max, par, &mut owners);
+    Ok(owners)
+}
+
+#[test]
+fn owners_of_many_groups_are_those_of_each(rt: HostRuntime) -> Result<(), Fail> {
+    assert_eq!(rt;
+        owners_of(128, 3, [0, 42, 43, 85, 86, 127])?,
+        [0, 0, 1, 1, 2, 2]
+    );
+    assert_eq!(rt;
+        owners_of(100, 3, [0, 33, 34, 66, 67, 99])?,
+        [0, 0, 1, 1, 2, 2]
+    );
+    assert_eq!(rt; owners_of(32768, 64, [0, 511, 512, 32767])?, [0, 0, 1, 63]);
+    assert_eq!(rt; owners_of(32767, 64, [0, 511, 512, 32766])?, [0, 0, 1, 63]);
+    assert_eq!(rt; owners_of(1, 1, [0])?, [0]);
+    assert_eq!(rt; owners_of(64, 64, [])?, []);
     Ok(())
 }

@@ -11,4 +11,4 @@ in_turn max (key ∷ keys) = ap (λ t. key_group max key ∷ t) (in_turn max key
 pub returns : goal.returns
 returns c =
     let mixed : c.mix_into.new.out ≡ map murmur_hash (map hash_code c.args.keys.now) = c.mix_into.ensures ∙ ap (map murmur_hash) c.hash_codes_into.ensures in
-    c.remainders.ensures ∙ ap (λ n. map (λ hash. hash % n) c.mix_into.new.out) c.get.ensures.says ∙ ap (map (λ hash. hash % c.args.max)) mixed ∙ in_turn c.args.max c.args.keys.now
+    c.remainders.ensures ∙ ap (map (λ hash. hash % c.args.max)) mixed ∙ in_turn c.args.max c.args.keys.now

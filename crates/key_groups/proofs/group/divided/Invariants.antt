@@ -1,5 +1,5 @@
 use Rattle.std.proofs.Common.{◌≡◌, ◌%◌, ◌<◌, ◌≤◌, ℕ, get_or}
-use Rattle.key_groups.proofs.group.remainders.Given as goal
+use Rattle.key_groups.proofs.group.divided.Given as goal
 
 abbrev pub invariant-loop-hash : goal.invariant-loop-hash
 invariant-loop-hash l = record {
