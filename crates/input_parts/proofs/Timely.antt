@@ -16,10 +16,7 @@ use Rattle.stream_model.specs.Marks.{IsMarked, mark_of, rows_in}
 use Rattle.stream_model.specs.Watermarks.{watermark_of_entry, partition_watermark, IsOrderlyPartition, IsOrderly}
 use Rattle.input_parts.specs.Parts.{entry_of_rows, entry_kept, entries_kept, unmarked, marked, partition_kept, sources_kept}
 use Rattle.input_parts.proofs.Marks.{AreMarkedBy, mark_below}
-use Rattle.stream_model.proofs.Facts.{le_max}
-
-abbrev after : ℤ → Marked → ℤ
-after w e = int_max w (watermark_of_entry e)
+use Rattle.stream_model.proofs.Facts.{after, le_max}
 
 -- each record is above the watermark that goes before it, from a first one on
 abbrev AreTimelyFrom : ℕ → ℤ → List Marked → Type 0

@@ -29,9 +29,6 @@ use Rattle.input_texts.proofs.Pairs.{same_some, under}
 use Rattle.json_tokens.proofs.Facts.{equal_from}
 
 -- places of what stands behind i others
-abbrev pub moved : {Y : Type 0} → ℕ → Option (ℕ × Y) → Option (ℕ × Y)
-moved i o = option_map (λ p. (i + p.0, p.1)) o
-
 abbrev form : Data → Option (List (List EntryText))
 form = list_text (list_text entry_text)
 

@@ -17,7 +17,7 @@ lifted (negsuc b) (suc p) h = (suc b, suc b * p, omega (arith, ints))
 lifted (negsuc b) zero h = absurd (omega arith)
 
 -- the remainder, and that of a number that is j more
-rem-add : (z : ℤ) (j n : ℕ) → 0 < n → (r : ℕ) × (r < n) × (int_rem_euclid z (pos n) ≡ pos r) × (int_rem_euclid (z +ℤ pos j) (pos n) ≡ pos ((r + j) % n))
+pub rem-add : (z : ℤ) (j n : ℕ) → 0 < n → (r : ℕ) × (r < n) × (int_rem_euclid z (pos n) ≡ pos r) × (int_rem_euclid (z +ℤ pos j) (pos n) ≡ pos ((r + j) % n))
 rem-add z j n h =
     let up : (k : ℕ) × (m : ℕ) × (z +ℤ pos (k * n) ≡ pos m) = lifted z n h in
     let k = up.0 in

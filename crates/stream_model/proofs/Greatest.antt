@@ -13,18 +13,19 @@ use Rattle.plain_data.specs.Times.{lowest}
 use Rattle.stream_model.specs.Laws.{WatermarkIsGreatest}
 use Rattle.stream_model.proofs.Due.{le_fold, le_trans_z}
 
-abbrev step : ℤ → Marked → ℤ
-step w e = int_max w (watermark_of_entry e)
+-- the watermark after an entry
+abbrev pub after : ℤ → Marked → ℤ
+after w e = int_max w (watermark_of_entry e)
 
 pub max_second : (a b : ℤ) → b ≤ℤ int_max a b
 max_second a b = omega (arith, ints, clamps)
 
-bounds : (a : ℤ) (es : List Marked) → All (λ e. watermark_of_entry e ≤ℤ fold step a es) es
+bounds : (a : ℤ) (es : List Marked) → All (λ e. watermark_of_entry e ≤ℤ fold after a es) es
 bounds a [] = All-nil (λ e. watermark_of_entry e ≤ℤ a)
 bounds a (e ∷ es) =
-    All-cons (λ d. watermark_of_entry d ≤ℤ fold step (step a e) es) e es
-    (le_trans_z (watermark_of_entry e) (step a e) _ (max_second a (watermark_of_entry e)) (le_fold (step a e) es))
-    (bounds (step a e) es)
+    All-cons (λ d. watermark_of_entry d ≤ℤ fold after (after a e) es) e es
+    (le_trans_z (watermark_of_entry e) (after a e) _ (max_second a (watermark_of_entry e)) (le_fold (after a e) es))
+    (bounds (after a e) es)
 
 neither : (a b z : ℤ) → int_eq (int_max a b) z ≡ true → int_eq a z ≡ false → int_eq b z ≡ false → ⊥
 neither a b z h e f = grind (arith, ints, clamps)
@@ -42,9 +43,9 @@ or_true true = refl
 or_true false = refl
 
 -- where z is the running greatest, it is where that began or one of the watermarks
-reached : (a : ℤ) (es : List Marked) (z : ℤ) → int_eq (fold step a es) z ≡ true → (int_eq a z ≡ true) ⊎ (list_any (λ e. int_eq (watermark_of_entry e) z) es ≡ true)
+reached : (a : ℤ) (es : List Marked) (z : ℤ) → int_eq (fold after a es) z ≡ true → (int_eq a z ≡ true) ⊎ (list_any (λ e. int_eq (watermark_of_entry e) z) es ≡ true)
 reached a [] z h = inl h
-reached a (e ∷ es) z h = elim (reached (step a e) es z h) [
+reached a (e ∷ es) z h = elim (reached (after a e) es z h) [
   | inl here ↦ elim (is_max a (watermark_of_entry e) z here) [
     | inl first ↦ inl first
     | inr second ↦ inr (ap (λ b. b || list_any (λ d. int_eq (watermark_of_entry d) z) es) second)
@@ -60,7 +61,7 @@ watermark_is_greatest p n short =
     let here : (n == length p) ≡ false = ne_eqb n (length p) short in
     rw here (
       bounds lowest (take n p),
-      elim (reached lowest (take n p) (fold step lowest (take n p)) (int_eq_equiv.refl (fold step lowest (take n p)))) [
+      elim (reached lowest (take n p) (fold after lowest (take n p)) (int_eq_equiv.refl (fold after lowest (take n p)))) [
         | inl first ↦ inl (same_z _ _ first)
         | inr one ↦ inr one
       ],

@@ -8,22 +8,8 @@ use Rattle.std.proofs.lemmas.Nat.{div-add-mod', mod_below}
 use Rattle.std.proofs.Math.Nat.{mod-add-mod, mod-eq_of_lt, add-mod_right, zero-mod, mul-mod_left, mod-le}
 use Rattle.plan_model.specs.declared.spec.WindowSpec.{WindowSpec}
 use Rattle.plan_model.specs.Windows.{is_start}
-use Rattle.plan_model.proofs.Facts.{lifted, natural, natural_above, pos_same}
+use Rattle.plan_model.proofs.Facts.{rem-add, lifted, natural, natural_above, pos_same}
 use Rattle.window_slices.specs.Slices.{last_start_by}
-
--- the remainder of a number and of one that is more by j
-rest_more : (z : ℤ) (j n : ℕ) → 0 < n → (r : ℕ) × (r < n) × (int_rem_euclid z (pos n) ≡ pos r) × (int_rem_euclid (z +ℤ pos j) (pos n) ≡ pos ((r + j) % n))
-rest_more z j n h =
-    let up : (k : ℕ) × (m : ℕ) × (z +ℤ pos (k * n) ≡ pos m) = lifted z n h in
-    let k = up.0 in
-    let m = up.1 in
-    let e : z +ℤ pos (k * n) ≡ pos m = up.2 in
-    let further : (z +ℤ pos j) +ℤ pos (k * n) ≡ pos (m + j) = omega (arith, ints, e) in (
-      m % n,
-      mod_below m n h,
-      int_rem_euclid_is z (pos n) n k m h refl e,
-      int_rem_euclid_is (z +ℤ pos j) (pos n) n k (m + j) h refl further ∙ ap pos (sym (mod-add-mod m n j)),
-    )
 
 -- a number less its remainder has none
 none_left : (z : ℤ) (n r : ℕ) → 0 < n → int_rem_euclid z (pos n) ≡ pos r → int_rem_euclid (z -ℤ pos r) (pos n) ≡ pos 0
@@ -63,7 +49,7 @@ pub last_start : (w : WindowSpec) (t : ℤ) → pos 1 ≤ℤ w.slide → Reached
 last_start w t h =
     let n : (n : ℕ) × (0 < n) × (w.slide ≡ pos n) = natural_above w.slide (omega (arith, ints, h)) in
     let slide : w.slide ≡ pos n.0 = n.2 in
-    let found = rest_more (t -ℤ w.offset) 0 n.0 n.1 in
+    let found = rem-add (t -ℤ w.offset) 0 n.0 n.1 in
     let r = found.0 in
     let rest : int_rem_euclid (t -ℤ w.offset) w.slide ≡ pos r = ap (λ (d : ℤ). int_rem_euclid (t -ℤ w.offset) d) slide ∙ found.2 in
     let last : last_start_by w t ≡ t -ℤ pos r = ap (λ (d : ℤ). t -ℤ d) rest in
@@ -85,7 +71,7 @@ no_start_between w t c h is le =
     let n : (n : ℕ) × (0 < n) × (w.slide ≡ pos n) = natural_above w.slide (omega (arith, ints, h)) in
     let slide : w.slide ≡ pos n.0 = n.2 in
     let far : (j : ℕ) × (t -ℤ c ≡ pos j) = natural (t -ℤ c) (omega (arith, ints, le)) in
-    let found = rest_more (c -ℤ w.offset) far.0 n.0 n.1 in
+    let found = rem-add (c -ℤ w.offset) far.0 n.0 n.1 in
     let zero : found.0 ≡ 0 = pos_same _ _ (sym found.2 ∙ ap (λ (d : ℤ). int_rem_euclid (c -ℤ w.offset) d) (sym slide) ∙ eq_from _ _ is) in
     let rest : int_rem_euclid (t -ℤ w.offset) w.slide ≡ pos ((found.0 + far.0) % n.0) =
     (let same = sym (ahead c t w.offset far.0 far.1) in λ i. int_rem_euclid (same i) (slide i)) ∙ found.3 in
@@ -102,7 +88,7 @@ next_start w t c h is lt =
     let n : (n : ℕ) × (0 < n) × (w.slide ≡ pos n) = natural_above w.slide (omega (arith, ints, h)) in
     let slide : w.slide ≡ pos n.0 = n.2 in
     let far : (j : ℕ) × (c -ℤ t ≡ pos j) = natural (c -ℤ t) (omega (arith, ints, lt)) in
-    let found = rest_more (t -ℤ w.offset) far.0 n.0 n.1 in
+    let found = rem-add (t -ℤ w.offset) far.0 n.0 n.1 in
     let rest : int_rem_euclid (t -ℤ w.offset) w.slide ≡ pos found.0 = ap (λ (d : ℤ). int_rem_euclid (t -ℤ w.offset) d) slide ∙ found.2 in
     let last : last_start_by w t ≡ t -ℤ pos found.0 = ap (λ (d : ℤ). t -ℤ d) rest in
     let here : int_rem_euclid (c -ℤ w.offset) (pos n.0) ≡ pos 0 = ap (λ (d : ℤ). int_rem_euclid (c -ℤ w.offset) d) (sym slide) ∙ eq_from _ _ is in
@@ -120,7 +106,7 @@ pub start_again : (w : WindowSpec) (c : ℤ) → pos 1 ≤ℤ w.slide → is_sta
 start_again w c h is =
     let n : (n : ℕ) × (0 < n) × (w.slide ≡ pos n) = natural_above w.slide (omega (arith, ints, h)) in
     let slide : w.slide ≡ pos n.0 = n.2 in
-    let found = rest_more (c -ℤ w.offset) n.0 n.0 n.1 in
+    let found = rem-add (c -ℤ w.offset) n.0 n.0 n.1 in
     let zero : found.0 ≡ 0 = pos_same _ _ (sym found.2 ∙ ap (λ (d : ℤ). int_rem_euclid (c -ℤ w.offset) d) (sym slide) ∙ eq_from _ _ is) in
     let none : (found.0 + n.0) % n.0 ≡ 0 = add-mod_right found.0 n.0 ∙ ap (λ (r : ℕ). r % n.0) zero ∙ zero-mod n.0 in
     eq_to _ _ (ap (λ (z : ℤ). int_rem_euclid z w.slide) (slid c w.offset w.slide) ∙ (λ i. int_rem_euclid ((c -ℤ w.offset) +ℤ slide i) (slide i)) ∙ found.3 ∙ ap pos none)

@@ -1,7 +1,7 @@
 use Rattle.std.proofs.Common.{◌≡◌, drop}
 use Rattle.stream_model.specs.Late.{first_at}
 use Rattle.input_texts.specs.Seen.{SourceSeen}
-use Rattle.input_texts.proofs.NotedTexts.{moved}
+use Rattle.stream_model.proofs.Facts.{moved}
 use Rattle.input_texts.proofs.finding.late_in.Given as goal
 
 abbrev pub invariant-loop-place : goal.invariant-loop-place
