@@ -1,3 +1,2 @@
 mod AsLeg
-mod Named
 mod Plans

@@ -16,7 +16,8 @@ use Rattle.dataflow_model.specs.Runs.{taken, sent, only, onto, given}
 use Rattle.dataflow_model.specs.History.{History, IsComplete}
 use Rattle.dataflow_model.specs.Flow.{Flow, IsDrained}
 use Rattle.dataflow_laws.proofs.Openings.{IsOpenedAs, opened_as}
-use Rattle.dataflow_laws.proofs.Ends.{is_final, ended, Closed, HasEnds, IsIdle, has_ends, stop_number}
+use Rattle.dataflow_laws.proofs.Aligning.{last_of}
+use Rattle.dataflow_laws.proofs.Ends.{is_final, ended, Closed, HasEnds, IsIdle, has_ends}
 use Rattle.dataflow_model.proofs.Facts.{onto_ahead, not_a_source}
 
 -- every history is a flow
@@ -55,7 +56,7 @@ module _ (p : PlanData) (l : AbstractLayout) (ok : IsLayout l) (start : ℕ → 
   ends_of : (t : ℕ) → t ≤ l.sink → HasEnds (l.task t) (h.steps t) (h.end t)
   ends_of t m = has_ends p (l.task t) (start t) (idle_of p (l.task t).role (l.task t) (start t) (opens t m)) (h.run t)
 
-  same_number : (s t : ℕ) → s ≤ l.sink → t ≤ l.sink → stop_number (l.task t) ≡ stop_number (l.task s)
+  same_number : (s t : ℕ) → s ≤ l.sink → t ≤ l.sink → last_of (l.task t) ≡ last_of (l.task s)
   same_number s t ms mt = let a = leg.alike s ms in let b = leg.alike t mt in let a0 = a.0 in let a1 = a.1 in let b0 = b.0 in let b1 = b.1 in omega arith
 
   pub drained : IsDrained (flow_of h)
@@ -71,7 +72,7 @@ module _ (p : PlanData) (l : AbstractLayout) (ok : IsLayout l) (start : ℕ → 
         let same : given (l.out_at s t) (h.steps s) (h.end s) ≡ sent (l.out_at s t) (h.steps s) = ap (λ p. onto (only (l.out_at s t) p) (sent (l.out_at s t) (h.steps s))) (complete s bd.0).1 in
         let e = same ∙ h.rings s t r in
         let took = subst (λ n. ended n (taken (l.in_at s t) (h.steps t)) ≡ true) (same_number s t bd.0 bd.1) (et.over_taken ns (complete t bd.1).0 (l.in_at s t) i.0) in
-        let z = all_taken (stop_number (l.task s)) (given (l.out_at s t) (h.steps s) (h.end s)) (h.holds s t) (taken (l.in_at s t) (h.steps t)) c e took in
+        let z = all_taken (last_of (l.task s)) (given (l.out_at s t) (h.steps s) (h.end s)) (h.holds s t) (taken (l.in_at s t) (h.steps t)) c e took in
         e ∙ ap (λ x. x ++ taken (l.in_at s t) (h.steps t)) z;
     opened = λ t m a. let tb : t ≤ l.sink = (let w = ok.some_windows in omega arith) in ((ends_of t tb).source a (complete t tb).0).0;
   }

@@ -17,7 +17,8 @@ use Rattle.dataflow_model.specs.Runs.Run.{none, more}
 use Rattle.dataflow_model.specs.Opening.{IsOpening}
 use Rattle.dataflow_model.proofs.Facts.{given_put, no_source, not_a_source, all_shut_at}
 use Rattle.dataflow_laws.specs.Kept.{has_barrier, AlignedIsComplete}
-use Rattle.dataflow_laws.proofs.Ends.{ended, Closed, HasEnds, IsIdle, has_ends, not_over, aligned_by, stop_number}
+use Rattle.dataflow_laws.proofs.Aligning.{last_of}
+use Rattle.dataflow_laws.proofs.Ends.{ended, Closed, HasEnds, IsIdle, has_ends, not_over, aligned_by}
 use Rattle.dataflow_laws.proofs.Cuts.{Waits, Marks, Passes, marks_by, marks_barrier, end_now, passed_given, waits_step, waits_fresh, shut_closed}
 use Rattle.dataflow_laws.proofs.Openings.{opened_as}
 use Rattle.dataflow_laws.proofs.Complete.{ended_append, idle_of}
@@ -162,9 +163,9 @@ sent_barrier : (k : AbstractTask) (es : List Event) (s : State) (j n : ℕ) → 
 sent_barrier k es s j n he l came gave = elim (cases_Bool (has_barrier n (sent j es))) [
   | inl d ↦ d
   | inr d ↦
-      (let stop : ended (stop_number k) (sent j es) ≡ true = by_end n (stop_number k) (sent j es) came d in
-      let over : s.over ≡ true = elim (cases_Bool s.over) [ inl o ↦ o | inr g ↦ absurd (false≢true (sym (he.going g j l) ∙ ended_onto (stop_number k) (only j s.pending) (sent j es) stop)) ] in
-      let none_left : only j s.pending ≡ [] = nothing_behind (stop_number k) (only j s.pending) (sent j es) stop (he.closed over j l) in
+      (let stop : ended (last_of k) (sent j es) ≡ true = by_end n (last_of k) (sent j es) came d in
+      let over : s.over ≡ true = elim (cases_Bool s.over) [ inl o ↦ o | inr g ↦ absurd (false≢true (sym (he.going g j l) ∙ ended_onto (last_of k) (only j s.pending) (sent j es) stop)) ] in
+      let none_left : only j s.pending ≡ [] = nothing_behind (last_of k) (only j s.pending) (sent j es) stop (he.closed over j l) in
       sym (ap (λ ms. has_barrier n (onto ms (sent j es))) none_left) ∙ gave)
 ]
 

@@ -28,6 +28,7 @@ use Rattle.dataflow_model.specs.Runs.Run.{none, more}
 use Rattle.dataflow_laws.proofs.Streams.{told}
 use Rattle.dataflow_laws.proofs.Logs.{only_announce, onto_append}
 use Rattle.dataflow_laws.proofs.Reader.{width_of, only_route_of}
+use Rattle.dataflow_laws.proofs.Aligning.{last_of}
 use Rattle.dataflow_model.proofs.Facts.{given_put, given_spread, only_append, free_is, get_free, no_source, released_at, all_shut_at, none_held_at, all_ended_by, stops_last}
 
 -- ---- the last message of a leg
@@ -105,10 +106,6 @@ aligned_by false h e = absurd cc
 
 -- ---- barriers
 
--- the number of the barrier of a stop
-abbrev pub stop_number : AbstractTask → ℕ
-stop_number k = k.first + k.saves
-
 pub last_is : (k : AbstractTask) (n : ℕ) → is_last k n ≡ true → n ≡ k.saves
 last_is k n e = eqb-true n k.saves (and_parts (may_stop k.ending) (eqb n k.saves) e).1
 
@@ -119,10 +116,10 @@ not_last k n l e q =
       | inr m ↦ (let b : barriers k ≡ k.saves + 0 = ap (λ t. k.saves + (if t then 1 else 0)) m in omega arith)
     ]
 
-final_barrier : (k : AbstractTask) (n : ℕ) → n ≡ k.saves → is_final (stop_number k) (Barrier (k.first + n)) ≡ true
+final_barrier : (k : AbstractTask) (n : ℕ) → n ≡ k.saves → is_final (last_of k) (Barrier (k.first + n)) ≡ true
 final_barrier k n e = eq-eqb (k.first + n) (k.first + k.saves) (ap (λ x. k.first + x) e)
 
-other_barrier : (k : AbstractTask) (n : ℕ) → (n ≡ k.saves → ⊥) → is_final (stop_number k) (Barrier (k.first + n)) ≡ false
+other_barrier : (k : AbstractTask) (n : ℕ) → (n ≡ k.saves → ⊥) → is_final (last_of k) (Barrier (k.first + n)) ≡ false
 other_barrier k n ne = ne_eqb (k.first + n) (k.first + k.saves) (λ e. ne (omega (arith, e)))
 
 -- ---- a task's logs up to the last message
@@ -132,11 +129,11 @@ pub record HasEnds (k : AbstractTask) (es : List Event) (s : State) : Type 0 whe
   pub shut_length : is_source k.role ≡ false → length s.inputs.shut ≡ k.inputs
   pub over_shut : is_source k.role ≡ false → s.over ≡ true → all_shut s.inputs.shut ≡ true
   -- where the barrier that holds an input is that of a stop, it was the last one there
-  pub held : is_source k.role ≡ false → s.over ≡ false → (i : ℕ) → i < k.inputs → shut_at s.inputs.shut i ≡ Held → (s.next < barriers k) × (s.next ≡ k.saves → ended (stop_number k) (taken i es) ≡ true)
-  pub shut : is_source k.role ≡ false → (i : ℕ) → i < k.inputs → shut_at s.inputs.shut i ≡ Ended → ended (stop_number k) (taken i es) ≡ true
-  pub over_taken : is_source k.role ≡ false → s.over ≡ true → (i : ℕ) → i < k.inputs → ended (stop_number k) (taken i es) ≡ true
-  pub going : s.over ≡ false → (j : ℕ) → j < k.outputs → ended (stop_number k) (given j es s) ≡ false
-  pub closed : s.over ≡ true → (j : ℕ) → j < k.outputs → Closed (stop_number k) (given j es s)
+  pub held : is_source k.role ≡ false → s.over ≡ false → (i : ℕ) → i < k.inputs → shut_at s.inputs.shut i ≡ Held → (s.next < barriers k) × (s.next ≡ k.saves → ended (last_of k) (taken i es) ≡ true)
+  pub shut : is_source k.role ≡ false → (i : ℕ) → i < k.inputs → shut_at s.inputs.shut i ≡ Ended → ended (last_of k) (taken i es) ≡ true
+  pub over_taken : is_source k.role ≡ false → s.over ≡ true → (i : ℕ) → i < k.inputs → ended (last_of k) (taken i es) ≡ true
+  pub going : s.over ≡ false → (j : ℕ) → j < k.outputs → ended (last_of k) (given j es s) ≡ false
+  pub closed : s.over ≡ true → (j : ℕ) → j < k.outputs → Closed (last_of k) (given j es s)
   pub source : k.role ≡ Source → s.over ≡ true → (s.opened ≡ true) × ((k.ending ≡ Asked → ⊥) → (q : ℕ) → q < k.inputs → get_or s.offsets q 0 ≡ k.limit k.saves q)
 
 -- a task that takes is not over
@@ -149,7 +146,7 @@ not_over k es s i ns f r =
 
 -- a step that gives and takes no last message, of a task that is not over
 ends_same : (k : AbstractTask) (es : List Event) (s : State) (e : Event) (s' : State) → s.over ≡ false → s'.over ≡ s.over → s'.inputs.shut ≡ s.inputs.shut → s'.next ≡ s.next
-    → ((i : ℕ) → ended (stop_number k) (taken i (e ∷ es)) ≡ ended (stop_number k) (taken i es)) → ((j : ℕ) → j < k.outputs → ended (stop_number k) (given j (e ∷ es) s') ≡ ended (stop_number k) (given j es s)) → HasEnds k es s → HasEnds k (e ∷ es) s'
+    → ((i : ℕ) → ended (last_of k) (taken i (e ∷ es)) ≡ ended (last_of k) (taken i es)) → ((j : ℕ) → j < k.outputs → ended (last_of k) (given j (e ∷ es) s') ≡ ended (last_of k) (given j es s)) → HasEnds k es s → HasEnds k (e ∷ es) s'
 ends_same k es s e s' ov oe se ne te ge r =
     record {
       shut_length = λ ns. ap length se ∙ r.shut_length ns;
@@ -165,8 +162,8 @@ ends_same k es s e s' ov oe se ne te ge r =
 -- an input that is shut by the message that comes on it
 pub record IsShutBy (k : AbstractTask) (es : List Event) (s : State) (i : ℕ) (m : Message) (shut : List Shut) : Type 0 where
   pub long : length shut ≡ k.inputs
-  pub held : (x : ℕ) → x < k.inputs → shut_at shut x ≡ Held → (s.next < barriers k) × (s.next ≡ k.saves → ended (stop_number k) (taken x (Take i m ∷ es)) ≡ true)
-  pub ends : (x : ℕ) → x < k.inputs → shut_at shut x ≡ Ended → ended (stop_number k) (taken x (Take i m ∷ es)) ≡ true
+  pub held : (x : ℕ) → x < k.inputs → shut_at shut x ≡ Held → (s.next < barriers k) × (s.next ≡ k.saves → ended (last_of k) (taken x (Take i m ∷ es)) ≡ true)
+  pub ends : (x : ℕ) → x < k.inputs → shut_at shut x ≡ Ended → ended (last_of k) (taken x (Take i m ∷ es)) ≡ true
 
 shut_by_barrier : (k : AbstractTask) (es : List Event) (s : State) (i n : ℕ) → is_source k.role ≡ false → s.over ≡ false → i < k.inputs → n ≡ k.first + s.next → s.next < barriers k → HasEnds k es s → IsShutBy k es s i (Barrier n) (set s.inputs.shut i Held)
 shut_by_barrier k es s i n ns ov l en few r =
@@ -175,12 +172,12 @@ shut_by_barrier k es s i n ns ov l en few r =
     record {
       long = length-set old i Held ∙ r.shut_length ns;
       held = λ x xl h. elim (cases_eq x i) [
-        | inl e ↦ (few, λ q. ended_now (stop_number k) x i (Barrier n) (taken x es) e (ap (λ y. is_final (stop_number k) (Barrier y)) en ∙ final_barrier k s.next q))
-        | inr ne ↦ (let a = r.held ns ov x xl (sym (get_or-set_other old i x Held Ended ne) ∙ h) in (few, λ q. ended_more (stop_number k) x i (Barrier n) (taken x es) (a.1 q)))
+        | inl e ↦ (few, λ q. ended_now (last_of k) x i (Barrier n) (taken x es) e (ap (λ y. is_final (last_of k) (Barrier y)) en ∙ final_barrier k s.next q))
+        | inr ne ↦ (let a = r.held ns ov x xl (sym (get_or-set_other old i x Held Ended ne) ∙ h) in (few, λ q. ended_more (last_of k) x i (Barrier n) (taken x es) (a.1 q)))
       ];
       ends = λ x xl h. elim (cases_eq x i) [
         | inl e ↦ absurd (let y : Held ≡ Ended = sym (get_or-set_same old i Held Ended il) ∙ ap (shut_at (set old i Held)) (sym e) ∙ h in cc)
-        | inr ne ↦ ended_more (stop_number k) x i (Barrier n) (taken x es) (r.shut ns x xl (sym (get_or-set_other old i x Held Ended ne) ∙ h))
+        | inr ne ↦ ended_more (last_of k) x i (Barrier n) (taken x es) (r.shut ns x xl (sym (get_or-set_other old i x Held Ended ne) ∙ h))
       ];
     }
 
@@ -192,11 +189,11 @@ shut_by_end k es s i ns ov l r =
       long = length-set old i Ended ∙ r.shut_length ns;
       held = λ x xl h. elim (cases_eq x i) [
         | inl e ↦ absurd (let y : Ended ≡ Held = sym (get_or-set_same old i Ended Ended il) ∙ ap (shut_at (set old i Ended)) (sym e) ∙ h in cc)
-        | inr ne ↦ (let a = r.held ns ov x xl (sym (get_or-set_other old i x Ended Ended ne) ∙ h) in (a.0, λ q. ended_more (stop_number k) x i End (taken x es) (a.1 q)))
+        | inr ne ↦ (let a = r.held ns ov x xl (sym (get_or-set_other old i x Ended Ended ne) ∙ h) in (a.0, λ q. ended_more (last_of k) x i End (taken x es) (a.1 q)))
       ];
       ends = λ x xl h. elim (cases_eq x i) [
-        | inl e ↦ ended_now (stop_number k) x i End (taken x es) e refl
-        | inr ne ↦ ended_more (stop_number k) x i End (taken x es) (r.shut ns x xl (sym (get_or-set_other old i x Ended Ended ne) ∙ h))
+        | inl e ↦ ended_now (last_of k) x i End (taken x es) e refl
+        | inr ne ↦ ended_more (last_of k) x i End (taken x es) (r.shut ns x xl (sym (get_or-set_other old i x Ended Ended ne) ∙ h))
       ];
     }
 
@@ -228,7 +225,7 @@ ends_past k es s i m shut ns ov idle by al r =
       | inl e ↦
           (let here = last_is k s.next e in
           let shut_is : new.inputs.shut ≡ shut = ap (λ t. if t then shut else released shut) e in
-          let all : (x : ℕ) → x < k.inputs → ended (stop_number k) (taken x (Take i m ∷ es)) ≡ true = λ x l. elim (shut_cases (shut_at shut x)) [
+          let all : (x : ℕ) → x < k.inputs → ended (last_of k) (taken x (Take i m ∷ es)) ≡ true = λ x l. elim (shut_cases (shut_at shut x)) [
             | inl c ↦ elim c [ inl f ↦ absurd (all_shut_at shut x both.0 f) | inr h ↦ (by.held x l h).1 here ]
             | inr d ↦ by.ends x l d
           ] in
@@ -250,7 +247,7 @@ ends_past k es s i m shut ns ov idle by al r =
             held = λ n o x l h. absurd (let_go_held (shut_at shut x) (sym (released_at shut x) ∙ ap (λ y. shut_at y x) (sym shut_is) ∙ h));
             shut = λ n x l h. by.ends x l (let_go_ended (shut_at shut x) (sym (released_at shut x) ∙ ap (λ y. shut_at y x) (sym shut_is) ∙ h));
             over_taken = λ n o. absurd (false≢true (sym e ∙ o));
-            going = λ o j l. ap (ended (stop_number k)) (same j l) ∙ (let z = other_barrier k s.next (not_last k s.next few e) in ap (λ t. cond t true (ended (stop_number k) (given j es s))) z ∙ r.going ov j l);
+            going = λ o j l. ap (ended (last_of k)) (same j l) ∙ (let z = other_barrier k s.next (not_last k s.next few e) in ap (λ t. cond t true (ended (last_of k) (given j es s))) z ∙ r.going ov j l);
             closed = λ o. absurd (false≢true (sym e ∙ o));
             source = λ a o. absurd (no_source k ns a);
           })
@@ -263,7 +260,7 @@ ends_over k es s i m shut ns ov idle by al r =
     let both = all_ended_by (all_shut shut) (any_held shut) al in
     let new : State = record s { inputs = inputs_from s.inputs.marks shut; over = true; pending = to_all k.outputs End } in
     let same : (j : ℕ) → j < k.outputs → given j (Take i m ∷ es) new ≡ End ∷ given j es s = λ j q. given_spread k.outputs (λ j. End ∷ []) j (sent j es) s.pending idle q in
-    let all : (x : ℕ) → x < k.inputs → ended (stop_number k) (taken x (Take i m ∷ es)) ≡ true = λ x l. elim (shut_cases (shut_at shut x)) [
+    let all : (x : ℕ) → x < k.inputs → ended (last_of k) (taken x (Take i m ∷ es)) ≡ true = λ x l. elim (shut_cases (shut_at shut x)) [
       | inl c ↦ elim c [ inl f ↦ absurd (all_shut_at shut x both.0 f) | inr h ↦ absurd (none_held_at shut x both.1 h) ]
       | inr d ↦ by.ends x l d
     ] in
@@ -279,7 +276,7 @@ ends_over k es s i m shut ns ov idle by al r =
     }
 
 -- a source that stops or closes
-ends_source : (k : AbstractTask) (es : List Event) (s : State) (e : Event) (next : ℕ) (m : Message) → k.role ≡ Source → ((j : ℕ) → sent j (e ∷ es) ≡ sent j es) → s.pending ≡ [] → s.opened ≡ true → s.over ≡ false → ((k.ending ≡ Asked → ⊥) → (q : ℕ) → q < k.inputs → get_or s.offsets q 0 ≡ k.limit k.saves q) → is_final (stop_number k) m ≡ true → HasEnds k es s
+ends_source : (k : AbstractTask) (es : List Event) (s : State) (e : Event) (next : ℕ) (m : Message) → k.role ≡ Source → ((j : ℕ) → sent j (e ∷ es) ≡ sent j es) → s.pending ≡ [] → s.opened ≡ true → s.over ≡ false → ((k.ending ≡ Asked → ⊥) → (q : ℕ) → q < k.inputs → get_or s.offsets q 0 ≡ k.limit k.saves q) → is_final (last_of k) m ≡ true → HasEnds k es s
     → HasEnds k (e ∷ es) (record s { over = true; next = next; pending = to_all k.outputs m })
 ends_source k es s e next m a un idle op ov at il r =
     let new : State = record s { over = true; next = next; pending = to_all k.outputs m } in
@@ -308,7 +305,7 @@ ends_save k es s keep a idle ov few r =
       held = λ n. absurd (no_source k n a);
       shut = λ n. absurd (no_source k n a);
       over_taken = λ n. absurd (no_source k n a);
-      going = λ o j l. ap (ended (stop_number k)) (same j l) ∙ (let z = other_barrier k s.next (λ q. absurd (omega arith)) in ap (λ t. cond t true (ended (stop_number k) (given j es s))) z ∙ r.going ov j l);
+      going = λ o j l. ap (ended (last_of k)) (same j l) ∙ (let z = other_barrier k s.next (λ q. absurd (omega arith)) in ap (λ t. cond t true (ended (last_of k) (given j es s))) z ∙ r.going ov j l);
       closed = λ o. absurd (false≢true (sym ov ∙ o));
       source = λ a o. absurd (false≢true (sym ov ∙ o));
     }
@@ -349,36 +346,36 @@ ends_step p k es s e s' (put {j = i} {m = m} {rest = rest} is) r =
       held = r.held;
       shut = r.shut;
       over_taken = r.over_taken;
-      going = λ o j q. ap (ended (stop_number k)) (same j) ∙ r.going o j q;
-      closed = λ o j q. subst (Closed (stop_number k)) (sym (same j)) (r.closed o j q);
+      going = λ o j q. ap (ended (last_of k)) (same j) ∙ r.going o j q;
+      closed = λ o j q. subst (Closed (last_of k)) (sym (same j)) (r.closed o j q);
       source = r.source;
     }
 ends_step p k es s e s' (opens can) r =
     let ov : s.over ≡ false = elim (cases_Bool s.over) [ inr x ↦ x | inl x ↦ absurd (false≢true (sym can.shut ∙ (r.source can.source x).0)) ] in
-    ends_same k es s Open s' ov refl refl refl (λ i. refl) (λ j l. told_ended (stop_number k) k (risen lowest (least s.inputs.marks)) (sent j es) s.pending j can.idle l) r
+    ends_same k es s Open s' ov refl refl refl (λ i. refl) (λ j l. told_ended (last_of k) k (risen lowest (least s.inputs.marks)) (sent j es) s.pending j can.idle l) r
 ends_step p k es s e s' (reads {n = n} {q = q} own) r =
     let m : Message = k.entry q (get_or s.offsets q 0) in
     ends_same k es s (Read n) s' own.can.can.going refl refl refl (λ i. refl)
-    (λ j l. both_ended (stop_number k) k (route_of p.window.key k s.cursor m) (rise s.inputs.marks q (k.brings q (get_or s.offsets q 0))) (sent j es) s.pending j own.can.can.idle l
-    (ap (ended (stop_number k)) (only_route_of p.window.key k s.cursor m j (sent j es) l) ∙ ended_batch (stop_number k) (width_of m) (part p.window.key k.routing s.cursor (filter k.keeps (records_of m)) j) (sent j es))) r
+    (λ j l. both_ended (last_of k) k (route_of p.window.key k s.cursor m) (rise s.inputs.marks q (k.brings q (get_or s.offsets q 0))) (sent j es) s.pending j own.can.can.idle l
+    (ap (ended (last_of k)) (only_route_of p.window.key k s.cursor m j (sent j es) l) ∙ ended_batch (last_of k) (width_of m) (part p.window.key k.routing s.cursor (filter k.keeps (records_of m)) j) (sent j es))) r
 ends_step p k es s e s' (saves can may) r = ends_save k es s _ can.source can.idle can.going may.0 r
 ends_step p k es s e s' (stops can may) r = ends_source k es s Stop _ (Barrier (k.first + s.next)) can.source (λ j. refl) can.idle can.opened can.going (stops_at k.ending k s may) (final_barrier k s.next (stops_last k.ending k s may)) r
 ends_step p k es s e s' (closes can may) r = ends_source k es s Close _ End can.source (λ j. refl) can.idle can.opened can.going (λ ask. closes_at k.ending k s may) refl r
 ends_step p k es s e s' (chain_rows {i = i} {t = t} a takes) r =
-    ends_same k es s (Take i (Rows t)) s' (not_over k es s i takes.can.taker takes.can.free r) refl refl refl (λ x. ended_taken (stop_number k) x i (Rows t) (taken x es) refl)
-    (given_ended (stop_number k) k (λ j. batch t.width (part p.window.key k.routing s.cursor (filter k.keeps t.rows) j)) (λ j. sent j es) s.pending takes.can.idle (λ j x. ended_batch (stop_number k) t.width (part p.window.key k.routing s.cursor (filter k.keeps t.rows) j) x)) r
+    ends_same k es s (Take i (Rows t)) s' (not_over k es s i takes.can.taker takes.can.free r) refl refl refl (λ x. ended_taken (last_of k) x i (Rows t) (taken x es) refl)
+    (given_ended (last_of k) k (λ j. batch t.width (part p.window.key k.routing s.cursor (filter k.keeps t.rows) j)) (λ j. sent j es) s.pending takes.can.idle (λ j x. ended_batch (last_of k) t.width (part p.window.key k.routing s.cursor (filter k.keeps t.rows) j) x)) r
 ends_step p k es s e s' (chain_mark {i = i} {t = t} a takes) r =
-    ends_same k es s (Take i (Watermark t)) s' (not_over k es s i takes.can.taker takes.can.free r) refl refl refl (λ x. ended_taken (stop_number k) x i (Watermark t) (taken x es) refl)
-    (λ j l. told_ended (stop_number k) k (rise s.inputs.marks i t) (sent j es) s.pending j takes.can.idle l) r
+    ends_same k es s (Take i (Watermark t)) s' (not_over k es s i takes.can.taker takes.can.free r) refl refl refl (λ x. ended_taken (last_of k) x i (Watermark t) (taken x es) refl)
+    (λ j l. told_ended (last_of k) k (rise s.inputs.marks i t) (sent j es) s.pending j takes.can.idle l) r
 ends_step p k es s e s' (window_rows {i = i} {t = t} a takes added) r =
-    ends_same k es s (Take i (Rows t)) s' (not_over k es s i takes.can.taker takes.can.free r) refl refl refl (λ x. ended_taken (stop_number k) x i (Rows t) (taken x es) refl) (λ j l. refl) r
+    ends_same k es s (Take i (Rows t)) s' (not_over k es s i takes.can.taker takes.can.free r) refl refl refl (λ x. ended_taken (last_of k) x i (Rows t) (taken x es) refl) (λ j l. refl) r
 ends_step p k es s e s' (window_mark {i = i} {t = t} rows a takes fires) r =
-    ends_same k es s (Take i (Watermark t)) s' (not_over k es s i takes.can.taker takes.can.free r) refl refl refl (λ x. ended_taken (stop_number k) x i (Watermark t) (taken x es) refl)
-    (λ j l. both_ended (stop_number k) k (fired rows) (rise s.inputs.marks i t) (sent j es) s.pending j takes.can.idle l (ended_fired (stop_number k) j rows (sent j es))) r
+    ends_same k es s (Take i (Watermark t)) s' (not_over k es s i takes.can.taker takes.can.free r) refl refl refl (λ x. ended_taken (last_of k) x i (Watermark t) (taken x es) refl)
+    (λ j l. both_ended (last_of k) k (fired rows) (rise s.inputs.marks i t) (sent j es) s.pending j takes.can.idle l (ended_fired (last_of k) j rows (sent j es))) r
 ends_step p k es s e s' (sink_rows {i = i} {rows = rows} a takes) r =
-    ends_same k es s (Take i (Fired rows)) s' (not_over k es s i takes.can.taker takes.can.free r) refl refl refl (λ x. ended_taken (stop_number k) x i (Fired rows) (taken x es) refl) (λ j l. refl) r
+    ends_same k es s (Take i (Fired rows)) s' (not_over k es s i takes.can.taker takes.can.free r) refl refl refl (λ x. ended_taken (last_of k) x i (Fired rows) (taken x es) refl) (λ j l. refl) r
 ends_step p k es s e s' (sink_mark {i = i} {t = t} a takes) r =
-    ends_same k es s (Take i (Watermark t)) s' (not_over k es s i takes.can.taker takes.can.free r) refl refl refl (λ x. ended_taken (stop_number k) x i (Watermark t) (taken x es) refl) (λ j l. refl) r
+    ends_same k es s (Take i (Watermark t)) s' (not_over k es s i takes.can.taker takes.can.free r) refl refl refl (λ x. ended_taken (last_of k) x i (Watermark t) (taken x es) refl) (λ j l. refl) r
 ends_step p k es s e s' (holds {i = i} {n = n} takes is) r =
     let ov = not_over k es s i takes.can.taker takes.can.free r in
     ends_wait k es s i (Barrier n) (set s.inputs.shut i Held) takes.can.taker ov (shut_by_barrier k es s i n takes.can.taker ov takes.can.input takes.admitted.0 takes.admitted.1 r) r
@@ -410,7 +407,7 @@ ends_fresh k s f =
       held = λ ns o i l h. absurd (let e : Free ≡ Held = sym (free i l) ∙ h in cc);
       shut = λ ns i l h. absurd (let e : Free ≡ Ended = sym (free i l) ∙ h in cc);
       over_taken = λ ns o. absurd (false≢true (sym f.over ∙ o));
-      going = λ o j q. ap (λ p. ended (stop_number k) (onto (only j p) [])) f.pending;
+      going = λ o j q. ap (λ p. ended (last_of k) (onto (only j p) [])) f.pending;
       closed = λ o. absurd (false≢true (sym f.over ∙ o));
       source = λ a o. absurd (false≢true (sym f.over ∙ o));
     }

@@ -26,7 +26,8 @@ use Rattle.dataflow_model.specs.History.{History, IsComplete}
 use Rattle.dataflow_model.proofs.Facts.{get_free, no_source, not_a_source, source_yes, released_at, all_shut_at, none_held_at, all_ended_by, stops_last}
 use Rattle.dataflow_laws.specs.Kept.{has_barrier}
 use Rattle.dataflow_laws.specs.Stopped.{HaveClosed, SinkTellsStops, StoppedIsComplete}
-use Rattle.dataflow_laws.proofs.Ends.{is_final, ended, Closed, HasEnds, IsIdle, has_ends, not_over, shut_by_end, held_somewhere, shut_cases, let_go_ended, aligned_by, last_is, not_last, closes_at, stop_number}
+use Rattle.dataflow_laws.proofs.Aligning.{last_of}
+use Rattle.dataflow_laws.proofs.Ends.{is_final, ended, Closed, HasEnds, IsIdle, has_ends, not_over, shut_by_end, held_somewhere, shut_cases, let_go_ended, aligned_by, last_is, not_last, closes_at}
 use Rattle.dataflow_laws.proofs.Openings.{opened_as}
 use Rattle.dataflow_laws.proofs.Admission.{outs_of}
 use Rattle.dataflow_laws.proofs.Complete.{ended_append, idle_of, ring_bound}
@@ -298,7 +299,7 @@ module _ (p : PlanData) (l : AbstractLayout) (start : ℕ → State) (ok : IsLay
         let o = (ok.ring_out s t r).0 in
         elim (cases_lt (l.task s).saves (h.end s).next) [
           | inr q ↦ q
-          | inl q ↦ absurd (closed_once (stop_number (l.task s)) (given j (h.steps s) (h.end s)) ((ends_at s bd.0).closed (complete s bd.0).0 j o) ((meets_at s bd.0).gave (l.task s).saves q j o) gave)
+          | inl q ↦ absurd (closed_once (last_of (l.task s)) (given j (h.steps s) (h.end s)) ((ends_at s bd.0).closed (complete s bd.0).0 j o) ((meets_at s bd.0).gave (l.task s).saves q j o) gave)
         ]
 
     -- where the sink has not passed it, no task has
@@ -350,6 +351,6 @@ stopped_is_complete p l start ok leg input h aligned t m =
     let put_there = (aligned_is_complete p l start (l.task l.sink).saves ok leg h aligned).put t in (
       over,
       none_pending k.outputs s.pending within (λ j jl.
-          let gone : has_barrier (stop_number k) (sent j (h.steps t)) ≡ true = subst (λ n. has_barrier (k.first + n) (sent j (h.steps t)) ≡ true) (sym same) (put_there j m jl) in
-          nothing_behind (stop_number k) (only j s.pending) (sent j (h.steps t)) (barrier_ended (stop_number k) (sent j (h.steps t)) gone) ((ends_at p l start ok leg h t m).closed over j jl)),
+          let gone : has_barrier (last_of k) (sent j (h.steps t)) ≡ true = subst (λ n. has_barrier (k.first + n) (sent j (h.steps t)) ≡ true) (sym same) (put_there j m jl) in
+          nothing_behind (last_of k) (only j s.pending) (sent j (h.steps t)) (barrier_ended (last_of k) (sent j (h.steps t)) gone) ((ends_at p l start ok leg h t m).closed over j jl)),
     )

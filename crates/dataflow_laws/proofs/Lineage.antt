@@ -31,6 +31,7 @@ use Rattle.dataflow_laws.proofs.Openings.{begun}
 use Rattle.dataflow_laws.proofs.Complete.{flow_of, drained}
 use Rattle.dataflow_laws.proofs.Dealing.{IsSame, same_up_to, merged_of, orderly_of}
 use Rattle.dataflow_laws.proofs.Exact.{leg_is_exact}
+use Rattle.dataflow_laws.proofs.Admission.{source_before}
 
 -- a layout that deals the input, and a cut of its tasks that is a cut of the input
 module _ (p : PlanData) (i : AbstractInput) (o : IsOrderlyInput p i) (leg : Leg) (l : AbstractLayout) (d : Deals i leg l) where
@@ -173,16 +174,6 @@ opening_of p Source k s o marked none = record {
 opening_of p Chain k s o marked none = o
 opening_of p Window k s o marked none = (o.0, o.1, λ q d. ap (λ x. get x.windows q) (sym o.1) ∙ none refl q d)
 opening_of p Sink k s o marked none = o
-
-source_before : (l : AbstractLayout) → IsLayout l → (t : ℕ) → t ≤ l.sink → (l.task t).role ≡ Source → t < l.before
-source_before l ok t le a =
-    elim (cases_lt t l.before) [
-      | inl b ↦ b
-      | inr b ↦ elim (cases_lt t l.sink) [
-        | inl c ↦ absurd (let r = ok.roles_window t b c in cc)
-        | inr c ↦ absurd (let e : t ≡ l.sink = omega arith in let r : (l.task t).role ≡ Sink = ap (λ x. (l.task x).role) e ∙ ok.role_sink in cc)
-      ]
-    ]
 
 window_between : (l : AbstractLayout) → IsLayout l → (t : ℕ) → t ≤ l.sink → (l.task t).role ≡ Window → (l.before ≤ t) × (t < l.sink)
 window_between l ok t le a =

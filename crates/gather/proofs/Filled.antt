@@ -2,7 +2,7 @@
 use Rattle.std.proofs.Common.{◌≡◌, ℕ, zero, suc, ◌+◌, ◌<◌, ℤ, Bool, true, false, cond, eqb, List, [], ◌∷◌, ◌++◌, length, map, get_or, set, replicate, take, refl, sym, ap, subst, ◌∙◌, append_assoc, arith, inl, inr}
 use Rattle.std.specs.Prelude.{OnOk, Result, Ok, Err}
 use Rattle.std.specs.List.{All, filter, flat_map, fold, range_with_len}
-use Rattle.std.proofs.lemmas.Bool.{cases_eq}
+use Rattle.std.proofs.lemmas.Bool.{cases_eq, eq-eqb}
 use Rattle.std.proofs.lemmas.List.{append-nil, map-append, get_or-set_same, get_or-set_other, length-set, get_or-replicate, length-replicate, get_or_append_left, get_or-append-add, length-append, take_more, flat_map_more}
 use Rattle.std.proofs.lemmas.List.FromFn.{fill_by_all, get_or-map-range_with_len, length-map-range_with_len}
 use Rattle.std.proofs.lemmas.List.Elements.{All-set, filter-append}
@@ -56,9 +56,6 @@ bucket_more max width seen x g =
       | false ↦ ap made (append-nil (map entry_of (filter p seen)))
     ]
 
-eqb_same : (n : ℕ) → eqb n n ≡ true
-eqb_same n = grind arith
-
 eqb_other : (n m : ℕ) → (m ≡ n → ⊥) → eqb n m ≡ false
 eqb_other n m ne = grind arith
 
@@ -76,7 +73,7 @@ pushed max width seen x lt =
           subst (λ j. get_or new j none ≡ bucket max width (seen ++ x ∷ []) j) (sym same)
           (get_or-set_same old g _ none (omega arith)
           ∙ ap (λ b. with_entry b (entry_of x)) (at g lt)
-          ∙ sym (bucket_more max width seen x g ∙ ap (λ b. cond b (with_entry (bucket max width seen g) (entry_of x)) (bucket max width seen g)) (eqb_same g)))
+          ∙ sym (bucket_more max width seen x g ∙ ap (λ b. cond b (with_entry (bucket max width seen g) (entry_of x)) (bucket max width seen g)) (eq-eqb g g refl)))
       | inr other ↦
           get_or-set_other old g k _ none other
           ∙ at k l

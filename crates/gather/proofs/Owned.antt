@@ -15,7 +15,6 @@ use Rattle.plan_model.specs.declared.limits.TheConstants.{MOST_RECORDS}
 use Rattle.dataflow_model.specs.declared.role.Role.TheVariants as role
 use Rattle.dataflow_model.specs.Role.{is_window}
 use Rattle.dataflow_model.specs.AbstractLayout.{AbstractLayout, IsLayout}
-use Rattle.dataflow_model.specs.Leg.{Leg, ToEnd, leg_of}
 use Rattle.layout_rules.specs.Below.{sum_below, row_of}
 use Rattle.layout_rules.specs.declared.stage.Stage.{Stage}
 use Rattle.layout_rules.specs.Rules.{window_of, stages_of}
@@ -29,7 +28,7 @@ use Rattle.aggregates.specs.Kinds.{kind_of}
 use Rattle.window_state.specs.declared.parts.Part.{Part}
 use Rattle.redistribute.specs.declared.task_start.TaskStart.{TaskStart}
 use Rattle.redistribute.specs.declared.task_start.TaskStart.TheVariants.{Source, Chain, Window, Sink}
-use Rattle.redistribute.proofs.Facts.{last_row, nothing}
+use Rattle.redistribute.proofs.Facts.{last_row, nothing, no_leg}
 use Rattle.gather.specs.Saved.{is_in_group}
 use Rattle.gather.specs.Parts.{panes_in, part_at, panes_in_group, ArePanes, IsPartOf, AreParts}
 
@@ -43,14 +42,11 @@ module _ (owners : OwnersHaveRanges) (p : PlanData) (c : ScaleData) (ip : IsPlan
   abbrev W : ℕ
   W = window_of S
 
-  abbrev leg : Leg
-  leg = leg_of 0 [] ToEnd nothing.size
-
   abbrev L : AbstractLayout
-  L = abstract_layout p nothing leg S W
+  L = abstract_layout p nothing no_leg S W
 
   known : IsLayout L
-  known = (compiled_is_layout p c nothing leg S ip sc (compiled_ever p c)).0
+  known = (compiled_is_layout p c nothing no_leg S ip sc (compiled_ever p c)).0
 
   -- the window's stage, and the sink's behind it
   long : length S ≡ suc (suc W)

@@ -1,5 +1,5 @@
 -- What is gathered has a spelling.
-use Rattle.std.proofs.Common.{◌≡◌, ℕ, zero, suc, ◌+◌, ◌*◌, ◌^◌, ◌<◌, ◌≤◌, ℤ, pos, negsuc, Bool, true, false, cond, eqb, not, ◌&&◌, ◌||◌, List, [], ◌∷◌, ◌++◌, length, map, get_or, Option, Some, None, refl, sym, ap, subst, ◌∙◌, append_assoc, arith}
+use Rattle.std.proofs.Common.{◌≡◌, ℕ, zero, suc, ◌+◌, ◌*◌, ◌^◌, ◌<◌, ◌≤◌, ℤ, pos, negsuc, Bool, true, false, cond, not, ◌&&◌, ◌||◌, List, [], ◌∷◌, ◌++◌, length, map, get_or, Option, Some, None, refl, sym, ap, subst, ◌∙◌, append_assoc, arith}
 use Rattle.std.specs.Prelude.{T, position, bytes_eq, slice_index_or}
 use Rattle.std.specs.Option.{option_map, option_map_or}
 use Rattle.std.specs.List.{All, AllByRecursion, flat_map, list_any, range_with_len, position_or_len}
@@ -81,7 +81,7 @@ position_in t fs bs h =
     let lt = first_in t fs bs h in
     ap (λ b. cond b (Some n) None) (lt-ltb n (length (fs ++ bs)) (omega (arith, lt, length-append fs bs)))
 
-abbrev no_source : SourceSpec
+abbrev pub no_source : SourceSpec
 no_source = record { uid = []; partitions = 0; bound = None }
 
 pub under_fits : (p : PlanData) (sources : List (List SavedPartition)) (uid : List ℕ) → IsPlan p → map (λ ps. length ps) sources ≡ partition_counts p → All AreTyped sources → list_any (bytes_eq uid) (map (λ s. s.uid) p.sources) ≡ true
@@ -267,14 +267,11 @@ after_number (Some g) n h = lt-ltb g.group n h
 abbrev pub AreGood : List Kind → List EntryData → Type 0
 AreGood kinds es = (length es < 2 ^ 64) × Links (entry_after kinds) None es
 
-pub same_eqb : (n : ℕ) → eqb n n ≡ true
-same_eqb n = eq-eqb n n refl
-
 one_group : (max : ℕ) (kinds : List Kind) (n : ℕ) (last : Option SavedGroup) (e : EntryData) (es : List EntryData) → AfterGroup last n → n < max → max ≤ MOST_GROUPS → AreGood kinds (e ∷ es)
     → (group_after max kinds last).fits (record { group = n; entries = record { width = length kinds; entries = e ∷ es } }) ≡ true
 unfolding group_field group_number entries_field u16_field u64_field
 one_group max kinds n last e es a lt few good =
-    and_true _ _ (same_eqb (length kinds))
+    and_true _ _ (eq-eqb (length kinds) (length kinds) refl)
     (and_true _ _ (and_true _ _ (and_true _ _ (lt-ltb n 65536 (omega (arith, few, lt))) (lt-ltb n max lt)) (after_number last n a))
     (counted_fits _ (entry_after kinds) (e ∷ es) (and_true _ _ (lt-ltb (suc (length es)) (2 ^ 64) good.0) (lt-ltb 0 (suc (length es)) (omega arith))) good.1))
 

@@ -1,12 +1,12 @@
 -- What is gathered is a savepoint.
-use Rattle.std.proofs.Common.{◌≡◌, ℕ, ◌<◌, ◌≤◌, ◌^◌, true, List, [], ◌∷◌, ◌++◌, length, map, get_or, sym, subst, ◌∙◌, arith}
+use Rattle.std.proofs.Common.{◌≡◌, ℕ, ◌<◌, ◌≤◌, ◌^◌, true, List, [], ◌∷◌, ◌++◌, length, map, get_or, refl, sym, subst, ◌∙◌, arith}
 use Rattle.std.specs.Prelude.{slice_index}
 use Rattle.std.specs.List.{All, filter, flat_map, range_with_len}
 use Rattle.std.specs.List.Sorted.{IsStrictlySortedBy}
 use Rattle.std.specs.Ordering.{nat_cmp}
 use Rattle.std.specs.Cmp.Lexicographic.{slice_cmp}
 use Rattle.std.specs.FinMap.{FinMap}
-use Rattle.std.proofs.lemmas.Bool.{lt-ltb, le-leb}
+use Rattle.std.proofs.lemmas.Bool.{lt-ltb, le-leb, eq-eqb}
 use Rattle.std.proofs.lemmas.List.{length-map}
 use Rattle.std.proofs.lemmas.List.Elements.{All-filter, All-map}
 use Rattle.std.proofs.lemmas.List.FromFn.{fill_by_all, length-map-range_with_len}
@@ -40,7 +40,7 @@ use Rattle.gather.proofs.Filled.{All-first, All-second}
 use Rattle.plan_record.proofs.Facts.{length-ascending}
 use Rattle.gather.proofs.Owned.{all_kinds, all_counted}
 use Rattle.gather.proofs.RecordLength.{record_short}
-use Rattle.gather.proofs.Spelled.{IsEntryOk, counted_entry, group_links, groups_fit, kinds_fit, same_eqb, sources_fit, source_uids_are, all_named}
+use Rattle.gather.proofs.Spelled.{IsEntryOk, counted_entry, group_links, groups_fit, kinds_fit, sources_fit, source_uids_are, all_named}
 use Rattle.gather.proofs.Windows.{in_group}
 
 -- each source has as many partitions as the plan says
@@ -68,7 +68,7 @@ number_fits n some few = and_true _ _ (lt-ltb n (2 ^ 64) few) (lt-ltb 0 n some)
 
 record_fits : (bytes : List ℕ) → length bytes < 65536 → record_field.fits bytes ≡ true
 unfolding record_field sized u16_field
-record_fits bytes short = and_true _ _ (lt-ltb (length bytes) 65536 short) (same_eqb (length bytes))
+record_fits bytes short = and_true _ _ (lt-ltb (length bytes) 65536 short) (eq-eqb (length bytes) (length bytes) refl)
 
 max_fits : (max : ℕ) → 1 ≤ max → max ≤ MOST_GROUPS → max_field.fits max ≡ true
 unfolding max_field u16_field

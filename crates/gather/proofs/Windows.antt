@@ -1,37 +1,24 @@
 -- What stands in the windows, key group by key group.
 use Rattle.std.proofs.Common.{◌≡◌, ℕ, Bool, true, false, cond, ◌&&◌, List, [], ◌∷◌, map, refl, sym, ap, subst, ◌∙◌}
 use Rattle.std.specs.Prelude.{T, None, Result, Ok, Err, IfOk}
-use Rattle.std.specs.List.{AllByRecursion, filter, flat_map, range_with_len}
+use Rattle.std.specs.List.{filter, flat_map, range_with_len}
 use Rattle.std.specs.List.Sorted.{IsStrictlySortedBy}
 use Rattle.std.specs.Ordering.{is_lt}
 use Rattle.std.specs.declared.cmp.Ordering.{Ordering}
 use Rattle.std.specs.declared.cmp.Ordering.TheVariants.{Less, Equal, Greater}
 use Rattle.std.specs.FinMap.{FinMap, from_entries, entries, entries_sorted, get-entries, get-from_entries}
-use Rattle.std.specs.FinMap.Entries.{is_sorted, below_all, where_key, is_sorted-where_key, find-where_key, same_entries}
+use Rattle.std.specs.FinMap.Entries.{is_sorted, where_key, is_sorted-where_key, find-where_key, same_entries}
 use Rattle.plan_model.specs.declared.spec.Pane.{Pane}
 use Rattle.plan_model.specs.Aggregates.{Aggregated}
 use Rattle.plan_model.specs.Rows.{pane_cmp}
 use Rattle.plan_model.proofs.Facts.{pane_cmp_total, pane_cmp-IsAntisymmetric}
 use Rattle.window_state.specs.Parts.{entries_of}
 use Rattle.window_state.specs.declared.parts.Part.{Part}
+use Rattle.window_state.proofs.Facts.{sorted}
 use Rattle.savepoint_codec.specs.EntriesData.{EntryData}
 use Rattle.gather.specs.Saved.{saved_entry, saved_group, saved_groups, is_in_group, entries_in_group}
 use Rattle.gather.specs.Parts.{panes_in_group}
 use Rattle.gather.specs.Buckets.{bucket, entry_of}
-
-and_t : (a b : Bool) → T a → T b → T (a && b)
-and_t true b p q = q
-and_t false b p q = p
-
-module _ {K X : Type 0} (R : K → K → Ordering) where
-  below : (x : K) (es : List (K × X)) → AllByRecursion (λ y. R x y ≡ Less) (map (λ e. e.0) es) → T (below_all R x es)
-  below x [] h = tt
-  below x (e ∷ es) h = and_t (is_lt (R x e.0)) (below_all R x es) (subst (λ r. T (is_lt r)) (sym h.0) tt) (below x es h.1)
-
-  pub sorted : (es : List (K × X)) → IsStrictlySortedBy R (map (λ e. e.0) es) → T (is_sorted R es)
-  unfolding IsStrictlySortedBy
-  sorted [] h = tt
-  sorted (e ∷ es) h = and_t (below_all R e.0 es) (is_sorted R es) (below e.0 es h.0) (sorted es h.1)
 
 pub t_both : (a b : Bool) → T (a && b) → T a × T b
 t_both true b h = (tt, h)

@@ -4,15 +4,10 @@ use Rattle.std.specs.Char.{is_ascii_digit}
 use Rattle.std.specs.List.{list_all}
 use Rattle.std.specs.Result.{result_ok}
 use Rattle.std.specs.Str.Parse.{digits_value, ParsesUnsigned}
-use Rattle.std.proofs.lemmas.Str.Parse.{IsNumeralModel, IsDigitsTest, numerals_by_value, parse_digits}
+use Rattle.std.proofs.lemmas.Str.Parse.{parse_digits}
 use Rattle.field_values.specs.Digits.{are_digits}
+use Rattle.field_values.proofs.Numbers.{own}
 use Rattle.import_command.specs.Numbers.{number_said}
-
-digits_tested : IsDigitsTest (λ ds. list_all is_ascii_digit ds ≡ true)
-digits_tested = search rules
-
-own : IsNumeralModel (λ ds. list_all is_ascii_digit ds ≡ true) (digits_value 10)
-own = numerals_by_value _ digits_tested
 
 all_digits : (text : List ℕ) → are_digits text ≡ true → (0 < length text) × (list_all is_ascii_digit text ≡ true)
 unfolding are_digits

@@ -1,3 +1,4 @@
 mod Files
 mod Given
 mod Named
+pub mod Facts

@@ -33,6 +33,7 @@ use Rattle.aggregates.specs.declared.kind.Kind.{Kind}
 use Rattle.aggregates.specs.Kinds.{kind_of}
 use Rattle.window_state.specs.declared.parts.Part.{Part}
 use Rattle.window_state.specs.Parts.{entries_of}
+use Rattle.window_state.proofs.Facts.{sorted}
 use Rattle.savepoint_codec.specs.EntriesData.{EntryData}
 use Rattle.savepoint_codec.specs.Fields.{is_less, is_uid_after, partitions_field, source_field, source_after, sources_field, entry_after, entries_field, group_number, group_field, group_after, groups_field, is_number_after}
 use Rattle.savepoint_codec.specs.Layout.{IsSavepoint}
@@ -50,8 +51,8 @@ use Rattle.restore.specs.Requirements.{are_kinds, has_max, has_known_uids, has_a
 use Rattle.restore.specs.Saved.{saved_under}
 use Rattle.restore.proofs.Facts.{kinds_in}
 use Rattle.restarts.specs.Laws.{AcceptedHaveGroups}
-use Rattle.restarts.proofs.Facts.{Rises, counted_rises, IsBelow, group_below}
-use Rattle.gather.proofs.Facts.{weaken, sorted, filtered}
+use Rattle.restarts.proofs.Facts.{Rises, counted_rises, IsBelow, group_below, keys, turned}
+use Rattle.gather.proofs.Facts.{weaken, filtered}
 use Rattle.gather.specs.Laws.{HasGroups}
 use Rattle.gather.specs.Saved.{entries_in_group, is_in_group, partitions_under, saved_entry, saved_group, saved_groups, saved_source, savepoint_of, source_uids}
 
@@ -248,10 +249,6 @@ under_uids xs = map (λ x. (x.uid, x.partitions)) xs
 same_test : (q u : List ℕ) → eq_by_cmp uid_cmp q u ≡ bytes_eq u q
 same_test q u = sym (texts_ties q u) ∙ nat_list_eq_equiv.symm q u
 
-turned : {X : Type 0} (f : X → List ℕ) (q : List ℕ) (xs : List X) → list_any (λ x. bytes_eq (f x) q) xs ≡ list_any (bytes_eq q) (map f xs)
-turned f q [] = refl
-turned f q (x ∷ xs) = λ i. nat_list_eq_equiv.symm (f x) q i || turned f q xs i
-
 -- where a test holds of all uids, it holds of one of them
 holds_of : {X : Type 0} (f : X → List ℕ) (test : List ℕ → Bool) (q : List ℕ) (xs : List X) → list_all (λ x. test (f x)) xs ≡ true → list_any (λ x. bytes_eq (f x) q) xs ≡ true → test q ≡ true
 holds_of f test q [] h some = absurd cc
@@ -345,9 +342,6 @@ module _ (olds : List SavedSource) (q : List ℕ) (rest : List (List ℕ)) where
       let r = at_place xs h in
       let long : place xs < length (map (λ s. s.uid) xs ++ rest) = omega (arith, r.0, length-append (map (λ s. s.uid) xs) rest, length-map xs (λ s. s.uid)) in
       ap (λ b. option_map_or (λ x. slice_index_or (map (λ source. saved_under source.uid olds) xs) x []) (cond b (Some (place xs)) None) []) (lt-ltb (place xs) (length (map (λ s. s.uid) xs ++ rest)) long) ∙ r.1
-
-abbrev keys : PlanData → List (List ℕ)
-keys p = map (λ s. s.uid) p.sources
 
 partitions_are : (p : PlanData) (olds : List SavedSource) (q : List ℕ) → list_any (bytes_eq q) (keys p) ≡ true → partitions_under p (map (λ source. saved_under source.uid olds) p.sources) q ≡ saved_under q olds
 partitions_are p olds q h =

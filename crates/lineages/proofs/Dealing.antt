@@ -17,7 +17,6 @@ use Rattle.dataflow_model.specs.declared.role.Role.{Role}
 use Rattle.dataflow_model.specs.declared.role.Role.TheVariants as role
 use Rattle.dataflow_model.specs.Role.{is_source}
 use Rattle.dataflow_model.specs.AbstractLayout.{AbstractLayout, IsLayout}
-use Rattle.dataflow_model.specs.Leg.{Leg, ToEnd, leg_of}
 use Rattle.layout_rules.specs.Layouts.{partition_counts, abstract_layout}
 use Rattle.layout_rules.specs.Rules.{stages_of, window_of}
 use Rattle.layout_rules.specs.Scale.{ScaleData, IsScale}
@@ -36,7 +35,7 @@ use Rattle.redistribute.specs.StartData.{StartData, IsStartOf, offsets_of}
 use Rattle.redistribute.specs.Begins.{IsStartIn, AreOpenGroups}
 use Rattle.redistribute.specs.Parts.{at_first, saved_at, partition_start, start_of_role, partitions_in, parts_within, parts_of, windows_of, with_windows, whole_task_start}
 use Rattle.redistribute.specs.Laws.{EachPartitionOnce, HasPartition, StandsAt}
-use Rattle.redistribute.proofs.Facts.{known, owns, nothing, shaped, found_in, one_from, total_within}
+use Rattle.redistribute.proofs.Facts.{known, owns, nothing, no_leg, shaped, found_in, one_from, total_within}
 use Rattle.gather.specs.Laws.{SamePanesSameSavepoint}
 use Rattle.gather.specs.Parts.{panes_in, part_at, is_reader, starts_at, starts_of, saved_start, partition_in, source_in, sources_in, windows_in}
 use Rattle.gather.specs.Saved.{savepoint_of}
@@ -62,9 +61,6 @@ in_role role.Source starts parts k b e = (refl, e)
 in_role role.Chain starts parts k b e = absurd cc
 in_role role.Window starts parts k b e = absurd cc
 in_role role.Sink starts parts k b e = absurd cc
-
-abbrev no_leg : Leg
-no_leg = leg_of 0 [] ToEnd nothing.size
 
 -- ---- a plan's layout at a scale
 

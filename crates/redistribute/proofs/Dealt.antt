@@ -179,7 +179,7 @@ module _ (p : PlanData) (c : ScaleData) (e : Entries) (leg : Leg) (ip : IsPlan p
 abbrev pub nothing : Entries
 nothing = record { entry = λ x k n. End; brings = λ x k n. lowest; watermark = λ x k n. lowest; size = λ x k. 0 }
 
-abbrev no_leg : Leg
+abbrev pub no_leg : Leg
 no_leg = leg_of 0 [] ToEnd nothing.size
 
 pub each_partition_once : EachPartitionOnce

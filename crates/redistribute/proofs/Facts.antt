@@ -1,5 +1,5 @@
 -- PUBLIC: the lemmas that crates above cite. Nothing else of proofs/ is theirs to import.
-pub use Rattle.redistribute.proofs.Dealt.{known, early, places, last_row, nothing}
+pub use Rattle.redistribute.proofs.Dealt.{known, early, places, last_row, nothing, no_leg}
 pub use Rattle.redistribute.proofs.Found.{or_none, find_in_both, found_in, one_from}
 pub use Rattle.redistribute.proofs.Beginning.{offsets_in, shaped}
 pub use Rattle.redistribute.proofs.Owned.{has, owns}

@@ -21,6 +21,7 @@ use Rattle.savepoint_codec.specs.declared.savepoint.SavedSource.{SavedSource}
 use Rattle.restore.specs.Requirements.{are_kinds}
 use Rattle.restore.specs.Saved.{saved_under}
 use Rattle.gather.specs.Saved.{partitions_under, saved_source, source_uids}
+use Rattle.gather.proofs.Facts.{no_source}
 
 -- ---- distinct uids
 
@@ -45,11 +46,8 @@ place us vs h k l =
     position_or_len_is (bytes_eq (get_or us k [])) all k [] (omega (arith, long)) (λ j m. ap (λ u. bytes_eq u (get_or all j [])) (sym there) ∙ apart all h j k m long) (λ m. ap (bytes_eq (get_or us k [])) there ∙ nat_list_eq_equiv.refl (get_or us k [])) in
     (λ i. cond (ltb (is i) (length all)) (Some (is i)) None) ∙ ap (λ b. cond b (Some k) None) (lt-ltb k (length all) long)
 
-abbrev keys : PlanData → List (List ℕ)
+abbrev pub keys : PlanData → List (List ℕ)
 keys p = map (λ s. s.uid) p.sources
-
-abbrev no_source : SourceSpec
-no_source = record { uid = []; partitions = 0; bound = None }
 
 -- the partitions under the uid of a source are those of the source
 partitions_at : (p : PlanData) (ss : List (List SavedPartition)) → are_distinct (uids p) ≡ true → (k : ℕ) → k < length p.sources → partitions_under p ss (get_or (keys p) k []) ≡ get_or ss k []
@@ -71,7 +69,7 @@ any_at t (x ∷ xs) (suc k) d l h = or_second (t x) (any_at t xs k d (omega (ari
     or_second false e = e
 
 -- the same of what a function has of each, with the two texts turned
-turned : {X : Type 0} (f : X → List ℕ) (u : List ℕ) (xs : List X) → list_any (λ x. bytes_eq (f x) u) xs ≡ list_any (bytes_eq u) (map f xs)
+pub turned : {X : Type 0} (f : X → List ℕ) (u : List ℕ) (xs : List X) → list_any (λ x. bytes_eq (f x) u) xs ≡ list_any (bytes_eq u) (map f xs)
 turned f u [] = refl
 turned f u (x ∷ xs) = λ i. nat_list_eq_equiv.symm (f x) u i || turned f u xs i
 

@@ -13,7 +13,8 @@ use Rattle.layout_rules.specs.Below.{filter_below}
 use Rattle.layout_rules.specs.Stages.{task_count, task_role, is_ring, inputs_of, outputs_of, belongs, partitions_at, partitions_of}
 use Rattle.layout_rules.specs.Layouts.{partition_counts}
 
-few_pass : (test : ℕ → Bool) (n : ℕ) → length (filter_below test n) ≤ n
+-- of the numbers below n at most n pass a test
+pub few_pass : (test : ℕ → Bool) (n : ℕ) → length (filter_below test n) ≤ n
 few_pass test zero = omega arith
 few_pass test (suc n) =
     elim (cases_Bool (test n)) [

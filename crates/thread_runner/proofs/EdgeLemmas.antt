@@ -1,14 +1,15 @@
 -- What holds of lists of ends after a change that a function of them cannot tell, and of edges that are settled one after another.
-use Rattle.std.proofs.Common.{◌≡◌, ℕ, zero, suc, Bool, ◌+◌, ◌-◌, ◌*◌, ◌<◌, ◌≤◌, List, [], ◌∷◌, ◌++◌, map, length, get_or, set, take, drop, Some, sym, ap, subst, ◌∙◌, arith, inl, inr, get_or-set_same}
+use Rattle.std.proofs.Common.{◌≡◌, ℕ, suc, ◌+◌, ◌-◌, ◌*◌, ◌<◌, ◌≤◌, List, [], ◌∷◌, ◌++◌, map, length, get_or, set, take, drop, Some, sym, ap, subst, ◌∙◌, arith, inl, inr, get_or-set_same}
 use Rattle.std.specs.List.{slice_get}
 use Rattle.std.proofs.lemmas.List.{map-append, length-map, length-set, length-append, get_or-map, get_or_append_left, get_or_at, take-append-drop}
 use Rattle.std.proofs.lemmas.Option.{slice_get_within}
-use Rattle.std.proofs.lemmas.Bool.{cases_lt, cases_Bool}
+use Rattle.std.proofs.lemmas.Bool.{cases_lt}
 use Rattle.std.proofs.Math.Seq.{map-set_same}
 use Rattle.dataflow_model.specs.declared.message.Message.{Message}
 use Rattle.layout_rules.specs.declared.stage.Stage.{Stage}
-use Rattle.layout_rules.specs.Below.{sum_below, filter_below}
+use Rattle.layout_rules.specs.Below.{sum_below}
 use Rattle.layout_rules.specs.Stages.{task_count, is_ring, outputs_of}
+use Rattle.task_setups.proofs.Facts.{few_pass}
 use Rattle.thread_runner.specs.declared.jobs.Done.{Done}
 use Rattle.thread_runner.specs.Rings.{RingName, LeavesOver}
 use Rattle.thread_runner.specs.Edges.{SameDones, Leaves, AreLeft, AreLeftBy, AreJoined, out_names, in_names, put_there, taken_there, put_tables, taken_tables, left_on, left_by}
@@ -116,12 +117,5 @@ pub joined_same : (stages : List Stage) (first ds : List Done) → SameDones fir
 joined_same stages first ds same h =
     subst (λ (l : List (List RingName)). AreJoined stages l (in_names ds)) (sym same.0) (subst (λ (l : List (List RingName)). AreJoined stages (out_names first) l) (sym same.1) h)
 
-few_below : (test : ℕ → Bool) (n : ℕ) → length (filter_below test n) ≤ n
-few_below test zero = omega arith
-few_below test (suc n) = elim (cases_Bool (test n)) [
-  | inl passes ↦ (let before = few_below test n in let long = length-append (filter_below test n) (n ∷ []) in rw passes (omega (arith, before, long)))
-  | inr fails ↦ (let before = few_below test n in let long = length-append (filter_below test n) [] in rw fails (omega (arith, before, long)))
-]
-
 pub few_outputs : (stages : List Stage) (s : ℕ) → length (outputs_of stages s) ≤ task_count stages
-few_outputs stages s = few_below (is_ring stages s) (task_count stages)
+few_outputs stages s = few_pass (is_ring stages s) (task_count stages)

@@ -5,10 +5,12 @@ use Rattle.std.specs.List.Sorted.{IsStrictlySortedBy}
 use Rattle.std.specs.Map.{keys_of}
 use Rattle.std.specs.Option.{is_some, option_map}
 use Rattle.std.specs.Ordering.{int_eq, int_cmp, is_eq, is_lt, ordering_then}
+use Rattle.std.specs.declared.cmp.Ordering.{Ordering}
 use Rattle.std.specs.declared.cmp.Ordering.TheVariants.{Less, Equal}
 use Rattle.std.specs.FinMap.{from_entries, get, get-from_entries, entries, from_sorted, get-from_sorted, entries-from_sorted, retain_keys, get-retain_keys, same_map}
 use Rattle.std.specs.FinMap.Entries.{find, is_sorted, below_all}
 use Rattle.std.proofs.lemmas.Int.{ints}
+use Rattle.std.proofs.lemmas.Map.Made.{keys_of-map_values}
 use Rattle.plan_model.specs.declared.spec.WindowSpec.{WindowSpec}
 use Rattle.plan_model.specs.declared.spec.Pane.{Pane}
 use Rattle.plan_model.specs.declared.spec.Row.{Row}
@@ -72,29 +74,28 @@ none_there (Some a) h = absurd cc
 
 -- ---- entries in the order of their panes
 
-and_T : (a b : Bool) → T a → T b → T (a && b)
-and_T true b h k = k
-and_T false b h k = h
+both_hold : (a b : Bool) → T a → T b → T (a && b)
+both_hold true b h k = k
+both_hold false b h k = h
 
-less_T : (p q : Pane) → pane_cmp p q ≡ Less → T (is_lt (pane_cmp p q))
-less_T p q h = subst (λ o. T (is_lt o)) (sym h) tt
+module _ {K X : Type 0} (R : K → K → Ordering) where
+  below : (x : K) (es : List (K × X)) → AllByRecursion (λ y. R x y ≡ Less) (keys_of es) → T (below_all R x es)
+  below x [] h = tt
+  below x (e ∷ es) h = both_hold (is_lt (R x e.0)) (below_all R x es) (subst (λ r. T (is_lt r)) (sym h.0) tt) (below x es h.1)
 
-below_from : (p : Pane) (es : List (Pane × AccData)) → AllByRecursion (λ q. pane_cmp p q ≡ Less) (keys_of es) → T (below_all pane_cmp p (totals es))
-below_from p [] h = tt
-below_from p (e ∷ es) h = and_T (is_lt (pane_cmp p e.0)) (below_all pane_cmp p (totals es)) (less_T p e.0 h.0) (below_from p es h.1)
-
-sorted_totals : (es : List (Pane × AccData)) → IsStrictlySortedBy pane_cmp (keys_of es) → T (is_sorted pane_cmp (totals es))
-unfolding IsStrictlySortedBy
-sorted_totals [] h = tt
-sorted_totals (e ∷ es) h = and_T (below_all pane_cmp e.0 (totals es)) (is_sorted pane_cmp (totals es)) (below_from e.0 es h.0) (sorted_totals es h.1)
+  -- entries whose keys rise are in order
+  pub sorted : (es : List (K × X)) → IsStrictlySortedBy R (keys_of es) → T (is_sorted R es)
+  unfolding IsStrictlySortedBy
+  sorted [] h = tt
+  sorted (e ∷ es) h = both_hold (below_all R e.0 es) (is_sorted R es) (below e.0 es h.0) (sorted es h.1)
 
 -- they are the map's own
 pub entries-totals : (es : List (Pane × AccData)) → IsStrictlySortedBy pane_cmp (keys_of es) → entries (from_entries {R = pane_cmp} (totals es)) ≡ totals es
 entries-totals es h =
-    let sorted = sorted_totals es h in
+    let rises = sorted pane_cmp (totals es) (subst (IsStrictlySortedBy pane_cmp) (sym (keys_of-map_values (λ (a : AccData). a.total) es)) h) in
     let same : from_entries {R = pane_cmp} (totals es) ≡ from_sorted (totals es) =
-    same_map pane_cmp_total pane_cmp-IsAntisymmetric _ _ (λ q. get-from_entries pane_cmp_total (totals es) q ∙ sym (get-from_sorted pane_cmp (totals es) q sorted)) in
-    ap entries same ∙ entries-from_sorted pane_cmp (totals es) sorted
+    same_map pane_cmp_total pane_cmp-IsAntisymmetric _ _ (λ q. get-from_entries pane_cmp_total (totals es) q ∙ sym (get-from_sorted pane_cmp (totals es) q rises)) in
+    ap entries same ∙ entries-from_sorted pane_cmp (totals es) rises
 
 -- ---- windows that stay
 

@@ -9,3 +9,4 @@ mod Rows
 mod PartMaps
 mod Due
 mod Placed
+pub mod Facts

@@ -1,5 +1,5 @@
 use Rattle.std.proofs.Common.{◌∙◌, ℕ, List, Bor, option_map, inr}
-use Rattle.commands.proofs.Named.{some_map}
+use Rattle.leg_command.proofs.Facts.{some_map}
 use Rattle.commands.proofs.actions.run_in_legs.Goals as goal
 
 -- the texts are those of the files, a list of legs just where one is named

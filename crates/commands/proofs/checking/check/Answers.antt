@@ -1,7 +1,7 @@
 use Rattle.std.proofs.Common.{◌∙◌, ℕ, List, Bor, Bool, Option, option_map, inr, subst, sym}
 use Rattle.commands.specs.Checking.{AnswersWords, ChecksTexts}
 use Rattle.commands.specs.declared.checking.Text.{Text}
-use Rattle.commands.proofs.Named.{some_map}
+use Rattle.leg_command.proofs.Facts.{some_map}
 use Rattle.commands.proofs.checking.check.Goals as goal
 
 -- the texts are those of the files, one for each that is named
