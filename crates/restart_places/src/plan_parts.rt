@@ -17,6 +17,15 @@ const NUMBERS: [&str; 6] = [
     "`offset` of the window, less whole slides,",
 ];
 
+/// The bytes of a condition in a plan's record: one for its column, one for how it compares, and eight for its number.
+const CONDITION_BYTES: usize = 10;
+
+/// The bytes of an aggregate there: one for its function, and one for its column.
+const AGGREGATE_BYTES: usize = 2;
+
+/// The bytes of a bound there: one for the place of its source, and eight for it.
+const BOUND_BYTES: usize = 9;
+
 /// A plan's record: its numbers, the bytes of its lists of conditions of filters, of aggregates and of conditions of having, and
 /// those of the bounds of its sources, which are none where no source has one.
 #[derive(Clone, Copy)]
@@ -67,13 +76,13 @@ fn behind_texts(bytes: &[u8]) -> Result<&[u8], FieldFault> {
 /// The bytes of a list of conditions, which has their number in a byte before it, and those behind it.
 fn conditions_in(bytes: &[u8]) -> Result<(&[u8], &[u8]), FieldFault> {
     let (count, rest) = read_u8(bytes)?;
-    read_bytes(usize::from(count) * 10, rest)
+    read_bytes(usize::from(count) * CONDITION_BYTES, rest)
 }
 
 /// The same of a list of aggregates.
 fn aggregates_in(bytes: &[u8]) -> Result<(&[u8], &[u8]), FieldFault> {
     let (count, rest) = read_u8(bytes)?;
-    read_bytes(usize::from(count) * 2, rest)
+    read_bytes(usize::from(count) * AGGREGATE_BYTES, rest)
 }
 
 /// The bytes of the bounds of sources, which have their number in a byte before them, where there are any. Nothing stands behind them.
@@ -82,7 +91,7 @@ fn bounds_in(bytes: &[u8]) -> Result<&[u8], FieldFault> {
         return Ok(bytes);
     }
     let (count, rest) = read_u8(bytes)?;
-    let (bounds, behind) = read_bytes(usize::from(count) * 9, rest)?;
+    let (bounds, behind) = read_bytes(usize::from(count) * BOUND_BYTES, rest)?;
     if bounds.is_empty() || !behind.is_empty() {
         return Err(FieldFault::Range);
     }

@@ -11,6 +11,7 @@ use Rattle.savepoint_codec.specs.declared.savepoint.SavedGroup.{SavedGroup}
 use Rattle.savepoint_codec.specs.EntriesData.{EntryData}
 use Rattle.savepoint_codec.specs.Fields.{entry_after, group_number}
 use Rattle.savepoint_index.specs.declared.head.GroupHead.{GroupHead}
+use Rattle.savepoint_index.specs.declared.head.TheConstants.{HEAD_BYTES}
 
 -- where the entries of a key group begin, each of so many bytes: behind those of the group before, or else where the first do
 abbrev pub place_after : ℕ → ℕ → Option GroupHead → ℕ
@@ -34,7 +35,7 @@ entry_length kinds = 24 + 16 * length kinds
 
 -- where the entries begin: behind how many key groups there are, and the index
 abbrev pub first_place : ℕ → ℕ → ℕ
-first_place begin count = begin + 2 + 18 * count
+first_place begin count = begin + 2 + HEAD_BYTES * count
 
 -- how many key groups there are, the index, and the entries
 abbrev pub Indexed : Type 0

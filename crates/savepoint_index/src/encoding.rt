@@ -8,7 +8,7 @@ ghost use Rattle.savepoint_index.specs.Layout.{indexed_fields, indexed_format, s
 ghost use Rattle.plan_model.specs.declared.limits.TheConstants.{MOST_AGGREGATES};
 ghost use Rattle.savepoint_index.specs.Writing.{head_bytes, group_bytes};
 
-use crate::head::GroupHead;
+use crate::head::{GroupHead, HEAD_BYTES};
 use byte_fields::{put_bytes, put_u16, put_u64};
 use savepoint_codec::{Contents, SavedGroup, Savepoint, entry_size, put_entry_list, put_front};
 use std::alloc::{AllocError, Global};
@@ -69,7 +69,7 @@ fn put_groups(out: &mut Vec<u8>, contents: &Contents) -> Result<(), AllocError>
     let begin = out.len() as u64;
     let groups = contents.groups.as_slice();
     put_u16(out, groups.len() as u16)?;
-    let first = begin + 2 + 18 * (groups.len() as u64);
+    let first = begin + 2 + HEAD_BYTES * (groups.len() as u64);
     let size = entry_size(contents.kinds.as_slice().len()) as u64;
     let end = put_heads(out, size, first, groups)?;
     out.reserve_exact((end as usize).saturating_sub(out.len()))?;

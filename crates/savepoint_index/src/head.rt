@@ -16,7 +16,10 @@ pub(crate) struct GroupHead {
     pub place: u64,
 }
 
-/// The most bytes of an entry.
+/// The bytes of a key group in the index: two for its number, and eight each for a count and a place.
+pub(crate) const HEAD_BYTES: u64 = 18;
+
+/// The most bytes of an entry: eight each for a start, a key and a count, and sixteen for each of eight aggregates.
 pub(crate) const MOST_BYTES: u64 = 152;
 
 /// Whether entries of so many bytes begin at this place: behind those of the key group before, or at the first

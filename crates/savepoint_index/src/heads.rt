@@ -7,7 +7,7 @@ ghost use Rattle.savepoint_index.specs.Index.{head_field, lists_field, indexed_g
 ghost use Rattle.savepoint_index.specs.Reading.{groups_read};
 ghost use Rattle.plan_model.specs.declared.limits.TheConstants.{MOST_AGGREGATES};
 
-use crate::head::{GroupHead, MOST_BYTES, read_head};
+use crate::head::{GroupHead, HEAD_BYTES, MOST_BYTES, read_head};
 use aggregates::Kind;
 use byte_fields::{ReadFault, read_u16};
 use plain_data::Items;
@@ -38,7 +38,7 @@ fn read_heads(
     ensures { Gives (λ x. (x.0.items, x.1.now)) result ((chain (head_field max size first) None count).read bytes.now) }
 {
     let mut heads = Vec::new(alloc);
-    heads.reserve_exact(usize::from(count).min(bytes.len() / 18))?;
+    heads.reserve_exact(usize::from(count).min(bytes.len() / HEAD_BYTES as usize))?;
     let mut rest = bytes;
     for _ in 0..count {
         let (head, after) = read_head(max, size, first, last_head(&heads), rest)?;
@@ -86,7 +86,7 @@ pub(crate) fn read_groups<'a>(
     ensures { Gives (λ x. (x.0, x.1.now)) result ((indexed_groups max kinds.now begin).read bytes.now) }
 {
     let (count, rest) = read_u16(bytes)?;
-    let first = begin + 2 + 18 * u64::from(count);
+    let first = begin + 2 + HEAD_BYTES * u64::from(count);
     let size = entry_size(kinds.len()) as u64;
     let (heads, rest) = read_heads(alloc, max, size, first, count, rest)?;
     let (groups, rest) = read_lists(alloc, kinds, heads.as_slice(), rest)?;
