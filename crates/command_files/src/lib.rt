@@ -7,4 +7,4 @@ mod saving;
 
 pub use files::{file, optional_file, read_fault};
 pub use printing::print;
-pub use saving::{check_apart, save};
+pub use saving::{check_apart, save, write_fault};

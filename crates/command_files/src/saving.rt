@@ -11,7 +11,8 @@ use std::io::ErrorKind;
 use std::random::RandomSource;
 use std::rt::Files;
 
-fn write_fault(error: &io::Error) -> JobFault
+/// Why a file could not be written.
+pub fn write_fault(error: &io::Error) -> JobFault
     ensures { result ≡ said.write_fault (error_kind error.now) }
 {
     match error.kind() {

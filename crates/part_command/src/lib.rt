@@ -3,5 +3,6 @@
 
 mod parting;
 mod splitting;
+mod writing;
 
 pub use splitting::{SplitWords, split};

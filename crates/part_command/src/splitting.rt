@@ -3,15 +3,15 @@
 ghost use Rattle.std.specs.Prelude.{◌≡◌, ◌⊎◌, ◌≤◌, IfErr};
 ghost use Rattle.stream_model.specs.InputData.{BelongsTo};
 ghost use Rattle.part_command.specs.Splitting.{IsUnwritten, AnswersSplit, SplitsTexts};
+ghost use Rattle.part_command.specs.Apart.{ChecksApart, ChecksAllApart};
 
 use crate::parting::{parts_of, read_input};
-use command_files::{file, save};
+use crate::writing::{files_at, path_of, remove_all, write_files};
+use command_files::file;
 use job_texts::JobFault;
 use key_groups::Parallelism;
 use logical_plan::ReadPlan;
-use part_texts::{PartText, texts_of_parts};
 use plan_model::Plan;
-use std::alloc::{AllocError, Global};
 use std::random::RandomSource;
 use std::rt::Files;
 use stream_model::Input;
@@ -29,14 +29,9 @@ pub struct SplitWords<'a> {
     pub out: &'a str,
 }
 
-/// The path of the part at a place.
-fn path_of(alloc: Global, out: &str, place: usize) -> Result<String, AllocError> {
-    format!(in alloc; "{out}.{place}")
-}
-
 /// Refuses to write a part over the plan or the input. Two names of one file are not told apart.
 fn check_apart(words: &SplitWords<'_>, path: &str) -> Result<(), JobFault>
-    ensures { IfErr result (λ fault. fault ≡ JobFault.Write) }
+    ensures { ChecksApart words.now.plan.now words.now.input.now path.now result }
 {
     if path == words.plan || path == words.input {
         return Err(JobFault::Write);
@@ -50,7 +45,7 @@ fn check_all_apart<R: AllocGlobal>(
     words: &SplitWords<'_>,
     parts: Parallelism,
 ) -> Result<(), JobFault>
-    ensures { IfErr result IsUnwritten }
+    ensures { ChecksAllApart words.now.plan.now words.now.input.now words.now.out.now parts result }
 {
     for place in 0..parts.get() as usize {
         let path = path_of(rt.alloc(), words.out, place)?;
@@ -59,22 +54,7 @@ fn check_all_apart<R: AllocGlobal>(
     Ok(())
 }
 
-/// Writes the text of each part to its file.
-fn save_parts<R: Files + Print + RandomSource + AllocGlobal>(
-    rt: &R,
-    words: &SplitWords<'_>,
-    texts: &[PartText],
-) -> Result<(), JobFault>
-    ensures { IfErr result IsUnwritten }
-{
-    for (place, part) in texts.iter().enumerate() {
-        let path = path_of(rt.alloc(), words.out, place)?;
-        save(rt, path.as_str(), part.text().as_bytes())?;
-    }
-    Ok(())
-}
-
-/// Deals an input out to the texts of its parts, and writes these.
+/// Deals an input out to its parts, and writes these. Where one cannot be written, none of those takes its name that has it not yet.
 fn write_parts<R: Files + Print + RandomSource + AllocGlobal>(
     rt: &R,
     words: &SplitWords<'_>,
@@ -87,8 +67,12 @@ fn write_parts<R: Files + Print + RandomSource + AllocGlobal>(
     ensures { IfErr result IsUnwritten }
 {
     check_all_apart(rt, words, parts)?;
-    let texts = texts_of_parts(rt.alloc(), plan, parts, input)?;
-    save_parts(rt, words, &texts)
+    let files = files_at(rt, words.out, parts)?;
+    let answer = write_files(rt, plan, parts, input, &files);
+    if answer.is_err() {
+        remove_all(rt, &files);
+    }
+    answer
 }
 
 /// The same of a plan and an input that texts tell.

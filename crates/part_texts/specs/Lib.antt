@@ -1,2 +1,3 @@
 pub mod InputTexts
 pub mod PartTexts
+pub mod Streams

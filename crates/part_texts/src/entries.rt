@@ -42,11 +42,7 @@ fn push_records(text: &mut String, line: &mut Vec<u8>, batch: &Batch) -> Result<
 }
 
 /// Puts the text of an entry of rows behind a text.
-pub(crate) fn push_rows(
-    text: &mut String,
-    line: &mut Vec<u8>,
-    batch: &Batch,
-) -> Result<(), AllocError>
+fn push_rows(text: &mut String, line: &mut Vec<u8>, batch: &Batch) -> Result<(), AllocError>
     ensures { OnOk result (string_bytes text.new ≡ string_bytes text.old ++ rows_entry batch.now) }
 {
     text.push_str("{\"rows\":[")?;
@@ -62,7 +58,7 @@ fn push_mark_name(text: &mut String) -> Result<(), AllocError>
 }
 
 /// Puts the text of a watermark behind a text.
-pub(crate) fn push_mark(text: &mut String, time: i64) -> Result<(), AllocError>
+fn push_mark(text: &mut String, time: i64) -> Result<(), AllocError>
     ensures { OnOk result (string_bytes text.new ≡ string_bytes text.old ++ mark_entry time) }
 {
     push_mark_name(text)?;

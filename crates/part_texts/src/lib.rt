@@ -1,4 +1,4 @@
-//! The JSON text of an entry, and the texts of the parts of an input.
+//! The JSON text of an entry, and the texts of the parts of an input, as they are written.
 #![tactic(auto)]
 
 mod entries;
@@ -8,4 +8,4 @@ mod records;
 
 pub use entries::push_entry;
 pub use part::PartText;
-pub use parts::texts_of_parts;
+pub use parts::write_texts;

@@ -1,6 +1,8 @@
 //! The text of records, digit by digit from the last to the first.
 
 ghost use Rattle.std.specs.Prelude.{◌≡◌, ◌++◌, ◌∷◌, ◌*◌, ◌+◌, ◌≤◌, ◌<◌, [], length, drop, slice_index_or, IsAscii};
+ghost use Rattle.std.specs.List.{All};
+ghost use Rattle.key_dealing.specs.Dealing.{rows_at};
 ghost use Rattle.part_texts.specs.InputTexts.{cells_text, record_text, records_text};
 
 use columns::Batch;
@@ -62,6 +64,31 @@ pub(crate) fn put_records(line: &mut [u8], batch: &Batch) -> usize
     while left > 0 {
         left -= 1;
         start = put_record(line, start, batch, left);
+    }
+    // Nothing stands before the first of them.
+    start + 1
+}
+
+/// The most bytes that a row of a batch takes.
+pub(crate) fn room_of_row(batch: &Batch) -> usize
+    ensures { result ≡ 21 * batch.now.width + 2 }
+{
+    21 * batch.width() + 2
+}
+
+/// Writes the rows at some places, with commas between them, to the end of their room, and answers where they start.
+pub(crate) fn put_records_at(line: &mut [u8], batch: &Batch, places: &[usize]) -> usize
+    requires some { 0 < length places.now }
+    requires inside { All (λ place. place < length batch.now.rows) places.now }
+    requires room { length places.now * (21 * batch.now.width + 2) ≤ length line.old }
+    ensures inside { result ≤ length line.old }
+    ensures written { drop result line.new ≡ records_text batch.now.width (rows_at batch.now.rows places.now) }
+{
+    let mut start = line.len();
+    let mut left = places.len();
+    while left > 0 {
+        left -= 1;
+        start = put_record(line, start, batch, places[left]);
     }
     // Nothing stands before the first of them.
     start + 1

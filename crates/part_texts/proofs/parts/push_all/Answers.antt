@@ -1,19 +1,16 @@
-use Rattle.std.proofs.Common.{◌≡◌, ap, sym, refl, get_or, ◌∙◌, arith}
-use Rattle.std.proofs.lemmas.List.{get_or_read_under}
-use Rattle.part_texts.specs.PartTexts.{nothing, with_words}
-use Rattle.part_texts.proofs.Steps.{none_done, one_done, all_done}
+use Rattle.std.proofs.Common.{arith}
+use Rattle.std.proofs.lemmas.List.{length-map}
+use Rattle.part_texts.specs.Streams.{state_of, states_of}
+use Rattle.part_texts.proofs.Steps.{none_done, part_done, all_done}
+use Rattle.part_texts.specs.PartTexts.{with_words}
 use Rattle.part_texts.proofs.parts.push_all.Goals as goal
 
 pub loop-place-init : goal.loop-place-init
-loop-place-init c = none_done (λ i p. with_words c.args.words.now p) c.args.texts.now
+loop-place-init g c = none_done (λ i p. with_words c.args.words.now p) (states_of g.W.Write.contents c.args.texts.now)
 
 pub loop-place-preserved : goal.loop-place-preserved
-loop-place-preserved c =
-    let texts = c.loop-place.texts in
-    let place = c.loop-place.place in
-    let x = c.index-texts-place.result in
-    let here : get_or texts place x ≡ get_or texts place nothing = sym c.index-texts-place.is ∙ get_or_read_under texts place _ x nothing c.index-texts-place.is (omega arith) refl in
-    one_done (λ i p. with_words c.args.words.now p) place c.args.texts.now texts c.push.new.self (omega arith) (c.in_ok-push.ensures ∙ ap (with_words c.args.words.now) here) c.loop-place.invariant
+loop-place-preserved g c =
+    part_done (state_of g.W.Write.contents) (λ i p. with_words c.args.words.now p) c.loop-place.place c.args.texts.now c.loop-place.texts c.index-texts-place.result c.push.new.self (omega arith) c.in_ok-push.ensures c.loop-place.invariant
 
 pub returns : goal.returns
-returns c = all_done (λ i p. with_words c.args.words.now p) c.loop-place.place c.args.texts.now c.loop-place.texts (omega arith) c.loop-place.invariant
+returns g c = all_done (λ i p. with_words c.args.words.now p) c.loop-place.place (states_of g.W.Write.contents c.args.texts.now) (states_of g.W.Write.contents c.loop-place.texts) (omega (arith, length-map c.args.texts.now (state_of g.W.Write.contents))) c.loop-place.invariant

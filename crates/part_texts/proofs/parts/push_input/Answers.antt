@@ -6,12 +6,13 @@ use Rattle.plan_model.specs.declared.spec.SourceSpec.{SourceSpec}
 use Rattle.stream_model.specs.declared.entry.Marked.{Marked}
 use Rattle.input_parts.specs.Parts.{is_in_part, entries_left, part_of_input, unmarked}
 use Rattle.part_texts.specs.InputTexts.{sources_text}
+use Rattle.part_texts.specs.Streams.{states_of}
 use Rattle.part_texts.proofs.Steps.{words_more, then_more, grow_is}
 use Rattle.part_texts.proofs.Unmarked.{in_sources}
 use Rattle.part_texts.proofs.parts.push_input.Goals as goal
 
 pub push_sources-requires-clause-alike : goal.push_sources-requires-clause-alike
-push_sources-requires-clause-alike c =
+push_sources-requires-clause-alike g c =
     let specs = c.args.plan.now.sources in
     let sources = c.args.input.now.sources in
     ap length c.sources.ensures.says
@@ -21,12 +22,12 @@ push_sources-requires-clause-alike c =
     ∙ ap length (sym c.sources-2.ensures.says)
 
 pub returns : goal.returns
-returns c =
+returns g c =
     let keep = is_in_part c.args.plan.now c.args.parts in
-    let a = c.args.texts.now in
-    let b = c.push_all.new.texts in
-    let d = c.push_sources.new.texts in
-    let e = c.push_all-2.new.texts in
+    let a = states_of g.W.Write.contents c.args.texts.now in
+    let b = states_of g.W.Write.contents c.push_all.new.texts in
+    let d = states_of g.W.Write.contents c.push_sources.new.texts in
+    let e = states_of g.W.Write.contents c.push_all-2.new.texts in
     let text : List SourceSpec → List (List (List Marked)) → ℕ → List ℕ = λ specs sources i. sources_text (zip specs (map (map (entries_left (keep i))) sources)) in
     let plan = c.args.plan.now in
     let input = c.args.input.now in

@@ -1,7 +1,8 @@
 use Rattle.part_texts.specs.InputTexts.{mark_entry}
 use Rattle.part_texts.specs.PartTexts.{with_text}
+use Rattle.part_texts.specs.Streams.{states_of}
 use Rattle.part_texts.proofs.Steps.{Done}
 use Rattle.part_texts.proofs.parts.push_marks.Given as goal
 
 abbrev pub invariant-loop-place : goal.invariant-loop-place
-invariant-loop-place l = Done (λ i p. with_text p (mark_entry l.time)) l.place l.fn.texts l.texts
+invariant-loop-place g l = Done (λ i p. with_text p (mark_entry l.time)) l.place (states_of g.W.Write.contents l.fn.texts) (states_of g.W.Write.contents l.texts)
