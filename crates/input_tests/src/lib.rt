@@ -1,4 +1,5 @@
-//! Tests of inputs and plans: which texts are read token by token, the codes of faults, and the bounds of watermarks.
+//! Tests of inputs and plans: which texts are read token by token, the codes of faults, the bounds of watermarks, and the
+//! slices of windows.
 #![tactic(auto)]
 
 #[cfg(test)]
@@ -9,3 +10,5 @@ mod made;
 mod plans;
 #[cfg(test)]
 mod refused;
+#[cfg(test)]
+mod slices;
