@@ -1,11 +1,12 @@
 -- The rows on all parts are those on the whole.
-use Rattle.std.proofs.Common.{◌≡◌, ◌≢◌, ℕ, zero, suc, ◌<◌, ◌≤◌, ◌*◌, ◌/◌, ℤ, Bool, List, [], ◌∷◌, ◌++◌, length, get_or, None, refl, sym, ap, ◌∙◌, arith, if◌then◌else◌}
+use Rattle.std.proofs.Common.{◌≡◌, ◌≢◌, ℕ, zero, suc, ◌<◌, ◌≤◌, ℤ, Bool, List, [], ◌∷◌, ◌++◌, length, get_or, None, refl, sym, ap, ◌∙◌, arith, if◌then◌else◌}
 use Rattle.std.specs.List.{filter, flat_map}
 use Rattle.std.specs.Option.{option_to_list}
 use Rattle.std.proofs.lemmas.Bool.{eq-eqb, ne_eqb}
 use Rattle.std.proofs.lemmas.List.{append-nil}
 use Rattle.std.proofs.lemmas.List.Elements.{filter-append}
-use Rattle.std.proofs.Math.Nat.{div-lt_iff_lt-mul, mod-lt, mul_comm, mul-lt-mul_of_pos_right}
+use Rattle.std.proofs.Math.Nat.{mod-lt}
+use Rattle.key_groups.proofs.Facts.{share_below}
 use Rattle.key_groups.specs.Groups.{key_group}
 use Rattle.plan_model.specs.PlanData.{PlanData}
 use Rattle.plan_model.specs.Rows.{row_is_at}
@@ -15,13 +16,8 @@ use Rattle.input_parts.specs.Laws.{RowsOfPartsAreAll}
 use Rattle.input_parts.proofs.Own.{parts_have_their_rows}
 
 -- a key stands in one of the parts
-owned : (max parts group : ℕ) → 1 ≤ max → 1 ≤ parts → group < max → (group * parts / max) < parts
-owned max parts group h k lt =
-    let more : group * parts < max * parts = mul-lt-mul_of_pos_right lt (omega arith) in
-    (div-lt_iff_lt-mul (omega arith)).1 (rw (mul_comm parts max) more)
-
 in_one : (plan : PlanData) (parts : ℕ) (key : ℤ) → 1 ≤ plan.max → 1 ≤ parts → part_of_key plan parts key < parts
-in_one plan parts key h k = owned plan.max parts (key_group plan.max key) h k (mod-lt _ (omega arith))
+in_one plan parts key h k = share_below (key_group plan.max key) parts plan.max (mod-lt _ (omega arith)) k
 
 nothing_in : {X : Type 0} (p : X → Bool) (lists : List (List X)) → ((i : ℕ) → i < length lists → filter p (get_or lists i []) ≡ []) → filter p (flat_map (λ l. l) lists) ≡ []
 nothing_in p [] h = refl

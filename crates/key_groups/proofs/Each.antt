@@ -13,7 +13,7 @@ each f xs ys long h = ext_get_or 0 ys (map f xs) (omega (arith, long, length-map
 pub masked : (n k : ℕ) → k ≤ 15 → bit_and n (1 * 2 ^ k % 4294967296 - 1) ≡ n % 2 ^ k
 masked n k h = ap (λ m. bit_and n (m - 1)) (one_shl k 32 (omega (arith, h))) ∙ and_mask n k
 
-share_below : (g par max : ℕ) → g < max → 1 ≤ par → g * par / max < par
+pub share_below : (g par max : ℕ) → g < max → 1 ≤ par → g * par / max < par
 share_below g par max h k =
     let more : (g + 1) * par ≤ max * par = mul-le (g + 1) par max par (omega (arith, h)) (omega arith) in
     (div-lt_iff_lt-mul (omega (arith, h))).1 (omega (arith, more, mul_comm par max, k))

@@ -34,7 +34,7 @@ fn hash_codes_into(keys: &[i64], codes: &mut [u32])
     }
 }
 
-// A division costs several times what all else of a group does, and most jobs have a power of two of them.
+// Most jobs have a power of two of key groups, and then the low bits of a hash are what a division leaves, and cost less.
 fn low_bits(hashes: &mut [u32], bits: u32)
     requires { bits ≤ 15 }
     ensures { hashes.new ≡ map (λ hash. hash % 2 ^ bits) hashes.old }

@@ -50,7 +50,7 @@ impl MaxParallelism {
         self.groups
     }
 
-    // How many bits tell the key groups apart, where they are as many as some bits tell apart.
+    // The number k of bits where the key groups are 2 to the k, and else none.
     pub(crate) fn whole_bits(self) -> Option<u32>
         ensures small { IfSome result (λ bits. bits ≤ 15) }
         ensures power { IfSome result (λ bits. 2 ^ bits ≡ self) }
