@@ -22,14 +22,12 @@ pub fn put_number(line: &mut [u8], end: usize, before: u8, number: i64) -> usize
     ensures written { drop result line.new ≡ (before ∷ signed_decimal number) ++ drop end line.old }
     ensures ascii { IsAscii (before ∷ signed_decimal number) }
 {
-    let start = write_digits(number.unsigned_abs(), line, end);
-    if number >= 0 {
-        line[start - 1] = before;
-        return start - 1;
-    }
-    line[start - 1] = b'-';
-    line[start - 2] = before;
-    start - 2
+    let digits = write_digits(number.unsigned_abs(), line, end);
+    // The byte before a number of no sign stands in place of the sign, so that no branch hangs on it.
+    line[digits - 1] = b'-';
+    let start = digits - 1 - usize::from(number < 0);
+    line[start] = before;
+    start
 }
 
 /// Writes a space and the number in decimal for each number, in order, so that they end at `end`, and answers where they start.
