@@ -1,2 +1,3 @@
 mod Orders
 mod Falling
+mod Tries

@@ -1,36 +1,49 @@
 //! A leg run to its end.
 
-ghost use Rattle.std.specs.Prelude.{◌≡◌, MatchOption, IfOk, OnOk, false};
-ghost use Rattle.dataflow_laws.specs.declared.step.Step.{Step};
+ghost use Rattle.std.specs.Prelude.{◌≡◌, IfOk, OnOk, false};
 ghost use Rattle.task_setups.specs.Legs.{IsLayoutOf};
-ghost use Rattle.core_steps.specs.Answers.{CanMake};
-ghost use Rattle.leg_runs.specs.Running.{HasRun};
+ghost use Rattle.leg_runs.specs.Running.{HasRun, IsTryOfAll};
 
-use crate::hints::{hinted, note};
+use crate::hints::{Hint, make_found, try_hint};
 use crate::order::step_from;
 use crate::schedule::{Schedule, other_end};
 use core_steps::World;
-use dataflow_laws::Step;
 use legs::Choice;
 use plan_compiler::Layout;
 use std::alloc::{AllocError, Global};
 
-/// The step of the newest hint that leads to one, or the first step of all where no hint does. Hints that lead to none are
-/// taken out.
-fn next_step(world: &World, layout: &Layout, hints: &mut Vec<Step>) -> Option<Step>
-    requires same { layout.now ≡ world.now.given.layout }
-    requires laid_out { IsLayoutOf world.now.given.plan layout.now }
-    requires going { world.now.has_failed ≡ false }
-    ensures { MatchOption result ((step : Step) → CanMake world.now step → ⊥) (λ step. CanMake world.now step) }
+/// Makes the first step of all, if there is one, and says whether.
+fn try_first(world: &mut World, layout: &Layout, hints: &mut Vec<Hint>) -> Result<bool, AllocError>
+    requires same { layout.now ≡ world.old.given.layout }
+    requires laid_out { IsLayoutOf world.old.given.plan layout.now }
+    requires going { world.old.has_failed ≡ false }
+    ensures given { world.new.given ≡ world.old.given }
+    ensures tries { IfOk result (IsTryOfAll world.old world.new) }
 {
     let _failed = world.has_failed();
+    let Some(step) = step_from(world, layout, 0) else {
+        return Ok(false);
+    };
+    make_found(world, layout, hints, step)?;
+    Ok(true)
+}
+
+/// Makes the step of the newest hint that leads to one, or the first step of all where no hint does, and says whether there is
+/// one. Hints that lead to none are taken out.
+fn try_any(world: &mut World, layout: &Layout, hints: &mut Vec<Hint>) -> Result<bool, AllocError>
+    requires same { layout.now ≡ world.old.given.layout }
+    requires laid_out { IsLayoutOf world.old.given.plan layout.now }
+    requires going { world.old.has_failed ≡ false }
+    ensures given { world.new.given ≡ world.old.given }
+    ensures tries { IfOk result (IsTryOfAll world.old world.new) }
+{
     while let Some(hint) = hints.last().copied() {
-        if let Some(step) = hinted(world, layout, hint) {
-            return Some(step);
+        if try_hint(world, layout, hints, hint)? {
+            return Ok(true);
         }
         let _ = hints.pop();
     }
-    step_from(world, layout, 0)
+    try_first(world, layout, hints)
 }
 
 /// Makes the step of each choice in turn, as long as there is one: of so many steps that could be made, in the order of tasks,
@@ -74,13 +87,9 @@ pub(crate) fn run(alloc: Global, world: &mut World, layout: &Layout) -> Result<(
     ensures has { IfOk result (λ _. HasRun world.old world.new) }
 {
     let mut hints = Vec::new(alloc);
-    while let Some(step) = next_step(world, layout, &mut hints) {
+    let _failed = world.has_failed();
+    while try_any(world, layout, &mut hints)? {
         let _failed = world.has_failed();
-        note(&mut hints, world, layout, step)?;
-        match world.apply(step) {
-            Ok(()) => {}
-            Err(_) => return Err(AllocError),
-        }
     }
     let _finished = world.is_finished();
     Ok(())

@@ -1,20 +1,24 @@
-use Rattle.std.proofs.Common.{inl, inr}
+use Rattle.std.proofs.Common.{inl, inr, rules, subst, ◌∙◌}
 use Rattle.std.proofs.lemmas.Bool.{cases_Bool}
-use Rattle.leg_runs.proofs.Orders.{missed}
+use Rattle.core_steps.specs.World.{WorldData}
+use Rattle.core_steps.specs.Answers.{CanMake}
 use Rattle.leg_runs.proofs.Falling.{step_falls}
 use Rattle.leg_runs.proofs.running.run.Goals as goal
 
-pub loop-step-smaller : goal.loop-step-smaller
-loop-step-smaller c = step_falls c.loop-step.world c.apply.new.self c.in-Some.step c.has_failed-failed.ensures.sound c.loop-step.invariant.1 c.in-Ok.ensures.2 c.in-Ok.ensures.3
+pub loop-hints-smaller : goal.loop-hints-smaller
+loop-hints-smaller c =
+    let moved = c.in_ok-try_any.ensures.tries.moved (search rules) in
+    step_falls c.loop-hints.world c.try_any.new.world moved.step c.loop-hints.invariant.sound c.loop-hints.invariant.going c.try_any.ensures.given moved.leads
 
 pub returns-clause-has : goal.returns-clause-has
 returns-clause-has c =
-    let none = missed _ c.next_step.result c.in_default.not-Some c.next_step.ensures in
+    let tries = c.in_ok-try_any.ensures.tries in
     record {
-      given = c.loop-step.invariant.0;
-      going = c.loop-step.invariant.1;
+      given = c.try_any.ensures.given ∙ c.loop-hints.invariant.given;
+      going = tries.going;
       finished = elim (cases_Bool c.is_finished-finished.result) [
         | inl done ↦ c.is_finished-finished.ensures.done.0 done
-        | inr open_still ↦ (let next = c.is_finished-finished.ensures.goes_on open_still c.loop-step.invariant.1 in absurd (none next.0 next.1))
+        | inr open_still ↦ (let next = c.is_finished-finished.ensures.goes_on open_still tries.going in
+            absurd (tries.none (search rules) next.0 (subst (λ (w : WorldData). CanMake w next.0) (tries.kept (search rules)) next.1)))
       ];
     }

@@ -1,11 +1,11 @@
 use Rattle.std.proofs.Common.{◌≡◌, false}
 use Rattle.dataflow_laws.specs.Measure.{world_cost}
 use Rattle.core_steps.specs.Given.{layout_in}
-use Rattle.core_steps.specs.World.{world_in}
+use Rattle.core_steps.specs.World.{world_in, IsWorld}
 use Rattle.leg_runs.proofs.running.run.Given as goal
 
-abbrev pub invariant-loop-step : goal.invariant-loop-step
-invariant-loop-step l = (l.world.given ≡ l.fn.world.given) × (l.world.has_failed ≡ false)
+abbrev pub invariant-loop-hints : goal.invariant-loop-hints
+invariant-loop-hints l = record { given : l.world.given ≡ l.fn.world.given; going : l.world.has_failed ≡ false; sound : IsWorld l.world }
 
-abbrev pub decreases-loop-step : goal.decreases-loop-step
-decreases-loop-step l = world_cost (layout_in l.world.given) (world_in l.world)
+abbrev pub decreases-loop-hints : goal.decreases-loop-hints
+decreases-loop-hints l = world_cost (layout_in l.world.given) (world_in l.world)
