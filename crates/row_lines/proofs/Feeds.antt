@@ -6,6 +6,7 @@ use Rattle.std.specs.Int.{IsInRange}
 use Rattle.std.specs.List.{All, flat_map}
 use Rattle.std.specs.Io.KnownBytes.{Consumes}
 use Rattle.std.specs.Str.Parse.{AllDigits}
+use Rattle.std.proofs.lemmas.Bool.{false≢true}
 use Rattle.std.proofs.lemmas.Fmt.{decimal_is_IsNumeral_wide, length_signed_le}
 use Rattle.std.proofs.lemmas.List.{get_or-take, length-take}
 use Rattle.std.proofs.lemmas.List.Concat.{flat_map-cons}
@@ -17,9 +18,10 @@ use Rattle.plan_model.specs.declared.spec.Row.{Row}
 use Rattle.plan_model.specs.Rows.{pane_of}
 use Rattle.row_lines.specs.Text.{spaced, text_of_row}
 use Rattle.row_lines.specs.Numbers.{text_of_numbers}
-use Rattle.row_lines.specs.Rows.{IsRow, numbers_in}
+use Rattle.row_lines.specs.Rows.{IsRow, numbers_in, place_of}
 use Rattle.row_lines.specs.Lines.{IsOneLine, line_in}
-use Rattle.row_lines.specs.Sequences.{has_width, is_after, rows_left, width_of, last_of, lines_of, HasNoRow, HasEarlyRow, Takes, IsNext}
+use Rattle.row_lines.specs.Sequences.{has_width, is_after, rows_left, width_of, last_of, lines_of, HasNoRow, HasEarlyRow, IsLine, MayTake, Takes, IsNext}
+use Rattle.row_lines.specs.declared.place.RowPlace.{RowPlace}
 use Rattle.row_lines.specs.declared.rows.RowLines.{RowLines}
 use Rattle.row_lines.specs.declared.rows.RowsFault.{RowsFault}
 use Rattle.row_lines.specs.declared.rows.RowsFault.TheVariants as fault
@@ -142,15 +144,29 @@ early_row width last None new line takes row is wide early same = tt
 early_row width last (Some xs) None line takes row is wide early same = absurd takes
 early_row width last (Some xs) (Some ys) line takes row is wide early same = (row, ys, is, wide, early, takes ∙ ap (λ l. (l ++ 10 ∷ []) ++ ys) same)
 
-pub next_refused : {R : Type 0} (remaining : R → Option (List ℕ)) (old mid new : RowLines R) (f : RowsFault) → width_of mid ≡ width_of old → last_of mid ≡ last_of old
-    → Consumes (rows_left remaining old) (rows_left remaining mid) (line_in (lines_of mid) ++ 10 ∷ []) × IsOneLine (line_in (lines_of mid))
-    → Takes mid new (Err f) → IsNext remaining old new (Err f)
-next_refused remaining old mid new fault.Read w l step takes = absurd takes
-next_refused remaining old mid new fault.Memory w l step takes = tt
-next_refused remaining old mid new fault.Line w l step takes =
-    no_row_there (width_of old) (rows_left remaining old) (rows_left remaining mid) (line_in (lines_of mid)) step.0 step.1
-    (λ row is wide. takes row is (ap (λ o. has_width o (length row.values)) w ∙ wide))
-next_refused remaining old mid new fault.Order w l step takes =
-    let wide : has_width (width_of old) (length takes.0.values) ≡ true = ap (λ o. has_width o (length takes.0.values)) (sym w) ∙ takes.2 in
-    let early : is_after (last_of old) (pane_of takes.0) ≡ false = ap (λ o. is_after o (pane_of takes.0)) (sym l) ∙ takes.3 in
-    early_row (width_of old) (last_of old) (rows_left remaining old) (rows_left remaining mid) (line_in (lines_of mid)) step.0 takes.0 takes.1 wide early takes.4
+pub next_refused : {R : Type 0} (remaining : R → Option (List ℕ)) (old mid new : RowLines R) (f : RowsFault) → IsLine remaining old mid → Takes mid new (Err f) → IsNext remaining old new (Err f)
+next_refused remaining old mid new fault.Read line takes = absurd takes
+next_refused remaining old mid new fault.Memory line takes = tt
+next_refused remaining old mid new fault.Line line takes =
+    no_row_there (width_of old) (rows_left remaining old) (rows_left remaining mid) (line_in (lines_of mid)) line.text line.one
+    (λ row is wide. takes row is (ap (λ o. has_width o (length row.values)) line.width ∙ wide))
+next_refused remaining old mid new fault.Order line takes =
+    let wide : has_width (width_of old) (length takes.0.values) ≡ true = ap (λ o. has_width o (length takes.0.values)) (sym line.width) ∙ takes.2 in
+    let early : is_after (last_of old) (pane_of takes.0) ≡ false = ap (λ o. is_after o (pane_of takes.0)) (sym line.last) ∙ takes.3 in
+    early_row (width_of old) (last_of old) (rows_left remaining old) (rows_left remaining mid) (line_in (lines_of mid)) line.text takes.0 takes.1 wide early takes.4
+
+-- a row that may not stand there
+pub take_refused : {R : Type 0} (old new : RowLines R) (row : Row) (place : RowPlace) (f : RowsFault) → IsRow row → line_in (lines_of old) ≡ text_of_row row → place ≡ place_of row → MayTake old new place (Err f) → Takes old new (Err f)
+take_refused old new row place fault.Read is line at may = absurd may
+take_refused old new row place fault.Memory is line at may = absurd may
+take_refused old new row place fault.Line is line at may = λ other other_is wide other_line.
+    let same : length other.values ≡ length row.values = same_width (line_in (lines_of old)) other row other_is is other_line line in
+    let found : has_width (width_of old) place.width ≡ true = ap (λ (p : RowPlace). has_width (width_of old) p.width) at ∙ ap (λ n. has_width (width_of old) n) (sym same) ∙ wide in
+    false≢true (sym may ∙ found)
+take_refused old new row place fault.Order is line at may = (
+  row,
+  is,
+  ap (λ (p : RowPlace). has_width (width_of old) p.width) (sym at) ∙ may.0,
+  ap (λ (p : RowPlace). is_after (last_of old) p.pane) (sym at) ∙ may.1,
+  line,
+)

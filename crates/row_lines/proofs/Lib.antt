@@ -1,5 +1,6 @@
 pub mod Parses
 pub mod Sizes
+pub mod Fronts
 pub mod Parts
 pub mod Texts
 pub mod Places

@@ -1,10 +1,17 @@
 -- Numbers, as they are printed.
-use Rattle.std.specs.Prelude.{◌≡◌, ◌≢◌, ℕ, ℤ, ◌<◌, ◌≤◌, List, map, length, Option, Some, None, FitsSigned}
-use Rattle.std.specs.Int.{w128}
-use Rattle.std.specs.List.{All, join_with_byte}
+use Rattle.std.specs.Prelude.{◌≡◌, ◌≢◌, ℕ, ℤ, ◌^◌, ◌<◌, ◌≤◌, List, map, length, Option, Some, None, FitsSigned}
+use Rattle.std.specs.Int.{w64, w128}
+use Rattle.std.specs.List.{All, flat_map, join_with_byte}
 use Rattle.std.specs.Fmt.{signed_decimal}
+use Rattle.std.specs.Str.Parse.{AllDigits, digits_value}
+use Rattle.row_lines.specs.Text.{spaced}
 use Rattle.arrayvec.specs.ArrayVec.{ArrayVec}
+use Rattle.plan_model.specs.declared.limits.TheConstants.{MOST_AGGREGATES}
 use Rattle.row_lines.specs.declared.row.TheConstants.{MOST_NUMBERS}
+
+-- digits write a number of 64 bits without a sign
+abbrev pub IsSizeOf : List ℕ → ℕ → Type 0
+IsSizeOf digits size = AllDigits 10 digits × (size ≡ digits_value 10 digits) × (size < 2 ^ 64)
 
 -- the text is how this number of 128 bits is printed, or that of no such number
 abbrev pub GivesNumber : List ℕ → Option ℤ → Type 0
@@ -25,3 +32,11 @@ pub record AreNumbers (numbers : List ℤ) : Type 0 where
 abbrev pub GivesNumbers : List ℕ → Option (ArrayVec ℤ) → Type 0
 GivesNumbers text (Some numbers) = AreNumbers numbers.items × (text ≡ text_of_numbers numbers.items)
 GivesNumbers text None = (numbers : List ℤ) → AreNumbers numbers → text ≢ text_of_numbers numbers
+
+-- a text is of so many numbers of 64 bits that a row can have, each behind a space
+pub record AreSpaced (text : List ℕ) (count : ℕ) : Type 0 where
+  pub numbers : List ℤ
+  pub count_is : length numbers ≡ count
+  pub few : count ≤ MOST_AGGREGATES
+  pub fit : All (FitsSigned w64) numbers
+  pub is : text ≡ flat_map spaced numbers

@@ -4,8 +4,10 @@ use Rattle.std.specs.Int.{w64, w128}
 use Rattle.std.specs.List.{All}
 use Rattle.plan_model.specs.declared.limits.TheConstants.{MOST_AGGREGATES}
 use Rattle.plan_model.specs.declared.spec.Row.{Row}
+use Rattle.plan_model.specs.Rows.{pane_of}
 use Rattle.row_lines.specs.Text.{text_of_row}
 use Rattle.row_lines.specs.Numbers.{AreNumbers}
+use Rattle.row_lines.specs.declared.place.RowPlace.{RowPlace}
 
 -- what every row meets: a start, an end and a key of 64 bits, and 1 to 8 numbers of 128
 pub record IsRow (row : Row) : Type 0 where
@@ -29,3 +31,19 @@ GivesRowOf numbers None = (row : Row) → IsRow row → numbers ≢ numbers_in r
 abbrev pub GivesRow : List ℕ → Option Row → Type 0
 GivesRow line (Some row) = IsRow row × (line ≡ text_of_row row)
 GivesRow line None = (row : Row) → IsRow row → line ≢ text_of_row row
+
+-- where a row stands, and how many numbers it has
+abbrev pub place_of : Row → RowPlace
+place_of row = record { pane = pane_of row; width = length row.values }
+
+-- the line is that of a row at this place
+pub record IsPlaceOf (line : List ℕ) (place : RowPlace) : Type 0 where
+  pub row : Row
+  pub is : IsRow row
+  pub line_is : line ≡ text_of_row row
+  pub place_is : place ≡ place_of row
+
+-- the place of the row whose line this is, without its line feed, or that it is of none
+abbrev pub GivesPlace : List ℕ → Option RowPlace → Type 0
+GivesPlace line (Some place) = IsPlaceOf line place
+GivesPlace line None = GivesRow line None

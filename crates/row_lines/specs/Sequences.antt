@@ -6,9 +6,10 @@ use Rattle.plan_model.specs.declared.spec.Pane.{Pane}
 use Rattle.plan_model.specs.declared.spec.Row.{Row}
 use Rattle.plan_model.specs.Rows.{pane_of, pane_cmp}
 use Rattle.row_lines.specs.Text.{text_of_row, line_of}
-use Rattle.row_lines.specs.Rows.{IsRow}
-use Rattle.row_lines.specs.Lines.{lines_left, line_in}
+use Rattle.row_lines.specs.Rows.{IsRow, place_of}
+use Rattle.row_lines.specs.Lines.{lines_left, line_in, IsOneLine}
 use Rattle.row_lines.specs.declared.lines.Lines.{Lines}
+use Rattle.row_lines.specs.declared.place.RowPlace.{RowPlace}
 use Rattle.row_lines.specs.declared.rows.RowLines.{RowLines}
 use Rattle.row_lines.specs.declared.rows.RowsFault.{RowsFault}
 use Rattle.row_lines.specs.declared.rows.RowsFault.TheVariants as fault
@@ -63,6 +64,7 @@ pub record IsRead {R : Type 0} (remaining : R → Option (List ℕ)) (old new : 
   pub text : Consumes (rows_left remaining old) (rows_left remaining new) (line_of row)
   pub width : width_of new ≡ Some (length row.values)
   pub last : last_of new ≡ Some (pane_of row)
+  pub line : line_in (lines_of new) ≡ text_of_row row
 
 -- the next row, or that there is none, or why it is refused
 abbrev pub IsNext : {R : Type 0} → (R → Option (List ℕ)) → RowLines R → RowLines R → Result (Option Row) RowsFault → Type 0
@@ -72,6 +74,25 @@ IsNext remaining old new (Err fault.Line) = IfSome (rows_left remaining old) (Ha
 IsNext remaining old new (Err fault.Order) = IfSome (rows_left remaining old) (HasEarlyRow (width_of old) (last_of old))
 IsNext remaining old new (Err fault.Read) = Unit {0}
 IsNext remaining old new (Err fault.Memory) = Unit {0}
+
+-- the place of the next row, which was read, or that there is none, or why it is refused
+abbrev pub IsNextPlace : {R : Type 0} → (R → Option (List ℕ)) → RowLines R → RowLines R → Result (Option RowPlace) RowsFault → Type 0
+IsNextPlace remaining old new (Ok (Some place)) = (row : Row) × IsRead remaining old new row × (place ≡ place_of row)
+IsNextPlace remaining old new (Ok None) = IsAtEnd (rows_left remaining old)
+IsNextPlace remaining old new (Err f) = IsNext remaining old new (Err f)
+
+-- a line was read
+pub record IsLine {R : Type 0} (remaining : R → Option (List ℕ)) (old new : RowLines R) : Type 0 where
+  pub text : Consumes (rows_left remaining old) (rows_left remaining new) (line_in (lines_of new) ++ 10 ∷ [])
+  pub one : IsOneLine (line_in (lines_of new))
+  pub width : width_of new ≡ width_of old
+  pub last : last_of new ≡ last_of old
+
+-- the next line, or that there is none, or why there is no row
+abbrev pub IsNextLine : {R : Type 0} → (R → Option (List ℕ)) → RowLines R → RowLines R → Result Bool RowsFault → Type 0
+IsNextLine remaining old new (Ok true) = IsLine remaining old new
+IsNextLine remaining old new (Ok false) = IsAtEnd (rows_left remaining old)
+IsNextLine remaining old new (Err f) = IsNext remaining old new (Err f)
 
 -- the line that was looked at is counted
 abbrev pub counted : ℕ → ℕ
@@ -84,6 +105,30 @@ IsCounted old new (Err fault.Line) = line_number new ≡ counted (line_number ol
 IsCounted old new (Err fault.Order) = line_number new ≡ counted (line_number old)
 IsCounted old new (Err fault.Read) = line_number new ≡ line_number old
 IsCounted old new (Err fault.Memory) = Unit {0}
+
+abbrev pub IsPlaceCounted : {R : Type 0} → RowLines R → RowLines R → Result (Option RowPlace) RowsFault → Type 0
+IsPlaceCounted old new (Ok (Some place)) = line_number new ≡ counted (line_number old)
+IsPlaceCounted old new (Ok None) = line_number new ≡ line_number old
+IsPlaceCounted old new (Err f) = IsCounted old new (Err f)
+
+abbrev pub IsLineCounted : {R : Type 0} → RowLines R → RowLines R → Result Bool RowsFault → Type 0
+IsLineCounted old new (Ok true) = line_number new ≡ counted (line_number old)
+IsLineCounted old new (Ok false) = line_number new ≡ line_number old
+IsLineCounted old new (Err f) = IsCounted old new (Err f)
+
+-- a row at a place is the last one, or why it is refused
+pub record IsLast {R : Type 0} (old new : RowLines R) (place : RowPlace) : Type 0 where
+  pub wide : has_width (width_of old) place.width ≡ true
+  pub after : is_after (last_of old) place.pane ≡ true
+  pub width : width_of new ≡ Some place.width
+  pub last : last_of new ≡ Some place.pane
+
+abbrev pub MayTake : {R : Type 0} → RowLines R → RowLines R → RowPlace → Result (Unit {0}) RowsFault → Type 0
+MayTake old new place (Ok done) = IsLast old new place
+MayTake old new place (Err fault.Line) = has_width (width_of old) place.width ≡ false
+MayTake old new place (Err fault.Order) = (has_width (width_of old) place.width ≡ true) × (is_after (last_of old) place.pane ≡ false)
+MayTake old new place (Err fault.Read) = ⊥
+MayTake old new place (Err fault.Memory) = ⊥
 
 -- the row of the line, or why it is refused
 pub record IsTaken {R : Type 0} (old new : RowLines R) (row : Row) : Type 0 where
@@ -101,6 +146,10 @@ Takes old new (Err fault.Order) =
     (row : Row) × IsRow row × (has_width (width_of old) (length row.values) ≡ true) × (is_after (last_of old) (pane_of row) ≡ false) × (line_in (lines_of old) ≡ text_of_row row)
 Takes old new (Err fault.Read) = ⊥
 Takes old new (Err fault.Memory) = Unit {0}
+
+abbrev pub TakesPlace : {R : Type 0} → RowLines R → RowLines R → Result RowPlace RowsFault → Type 0
+TakesPlace old new (Ok place) = (row : Row) × IsTaken old new row × (place ≡ place_of row)
+TakesPlace old new (Err f) = Takes old new (Err f)
 
 -- a fault of reading
 abbrev pub IsReadFault : RowsFault → Type 0

@@ -3,12 +3,14 @@
 
 mod lines;
 mod number;
+mod place;
 mod row;
 mod rows;
 mod text;
 
 pub use lines::LONGEST_LINE;
 pub use number::number_of;
+pub use place::RowPlace;
 pub use row::read_row;
 pub use rows::{RowLines, RowsFault};
 pub use text::{push_decimal, push_head, push_line, push_spaced};

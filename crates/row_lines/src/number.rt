@@ -1,20 +1,12 @@
 //! Numbers in decimal, as rows have them.
 
-ghost use Rattle.std.specs.Prelude.{◌≡◌, ◌+◌, ◌*◌, ◌^◌, ◌<◌, ◌∷◌, FitsSigned, IfSome, IsTrue, SomeIff, length, slice_index};
+ghost use Rattle.std.specs.Prelude.{◌≡◌, ◌+◌, ◌*◌, ◌^◌, ◌<◌, ◌≤◌, ◌∷◌, ◌++◌, FitsSigned, IfSome, IsTrue, SomeIff, length, take, slice_index};
 ghost use Rattle.std.specs.Int.{w64};
 ghost use Rattle.std.specs.Fmt.{decimal, signed_decimal};
-ghost use Rattle.row_lines.specs.Numbers.{GivesNumber};
+ghost use Rattle.row_lines.specs.Numbers.{GivesNumber, IsSizeOf};
 
 use itoa::Buffer;
 use std::str;
-
-/// Whether there are digits, and no zero stands before others.
-fn are_plain(digits: &[u8]) -> bool
-    ensures some { IsTrue result → 0 < length digits.now }
-    ensures zero { IsTrue result → slice_index digits.now 0 ≡ 48 → length digits.now ≡ 1 }
-{
-    !digits.is_empty() && (digits[0] != b'0' || digits.len() == 1)
-}
 
 /// A number with one digit more, where 64 bits without a sign hold it.
 fn with_digit(number: u64, digit: u8) -> Option<u64>
@@ -24,44 +16,80 @@ fn with_digit(number: u64, digit: u8) -> Option<u64>
     tens.checked_add(u64::from(digit))
 }
 
-/// The number of 64 bits without a sign that is printed so. Of other texts, and of longer ones, there is none.
-fn size_of(digits: &[u8]) -> Option<u64>
-    ensures { IfSome result (λ size. (size < 2 ^ 64) × (digits.now ≡ decimal size)) }
+/// Whether there are digits, and no zero stands before others.
+fn are_plain(digits: &[u8]) -> bool
+    ensures some { IsTrue result → 0 < length digits.now }
+    ensures zero { IsTrue result → slice_index digits.now 0 ≡ 48 → length digits.now ≡ 1 }
 {
-    if !are_plain(digits) {
-        return None;
+    !digits.is_empty() && (digits[0] != b'0' || digits.len() == 1)
+}
+
+/// The number of so many digits in front of a text, and what stands behind them, if no zero stands before others.
+fn with_rest(size: u64, text: &[u8], count: usize) -> Option<(u64, &[u8])>
+    requires within { count ≤ length text.now }
+    requires size { IsSizeOf (take count text.now) size }
+    ensures { IfSome result (λ front. (front.0 < 2 ^ 64) × (text.now ≡ decimal front.0 ++ front.1.now)) }
+{
+    let (digits, rest) = text.split_at(count);
+    if are_plain(digits) {
+        Some((size, rest))
+    } else {
+        None
     }
+}
+
+/// The number of 64 bits without a sign that is printed in front of a text, and what stands behind its digits.
+fn size_front(text: &[u8]) -> Option<(u64, &[u8])>
+    ensures { IfSome result (λ front. (front.0 < 2 ^ 64) × (text.now ≡ decimal front.0 ++ front.1.now)) }
+{
     let mut size = 0;
-    for at in 0..digits.len() {
-        let byte = digits[at];
+    for at in 0..text.len() {
+        let byte = text[at];
         if !byte.is_ascii_digit() {
-            return None;
+            return with_rest(size, text, at);
         }
         let Some(longer) = with_digit(size, byte - b'0') else {
             return None;
         };
         size = longer;
     }
-    Some(size)
+    with_rest(size, text, text.len())
 }
 
-/// The number of 64 bits below zero that is printed as a hyphen and these digits.
-fn negative_of(digits: &[u8]) -> Option<i64>
-    ensures { IfSome result (λ z. FitsSigned w64 z × (45 ∷ digits.now ≡ signed_decimal z)) }
+/// The number of 64 bits below zero that is printed as a hyphen and the digits in front of a text, and what stands behind them.
+fn negative_front(digits: &[u8]) -> Option<(i64, &[u8])>
+    ensures { IfSome result (λ front. FitsSigned w64 front.0 × (45 ∷ digits.now ≡ signed_decimal front.0 ++ front.1.now)) }
 {
-    match size_of(digits) {
-        None | Some(0) => None,
-        Some(size) => 0i64.checked_sub_unsigned(size),
+    match size_front(digits) {
+        None | Some((0, _)) => None,
+        Some((size, rest)) => match 0i64.checked_sub_unsigned(size) {
+            Some(number) => Some((number, rest)),
+            None => None,
+        },
     }
 }
 
-/// The number of 64 bits from zero on that is printed so.
-fn positive_of(digits: &[u8]) -> Option<i64>
-    ensures { IfSome result (λ z. FitsSigned w64 z × (digits.now ≡ signed_decimal z)) }
+/// The number of 64 bits from zero on that is printed in front of a text, and what stands behind it.
+fn positive_front(text: &[u8]) -> Option<(i64, &[u8])>
+    ensures { IfSome result (λ front. FitsSigned w64 front.0 × (text.now ≡ signed_decimal front.0 ++ front.1.now)) }
 {
-    match size_of(digits) {
+    match size_front(text) {
         None => None,
-        Some(size) => 0i64.checked_add_unsigned(size),
+        Some((size, rest)) => match 0i64.checked_add_unsigned(size) {
+            Some(number) => Some((number, rest)),
+            None => None,
+        },
+    }
+}
+
+/// The number of 64 bits that is printed in front of a text, and what stands behind its digits. Of a text of another number, or
+/// of none, there is none.
+pub(crate) fn narrow_front(text: &[u8]) -> Option<(i64, &[u8])>
+    ensures { IfSome result (λ front. FitsSigned w64 front.0 × (text.now ≡ signed_decimal front.0 ++ front.1.now)) }
+{
+    match text.split_first() {
+        Some((first, digits)) if *first == b'-' => negative_front(digits),
+        _ => positive_front(text),
     }
 }
 
@@ -69,9 +97,9 @@ fn positive_of(digits: &[u8]) -> Option<i64>
 fn narrow_of(text: &[u8]) -> Option<i64>
     ensures { IfSome result (λ z. FitsSigned w64 z × (text.now ≡ signed_decimal z)) }
 {
-    match text.split_first() {
-        Some((first, digits)) if *first == b'-' => negative_of(digits),
-        _ => positive_of(text),
+    match narrow_front(text) {
+        Some((number, rest)) if rest.is_empty() => Some(number),
+        _ => None,
     }
 }
 

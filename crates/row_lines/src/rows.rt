@@ -3,6 +3,7 @@
 ghost use Rattle.row_lines.specs.Sequences.{IsReadFault};
 
 use crate::lines::{Lines, ReadFault, Step};
+use crate::place::{RowPlace, place_of, read_place};
 use crate::row::read_row;
 use plan_model::{Pane, Row};
 use std::alloc::{AllocError, Global};
@@ -54,7 +55,8 @@ pub struct RowLines<R> {
 
 impl<R: Read + Drop> RowLines<R> {
     ghost use Rattle.std.specs.Prelude.{◌≡◌, None, IfOk};
-    ghost use Rattle.row_lines.specs.Sequences.{rows_left, line_number, width_of, last_of, lines_of, has_width, is_after, IsNext, IsCounted, Takes};
+    ghost use Rattle.row_lines.specs.Lines.{line_in};
+    ghost use Rattle.row_lines.specs.Sequences.{rows_left, line_number, width_of, last_of, lines_of, has_width, is_after, IsNext, IsNextLine, IsNextPlace, IsCounted, IsLineCounted, IsPlaceCounted, MayTake, Takes, TakesPlace};
 
     /// The rows of all that a reader gives. Each has `width` numbers of aggregates, where that is told.
     ///
@@ -110,6 +112,29 @@ impl<R: Read + Drop> RowLines<R> {
         }
     }
 
+    /// The line that was looked at last, without its line feed.
+    pub fn line(&self) -> &[u8]
+        ensures { result.now ≡ line_in (lines_of self.now) }
+    {
+        self.lines.line()
+    }
+
+    /// Takes a row at a place for the last one, if it may stand there.
+    fn take(&mut self, place: RowPlace) -> Result<(), RowsFault>
+        ensures takes { MayTake self.old self.new place result }
+        ensures lines { lines_of self.new ≡ lines_of self.old }
+        ensures number { line_number self.new ≡ line_number self.old }
+    {
+        if !self.has_width(place.width) {
+            return Err(RowsFault::Line);
+        }
+        if !self.is_after(place.pane) {
+            return Err(RowsFault::Order);
+        }
+        self.width = Some(place.width);
+        self.last = Some(place.pane);
+        Ok(())
+    }
     /// The row of the line.
     fn take_row(&mut self) -> Result<Row, RowsFault>
         ensures takes { Takes self.old self.new result }
@@ -119,20 +144,42 @@ impl<R: Read + Drop> RowLines<R> {
         let Some(row) = read_row(self.alloc, self.lines.line())? else {
             return Err(RowsFault::Line);
         };
-        let width = row.values.len();
-        if !self.has_width(width) {
+        match self.take(place_of(&row)) {
+            Ok(()) => Ok(row),
+            Err(fault) => Err(fault),
+        }
+    }
+
+    /// The place of the row of the line.
+    fn take_place(&mut self) -> Result<RowPlace, RowsFault>
+        ensures takes { TakesPlace self.old self.new result }
+        ensures lines { lines_of self.new ≡ lines_of self.old }
+        ensures number { line_number self.new ≡ line_number self.old }
+    {
+        let Some(place) = read_place(self.alloc, self.lines.line())? else {
             return Err(RowsFault::Line);
-        }
-        let pane = Pane {
-            start: row.start,
-            key: row.key,
         };
-        if !self.is_after(pane) {
-            return Err(RowsFault::Order);
+        match self.take(place) {
+            Ok(()) => Ok(place),
+            Err(fault) => Err(fault),
         }
-        self.width = Some(width);
-        self.last = Some(pane);
-        Ok(row)
+    }
+
+    /// Goes on to the next line, which is counted, and tells whether there is one.
+    fn next_line(&mut self) -> Result<bool, RowsFault>
+        ensures next { IsNextLine R.remaining self.old self.new result }
+        ensures number { IsLineCounted self.old self.new result }
+    {
+        match self.lines.advance() {
+            Ok(Step::End) => return Ok(false),
+            Ok(Step::NoLine) => {
+                self.number = self.number.saturating_add(1);
+                return Err(RowsFault::Line);
+            }
+            Ok(Step::Line) => self.number = self.number.saturating_add(1),
+            Err(fault) => return Err(read_fault(fault)),
+        }
+        Ok(true)
     }
 
     /// Goes on to the next row, if there is one.
@@ -144,17 +191,33 @@ impl<R: Read + Drop> RowLines<R> {
         ensures next { IsNext R.remaining self.old self.new result }
         ensures number { IsCounted self.old self.new result }
     {
-        match self.lines.advance() {
-            Ok(Step::End) => return Ok(None),
-            Ok(Step::NoLine) => {
-                self.number = self.number.saturating_add(1);
-                return Err(RowsFault::Line);
-            }
-            Ok(Step::Line) => self.number = self.number.saturating_add(1),
-            Err(fault) => return Err(read_fault(fault)),
+        match self.next_line() {
+            Ok(true) => {}
+            Ok(false) => return Ok(None),
+            Err(fault) => return Err(fault),
         }
         match self.take_row() {
             Ok(row) => Ok(Some(row)),
+            Err(fault) => Err(fault),
+        }
+    }
+
+    /// Goes on to the next row, if there is one, and tells no more of it than its place. Its text is then the `line`.
+    ///
+    /// # Errors
+    ///
+    /// `Line`, then `Order`; `Read`; `Memory`.
+    pub fn advance_place(&mut self) -> Result<Option<RowPlace>, RowsFault>
+        ensures next { IsNextPlace R.remaining self.old self.new result }
+        ensures number { IsPlaceCounted self.old self.new result }
+    {
+        match self.next_line() {
+            Ok(true) => {}
+            Ok(false) => return Ok(None),
+            Err(fault) => return Err(fault),
+        }
+        match self.take_place() {
+            Ok(place) => Ok(Some(place)),
             Err(fault) => Err(fault),
         }
     }
