@@ -1,8 +1,7 @@
 -- Rows of several texts that are passed one by one, and all of them together.
-use Rattle.std.proofs.Common.{◌≡◌, ◌⊎◌, ℕ, zero, suc, ◌+◌, ◌<◌, inl, inr, option_map, true, List, [], ◌∷◌, ◌++◌, length, get_or, set, map, Option, Some, None, Ok, refl, sym, ap, subst, ◌∙◌, append_assoc, append-nil, arith}
-use Rattle.std.specs.Prelude.{IfSome, IsSome}
-use Rattle.std.specs.Option.{option_to_list}
-use Rattle.std.specs.Io.KnownBytes.{Appends}
+use Rattle.std.proofs.Common.{◌≡◌, ◌⊎◌, ℕ, zero, suc, ◌+◌, ◌<◌, inl, inr, option_map, cond, true, List, [], ◌∷◌, ◌++◌, length, get_or, set, map, Option, Some, None, Ok, refl, sym, ap, subst, ◌∙◌, append_assoc, append-nil, arith}
+use Rattle.std.specs.Prelude.{IfSome, IsSome, is_some}
+use Rattle.std.specs.Io.KnownBytes.{Appends, Consumes}
 use Rattle.std.proofs.lemmas.Bool.{cases_lt}
 use Rattle.std.specs.List.{All, AllZip}
 use Rattle.std.specs.List.Sorted.{IsPermutation}
@@ -12,19 +11,66 @@ use Rattle.std.proofs.lemmas.List.Sorted.{IsPermutation-refl, IsPermutation-tran
 use Rattle.plan_model.specs.declared.spec.Pane.{Pane}
 use Rattle.plan_model.specs.declared.spec.Row.{Row}
 use Rattle.plan_model.specs.Rows.{pane_of}
-use Rattle.row_lines.specs.Text.{line_of, text_of_rows}
-use Rattle.row_lines.specs.Sequences.{has_width, is_after, AreRows, IsNext}
+use Rattle.row_lines.specs.Lines.{line_in}
+use Rattle.row_lines.specs.Text.{text_of_row, line_of, text_of_rows}
+use Rattle.row_lines.specs.Rows.{IsRow}
+use Rattle.row_lines.specs.Sequences.{has_width, is_after, rows_left, width_of, last_of, lines_of, AreRows, IsRead, IsNext, IsNextPlace}
+use Rattle.row_lines.specs.declared.place.RowPlace.{RowPlace}
 use Rattle.row_lines.specs.declared.rows.RowLines.{RowLines}
-use Rattle.row_changes.specs.Merging.{AreLeft, IsBehind, IsAtHand}
-use Rattle.row_changes.proofs.Merges.{passed, next_at_hand}
-use Rattle.row_merges.specs.Merges.{IsRowsText, rows_in, MergesRows, IsOpened, AreAllLeft, AreBehind, AreAllBehind, HoldsTexts, HasRowAt, IsAdmitted, AreBefore, Steps, NothingLeft}
+use Rattle.row_changes.specs.Merging.{IsTextOf, AreLeft}
+use Rattle.row_changes.proofs.Merges.{behind_of, passed}
+use Rattle.row_merges.specs.Merges.{IsRowsText, rows_in, MergesRows, AreLeftAt, IsLastRead, IsReadAt, IsOpened, AreAllLeft, AreBehind, AreAllBehind, line_at_hand, pane_in, HoldsTexts, HasRowAt, IsAdmitted, AreBefore, Steps, NothingLeft}
 use Rattle.row_merges.specs.declared.head.Head.{Head}
 use Rattle.row_merges.specs.declared.merge.Merge.{Merge}
 
--- a row that is at hand is so wherever it may stand
-anywhere : {R : Type 0} (last : Option Pane) (rows : RowLines R) (row : Option Row) → IsBehind last rows row → IsBehind None rows row
-anywhere last rows None h = tt
-anywhere last rows (Some row) h = record { after = refl; is = h.is; last_is = h.last_is; width_is = h.width_is }
+-- ---- rows and the places of rows
+
+abbrev given : {X : Type 0} → Option X → X → X
+given None x = x
+given (Some y) x = y
+
+same_some : {X : Type 0} (x y : X) → Some x ≡ Some y → x ≡ y
+same_some x y e = ap (λ o. given o x) e
+
+-- the row that was read is any whose line, place and width are its own
+read_as : {R : Type 0} (remaining : R → Option (List ℕ)) (old new : RowLines R) (a b : Row) → IsRead remaining old new a → IsRow b → last_of new ≡ Some (pane_of b) → width_of new ≡ Some (length b.values) → line_in (lines_of new) ≡ text_of_row b
+    → IsRead remaining old new b
+read_as remaining old new a b read is last width line =
+    let pane : pane_of a ≡ pane_of b = same_some (pane_of a) (pane_of b) (sym read.last ∙ last) in
+    let count : length a.values ≡ length b.values = same_some (length a.values) (length b.values) (sym read.width ∙ width) in
+    record {
+      is = is;
+      wide = ap (λ n. has_width (width_of old) n) (sym count) ∙ read.wide;
+      after = ap (λ p. is_after (last_of old) p) (sym pane) ∙ read.after;
+      text = subst (λ l. Consumes (rows_left remaining old) (rows_left remaining new) (l ++ 10 ∷ [])) (sym read.line ∙ line) read.text;
+      width = width;
+      last = last;
+      line = line;
+    }
+
+-- the next row, where its place was told and it is left
+next_left : {R : Type 0} (remaining : R → Option (List ℕ)) (old new : RowLines R) (next : Option RowPlace) (left : List Row) → IsNextPlace remaining old new (Ok next) → AreLeftAt remaining new next left
+    → (row : Option Row) × IsNext remaining old new (Ok row) × AreLeft remaining new row left
+next_left remaining old new None left goes h = (None, goes, h)
+next_left remaining old new (Some place) left goes h =
+    (Some h.row, read_as remaining old new goes.0 h.row goes.1 h.is_left.is h.is_left.last h.is_left.width h.line, h.is_left)
+
+-- the next row is the one that was read last
+next_read : {R : Type 0} (remaining : R → Option (List ℕ)) (old new : RowLines R) (next : Option RowPlace) → IsNextPlace remaining old new (Ok next) → IsReadAt new next
+next_read remaining old new None goes = tt
+next_read remaining old new (Some place) goes =
+    let read = goes.1 in
+    record { row = goes.0; place_is = goes.2; line = read.line; at_hand = record { after = refl; is = read.is; last_is = read.last; width_is = read.width } }
+
+pub opened : {R : Type 0} (remaining : R → Option (List ℕ)) (text : Option (List ℕ)) (old : RowLines R) (head : Head R) → rows_left remaining old ≡ text → width_of old ≡ None → last_of old ≡ None → IsNextPlace remaining old head.rows (Ok head.row)
+    → IsOpened remaining text head
+opened remaining text old head is width last goes = record {
+  rows = λ left h.
+      let one = next_left remaining old head.rows head.row left goes h in
+      let behind = behind_of remaining old head.rows one.0 left one.1 one.2 in
+      (subst (λ w. AreRows w None left) width (subst (λ l. AreRows (width_of old) l left) last behind.0), subst (λ t. IsTextOf t left) is behind.1);
+  behind = next_read remaining old head.rows head.row goes;
+}
 
 -- ---- texts that are taken
 
@@ -46,13 +92,13 @@ push_zip Q (a ∷ xs) (b ∷ ys) x y h k = (h.0, push_zip Q xs ys x y h.1 k)
 pub taken : {R : Type 0} (remaining : R → Option (List ℕ)) (texts : List (Option (List ℕ))) (text : Option (List ℕ)) (old new : Merge R) (head : Head R) → HoldsTexts remaining texts old → IsOpened remaining text head
     → new.heads.items ≡ old.heads.items ++ head ∷ [] → new.width ≡ old.width → new.last ≡ old.last → HoldsTexts remaining (texts ++ text ∷ []) new
 taken {R} remaining texts text old new head holds opens heads width last =
-    let Left = λ (h : Head R) (left : List Row). AreLeft remaining h.rows h.row left in
+    let Left = λ (h : Head R) (left : List Row). AreLeftAt remaining h.rows h.row left in
     record {
       rows = λ lists left.
           let one = last_of_zip Left old.heads.items head lists (subst (λ hs. AllZip Left hs lists) heads left) in
           subst (AllZip IsRowsText (texts ++ text ∷ [])) (sym one.2) (push_zip IsRowsText texts one.0 text one.1 (holds.rows one.0 one.3) (opens.rows one.1 one.4));
       behind = subst (AreBehind {R = R}) (sym heads)
-          (All-append (λ (h : Head R). IsBehind None h.rows h.row) old.heads.items (head ∷ []) holds.behind (All-cons (λ (h : Head R). IsBehind None h.rows h.row) head [] opens.behind (All-nil (λ (h : Head R). IsBehind None h.rows h.row))));
+          (All-append (λ (h : Head R). IsReadAt h.rows h.row) old.heads.items (head ∷ []) holds.behind (All-cons (λ (h : Head R). IsReadAt h.rows h.row) head [] opens.behind (All-nil (λ (h : Head R). IsReadAt h.rows h.row))));
       width = width ∙ holds.width;
       last = last ∙ holds.last;
     }
@@ -88,17 +134,16 @@ long_set [] k x = refl
 long_set (a ∷ xs) zero x = refl
 long_set (a ∷ xs) (suc k) x = let rest = long_set xs k x in omega (arith, rest)
 
-at_hand : {R : Type 0} (head : Head R) (row : Row) → head.row ≡ Some row → IsBehind None head.rows head.row → IsAtHand None head.rows row
-at_hand head row e h = subst (IsBehind None head.rows) e h
-
 -- all that was left before a row was passed
-pub before : {R : Type 0} (remaining : R → Option (List ℕ)) (heads : List (Head R)) (k : ℕ) (old new : Head R) (row : Row) (lists : List (List Row)) → k < length heads → old ≡ get_or heads k old → old.row ≡ Some row
-    → IsBehind None old.rows old.row → IsNext remaining old.rows new.rows (Ok new.row) → AreAllLeft remaining (set heads k new) lists → AreBefore remaining heads row lists
-before {R} remaining heads k old new row lists lt is has behind next left =
-    let Left = λ (h : Head R) (l : List Row). AreLeft remaining h.rows h.row l in
+before : {R : Type 0} (remaining : R → Option (List ℕ)) (heads : List (Head R)) (k : ℕ) (old new : Head R) (place : RowPlace) (lists : List (List Row)) → k < length heads → old ≡ get_or heads k old → old.row ≡ Some place
+    → (here : IsLastRead old.rows place) → IsNextPlace remaining old.rows new.rows (Ok new.row) → AreAllLeft remaining (set heads k new) lists → AreBefore remaining heads here.row lists
+before {R} remaining heads k old new place lists lt is has here next left =
+    let Left = λ (h : Head R) (l : List Row). AreLeftAt remaining h.rows h.row l in
+    let row = here.row in
     let back : (l : List Row) → Left new l → Left (get_or heads k old) (row ∷ l) = λ l h.
+    let one = next_left remaining old.rows new.rows new.row l next h in
     subst (λ (o : Head R). Left o (row ∷ l)) is
-    (subst (λ r. AreLeft remaining old.rows r (row ∷ l)) (sym has) (passed remaining old.rows new.rows row new.row None l (at_hand old row has behind) next h)) in
+    (subst (λ r. AreLeftAt remaining old.rows r (row ∷ l)) (sym has) (record { row = row; line = here.line; is_left = passed remaining old.rows new.rows row one.0 None l here.at_hand one.1 one.2 })) in
     let inside : k < length lists = omega (arith, long_zip Left (set heads k new) lists left, long_set heads k new) in
     record {
       all = set lists k (row ∷ get_or lists k []);
@@ -106,24 +151,21 @@ before {R} remaining heads k old new row lists lt is has behind next left =
       same = to_front lists k row inside;
     }
 
-pub behind_after : {R : Type 0} (remaining : R → Option (List ℕ)) (heads : List (Head R)) (k : ℕ) (old new : Head R) (row : Row) → old.row ≡ Some row → IsBehind None old.rows old.row → IsNext remaining old.rows new.rows (Ok new.row)
-    → AreBehind heads → AreBehind (set heads k new)
-behind_after {R} remaining heads k old new row has behind next all =
-    All-set (λ (h : Head R). IsBehind None h.rows h.row) heads k new
-    (anywhere (Some (pane_of row)) new.rows new.row (next_at_hand remaining old.rows new.rows new.row (Some (pane_of row)) (at_hand old row has behind).last_is next)) all
+behind_after : {R : Type 0} (remaining : R → Option (List ℕ)) (heads : List (Head R)) (k : ℕ) (old new : Head R) → IsNextPlace remaining old.rows new.rows (Ok new.row) → AreBehind heads → AreBehind (set heads k new)
+behind_after {R} remaining heads k old new next all = All-set (λ (h : Head R). IsReadAt h.rows h.row) heads k new (next_read remaining old.rows new.rows new.row next) all
 
 -- the row that is told of at a place
-row_at : (o : Option Row) (p : Pane) → option_map pane_of o ≡ Some p → (row : Row) × (o ≡ Some row)
+row_at : (o : Option RowPlace) (p : Pane) → option_map pane_in o ≡ Some p → (row : RowPlace) × (o ≡ Some row)
 row_at None p e = absurd cc
 row_at (Some row) p e = (row, refl)
 
-no_row_at : (o : Option Row) → option_map pane_of o ≡ None → o ≡ None
+no_row_at : (o : Option RowPlace) → option_map pane_in o ≡ None → o ≡ None
 no_row_at None e = refl
 no_row_at (Some row) e = absurd cc
 
-pub some_ref : {X Y : Type 0} (f : X → Y) (o : Option X) (q : Option Y) (y : Y) → option_map f o ≡ q → q ≡ Some y → IsSome o
-some_ref f None q y e h = absurd cc
-some_ref f (Some x) q y e h = refl
+pub is_there : {X : Type 0} (o : Option X) (x : X) → o ≡ Some x → IsSome o
+is_there None x e = absurd cc
+is_there (Some y) x e = refl
 
 -- what stands at a place is the same, whatever stands there where nothing does
 pub there : {X : Type 0} (xs : List X) (k : ℕ) (d e : X) → k < length xs → get_or xs k d ≡ get_or xs k e
@@ -131,13 +173,13 @@ there [] k d e lt = absurd (omega arith)
 there (x ∷ xs) zero d e lt = refl
 there (x ∷ xs) (suc k) d e lt = there xs k d e (omega arith)
 
-has_row : {R : Type 0} (heads : List (Head R)) (place : ℕ) (head : Head R) (pane : Pane) → place < length heads → head ≡ get_or heads place head → option_map pane_of head.row ≡ Some pane → HasRowAt heads place
+has_row : {R : Type 0} (heads : List (Head R)) (place : ℕ) (head : Head R) (pane : Pane) → place < length heads → head ≡ get_or heads place head → option_map pane_in head.row ≡ Some pane → HasRowAt heads place
 has_row {R} heads place head pane lt is told =
     let one = row_at head.row pane told in
     (lt, λ d. (one.0, ap (λ (h : Head R). h.row) (there heads place d head lt ∙ sym is) ∙ one.1))
 
 pub found_some : {R : Type 0} (heads : List (Head R)) (place : ℕ) (head : Head R) (found next : Option (ℕ × Pane)) → place < length heads → head ≡ get_or heads place head → IfSome found (λ at. HasRowAt heads at.0)
-    → IfSome next (λ at. (found ≡ Some at) ⊎ ((at.0 ≡ place) × (option_map pane_of head.row ≡ Some at.1))) → IfSome next (λ at. HasRowAt heads at.0)
+    → IfSome next (λ at. (found ≡ Some at) ⊎ ((at.0 ≡ place) × (option_map pane_in head.row ≡ Some at.1))) → IfSome next (λ at. HasRowAt heads at.0)
 found_some heads place head found None lt is was now = tt
 found_some heads place head found (Some at) lt is was now =
     elim now [
@@ -146,7 +188,7 @@ found_some heads place head found (Some at) lt is was now =
     ]
 
 pub found_none : {R : Type 0} (heads : List (Head R)) (place : ℕ) (head : Head R) → place < length heads → head ≡ get_or heads place head → ((k : ℕ) (d : Head R) → k < place → (get_or heads k d).row ≡ None)
-    → option_map pane_of head.row ≡ None → (k : ℕ) (d : Head R) → k < (place + 1) → (get_or heads k d).row ≡ None
+    → option_map pane_in head.row ≡ None → (k : ℕ) (d : Head R) → k < (place + 1) → (get_or heads k d).row ≡ None
 found_none {R} heads place head lt is before none k d k_in =
     elim (cases_lt k place) [
       | inl less ↦ before k d less
@@ -155,27 +197,33 @@ found_none {R} heads place head lt is before none k d k_in =
           ap (λ (j : ℕ). (get_or heads j d).row) same ∙ ap (λ (h : Head R). h.row) (there heads place d head lt ∙ sym is) ∙ no_row_at head.row none
     ]
 
+-- the line of the row at hand
+line_there : {R : Type 0} (rows : RowLines R) (o : Option RowPlace) (row : Row) → IsSome o → line_in (lines_of rows) ≡ text_of_row row → cond (is_some o) (line_in (lines_of rows) ++ 10 ∷ []) [] ≡ line_of row
+line_there rows None row some line = absurd cc
+line_there rows (Some place) row some line = ap (λ l. l ++ 10 ∷ []) line
+
 -- the row at hand at a place is passed
-pub stepped : {R : Type 0} (remaining : R → Option (List ℕ)) (old new : Merge R) (place width : ℕ) (pane : Pane) (head next : Head R) (before_text after_text : List ℕ) → HasRowAt old.heads.items place → IsAdmitted old place width pane
-    → head ≡ get_or old.heads.items place head → new.heads.items ≡ set old.heads.items place next → new.width ≡ Some width → new.last ≡ Some pane
-    → after_text ≡ before_text ++ text_of_rows (option_to_list head.row) → IsNext remaining head.rows next.rows (Ok next.row) → AreAllBehind old → Steps remaining old new before_text after_text
-stepped {R} remaining old new place width pane head next before_text after_text has admitted is set_is width_is last_is text goes behind =
+pub stepped : {R : Type 0} (remaining : R → Option (List ℕ)) (old new : Merge R) (place : ℕ) (at : RowPlace) (head next : Head R) (before_text after_text : List ℕ) → place < length old.heads.items → IsAdmitted old place at
+    → head ≡ get_or old.heads.items place head → new.heads.items ≡ set old.heads.items place next → new.width ≡ Some at.width → new.last ≡ Some at.pane
+    → after_text ≡ before_text ++ line_at_hand head → IsNextPlace remaining head.rows next.rows (Ok next.row) → AreAllBehind old → Steps remaining old new before_text after_text
+stepped {R} remaining old new place at head next before_text after_text lt admitted is set_is width_is last_is text goes behind =
     let heads = old.heads.items in
-    let here = has.1 head in
-    let row = here.0 in
-    let row_is : head.row ≡ Some row = ap (λ (h : Head R). h.row) is ∙ here.1 in
-    let at = admitted head row here.1 in
-    let of_head : IsBehind None head.rows head.row = subst (λ (h : Head R). IsBehind None h.rows h.row) (sym is) (All-get_or (λ (h : Head R). IsBehind None h.rows h.row) heads place head has.0 behind) in
+    let at_is : head.row ≡ Some at = ap (λ (h : Head R). h.row) is ∙ admitted.at_hand head in
+    let of_head : IsReadAt head.rows head.row = subst (λ (h : Head R). IsReadAt h.rows h.row) (sym is) (All-get_or (λ (h : Head R). IsReadAt h.rows h.row) heads place head lt behind) in
+    let here : IsLastRead head.rows at = subst (IsReadAt head.rows) at_is of_head in
+    let row = here.row in
+    let width : at.width ≡ length row.values = ap (λ (p : RowPlace). p.width) here.place_is in
+    let pane : at.pane ≡ pane_of row = ap (λ (p : RowPlace). p.pane) here.place_is in
     record {
       row = row;
-      is = (at_hand head row row_is of_head).is;
-      wide = subst (λ n. has_width old.width n ≡ true) at.0 at.2;
-      next = subst (λ p. is_after old.last p ≡ true) at.1 at.3;
-      width = width_is ∙ ap (λ n. Some n) at.0;
-      last = last_is ∙ ap (λ p. Some p) at.1;
-      text = text ∙ ap (λ o. before_text ++ text_of_rows (option_to_list o)) row_is ∙ ap (λ l. before_text ++ l) (append-nil (line_of row));
-      left = λ lists left. before remaining heads place head next row lists has.0 is row_is of_head goes (subst (λ hs. AreAllLeft remaining hs lists) set_is left);
-      behind = subst (AreBehind {R = R}) (sym set_is) (behind_after remaining heads place head next row row_is of_head goes behind);
+      is = here.at_hand.is;
+      wide = subst (λ n. has_width old.width n ≡ true) width admitted.wide;
+      next = subst (λ p. is_after old.last p ≡ true) pane admitted.after;
+      width = width_is ∙ ap (λ n. Some n) width;
+      last = last_is ∙ ap (λ p. Some p) pane;
+      text = text ∙ ap (λ l. before_text ++ l) (line_there head.rows head.row row (is_there head.row at at_is) here.line);
+      left = λ lists left. before remaining heads place head next at lists lt is at_is here goes (subst (λ hs. AreAllLeft remaining hs lists) set_is left);
+      behind = subst (AreBehind {R = R}) (sym set_is) (behind_after remaining heads place head next goes behind);
     }
 
 -- ---- all of them together
@@ -209,7 +257,7 @@ flushed remaining texts start merge out next text empty h writes none = record {
 none_left : {R : Type 0} (remaining : R → Option (List ℕ)) (heads : List (Head R)) → All (λ head. head.row ≡ None) heads → AreAllLeft remaining heads (map (λ (h : Head R). let none : List Row = [] in none) heads)
 none_left remaining [] h = tt
 none_left {R} remaining (x ∷ xs) h =
-    (subst (λ r. AreLeft remaining x.rows r []) (sym (All-head (λ (y : Head R). y.row ≡ None) x xs h)) refl, none_left remaining xs (All-tail (λ (y : Head R). y.row ≡ None) x xs h))
+    (subst (λ r. AreLeftAt remaining x.rows r []) (sym (All-head (λ (y : Head R). y.row ≡ None) x xs h)) refl, none_left remaining xs (All-tail (λ (y : Head R). y.row ≡ None) x xs h))
 
 no_rows : {A : Type 0} (xs : List A) → rows_in (map (λ (x : A). let none : List Row = [] in none) xs) ≡ []
 no_rows [] = refl

@@ -1,32 +1,24 @@
 //! A text of rows with its next row at hand.
 
-ghost use Rattle.std.specs.Prelude.{◌≡◌, Ok, IfOk, option_map};
-ghost use Rattle.plan_model.specs.Rows.{pane_of};
-ghost use Rattle.row_lines.specs.Sequences.{IsNext, has_width, is_after};
+ghost use Rattle.std.specs.Prelude.{◌≡◌, Ok, IfOk};
+ghost use Rattle.row_lines.specs.Sequences.{IsNextPlace, has_width, is_after};
 
 use crate::fault::{MergeFault, fault_at};
-use plan_model::{Pane, Row};
-use row_lines::{RowLines, push_line};
+use plan_model::Pane;
+use row_lines::{RowLines, RowPlace};
 use std::alloc::Global;
 use std::io::Read;
 
-/// The next row of the text at a place.
-fn next_row<R: Read + Drop>(rows: &mut RowLines<R>, place: usize) -> Result<Option<Row>, MergeFault>
-    ensures { IfOk result (λ row. IsNext R.remaining rows.old rows.new (Ok row)) }
+/// Where the next row of the text at a place stands.
+fn next_row<R: Read + Drop>(
+    rows: &mut RowLines<R>,
+    place: usize,
+) -> Result<Option<RowPlace>, MergeFault>
+    ensures { IfOk result (λ row. IsNextPlace R.remaining rows.old rows.new (Ok row)) }
 {
-    match rows.advance() {
+    match rows.advance_place() {
         Ok(row) => Ok(row),
         Err(fault) => Err(fault_at(place, rows.line_number(), fault)),
-    }
-}
-
-/// Where a row stands.
-pub(crate) fn pane_of(row: &Row) -> Pane
-    ensures { result ≡ pane_of row.now }
-{
-    Pane {
-        start: row.start,
-        key: row.key,
     }
 }
 
@@ -50,20 +42,17 @@ pub(crate) fn is_after(last: Option<Pane>, pane: Pane) -> bool
     }
 }
 
-/// A text of rows with its next row at hand.
+/// A text of rows with its next row at hand: where it stands, while its text is the line that was read last.
 #[derive(Drop)]
 pub(crate) struct Head<R> {
     pub(crate) rows: RowLines<R>,
-    pub(crate) row: Option<Row>,
+    pub(crate) row: Option<RowPlace>,
 }
 
 impl<R: Read + Drop> Head<R> {
-    ghost use Rattle.std.specs.Prelude.{◌≡◌, ◌++◌, Ok, IfOk, OnOk, option_map, string_bytes};
-    ghost use Rattle.std.specs.Option.{option_to_list};
-    ghost use Rattle.plan_model.specs.Rows.{pane_of};
-    ghost use Rattle.row_lines.specs.Text.{text_of_rows};
-    ghost use Rattle.row_lines.specs.Sequences.{IsNext};
-    ghost use Rattle.row_merges.specs.Merges.{IsOpened};
+    ghost use Rattle.std.specs.Prelude.{◌≡◌, ◌++◌, Ok, IfOk, OnOk, option_map};
+    ghost use Rattle.row_lines.specs.Sequences.{IsNextPlace};
+    ghost use Rattle.row_merges.specs.Merges.{IsOpened, line_at_hand, pane_in};
 
     /// A text, the one at this place, before its first row.
     pub(crate) fn new(alloc: Global, text: R, place: usize) -> Result<Head<R>, MergeFault>
@@ -76,21 +65,22 @@ impl<R: Read + Drop> Head<R> {
 
     /// Where the row at hand stands, if there is one.
     pub(crate) fn pane(&self) -> Option<Pane>
-        ensures { result ≡ option_map pane_of self.now.row }
+        ensures { result ≡ option_map pane_in self.now.row }
     {
-        match &self.row {
-            Some(row) => Some(pane_of(row)),
+        match self.row {
+            Some(row) => Some(row.pane),
             None => None,
         }
     }
 
-    /// Puts the line of the row at hand behind a text, and goes on to the next one.
-    pub(crate) fn pass(&mut self, place: usize, text: &mut String) -> Result<(), MergeFault>
-        ensures text { OnOk result (string_bytes text.new ≡ string_bytes text.old ++ text_of_rows (option_to_list self.old.row)) }
-        ensures next { OnOk result (IsNext R.remaining self.old.rows self.new.rows (Ok self.new.row)) }
+    /// Puts the line of the row at hand behind a text, as it was read, and goes on to the next one.
+    pub(crate) fn pass(&mut self, place: usize, text: &mut Vec<u8>) -> Result<(), MergeFault>
+        ensures text { OnOk result (text.new.items ≡ text.old.items ++ line_at_hand self.old) }
+        ensures next { OnOk result (IsNextPlace R.remaining self.old.rows self.new.rows (Ok self.new.row)) }
     {
-        if let Some(row) = &self.row {
-            push_line(text, row)?;
+        if self.row.is_some() {
+            text.extend_from_slice(self.rows.line())?;
+            text.push(b'\n')?;
         }
         self.row = next_row(&mut self.rows, place)?;
         Ok(())

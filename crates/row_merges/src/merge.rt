@@ -1,12 +1,12 @@
 //! Texts of rows, gone through together.
 
-ghost use Rattle.std.specs.Prelude.{◌≡◌, ◌⊎◌, [], None, Some, OnOk, IfSome, string_bytes};
+ghost use Rattle.std.specs.Prelude.{◌≡◌, ◌⊎◌, [], None, Some, OnOk, IfSome};
 ghost use Rattle.std.specs.Io.KnownBytes.{Appends};
 
 use crate::fault::{MergeFault, fault_at};
-use crate::head::{Head, has_width, is_after, pane_of};
+use crate::head::{Head, has_width, is_after};
 use plan_model::Pane;
-use row_lines::RowsFault;
+use row_lines::{RowPlace, RowsFault};
 use std::alloc::Global;
 use std::io::{Read, Write};
 
@@ -14,11 +14,11 @@ use std::io::{Read, Write};
 const CHUNK: usize = 65536;
 
 /// Writes a text, and empties it.
-fn write_text<W: Write>(out: &mut W, text: &mut String) -> Result<(), MergeFault>
-    ensures written { OnOk result (Appends (W.contents out.old) (W.contents out.new) (string_bytes text.old)) }
-    ensures empty { OnOk result (string_bytes text.new ≡ []) }
+fn write_text<W: Write>(out: &mut W, text: &mut Vec<u8>) -> Result<(), MergeFault>
+    ensures written { OnOk result (Appends (W.contents out.old) (W.contents out.new) text.old.items) }
+    ensures empty { OnOk result (text.new.items ≡ []) }
 {
-    if out.write_all(text.as_bytes()).is_err() {
+    if out.write_all(text.as_slice()).is_err() {
         return Err(MergeFault::Write);
     }
     text.clear();
@@ -55,7 +55,7 @@ pub struct Merge<R> {
 }
 
 impl<R: Read + Drop> Merge<R> {
-    ghost use Rattle.std.specs.Prelude.{◌≡◌, ◌<◌, ◌++◌, ℕ, List, [], ◌∷◌, Option, None, true, false, length, IfOk, IfSome, OnOk, string_bytes};
+    ghost use Rattle.std.specs.Prelude.{◌≡◌, ◌<◌, ◌++◌, ℕ, List, [], ◌∷◌, Option, None, true, false, length, IfOk, IfSome, OnOk};
     ghost use Rattle.std.specs.List.{All};
     ghost use Rattle.row_merges.specs.Merges.{HoldsTexts, MergesRows, AreAllBehind, HasRowAt, IsAdmitted, Steps, NothingLeft};
 
@@ -102,40 +102,39 @@ impl<R: Read + Drop> Merge<R> {
 
     /// Refuses the row at hand of the text at a place where it has another number of numbers than those before, or is not behind
     /// the last one. Tells how many numbers it has, and where it stands.
-    fn admit(&self, place: usize) -> Result<(usize, Pane), MergeFault>
+    fn admit(&self, place: usize) -> Result<RowPlace, MergeFault>
         requires { HasRowAt self.now.heads.items place }
-        ensures { IfOk result (λ told. IsAdmitted self.now place told.0 told.1) }
+        ensures { IfOk result (IsAdmitted self.now place) }
     {
         let head: &Head<R> = &self.heads[place];
-        let row = head.row.as_ref().unwrap();
-        let (width, pane) = (row.values.len(), pane_of(row));
+        let row = head.row.unwrap();
         let line = head.rows.line_number();
-        if !has_width(self.width, width) {
+        if !has_width(self.width, row.width) {
             return Err(fault_at(place, line, RowsFault::Line));
         }
-        if !is_after(self.last, pane) {
+        if !is_after(self.last, row.pane) {
             return Err(fault_at(place, line, RowsFault::Order));
         }
-        Ok((width, pane))
+        Ok(row)
     }
 
     /// Puts the line of the row at hand of the text at a place behind a text, and goes on behind it.
-    fn pass(&mut self, place: usize, text: &mut String) -> Result<(), MergeFault>
+    fn pass(&mut self, place: usize, text: &mut Vec<u8>) -> Result<(), MergeFault>
         requires { HasRowAt self.old.heads.items place }
-        ensures { OnOk result (AreAllBehind self.old → Steps R.remaining self.old self.new (string_bytes text.old) (string_bytes text.new)) }
+        ensures { OnOk result (AreAllBehind self.old → Steps R.remaining self.old self.new text.old.items text.new.items) }
     {
-        let (width, pane) = self.admit(place)?;
+        let row = self.admit(place)?;
         let head: &mut Head<R> = &mut self.heads[place];
         head.pass(place, text)?;
-        self.width = Some(width);
-        self.last = Some(pane);
+        self.width = Some(row.width);
+        self.last = Some(row.pane);
         Ok(())
     }
 
     /// Puts the line of what comes first behind a text and goes on behind it, or tells that there is nothing.
-    fn advance(&mut self, text: &mut String) -> Result<bool, MergeFault>
-        ensures steps { IfOk result (λ more. more ≡ true → AreAllBehind self.old → Steps R.remaining self.old self.new (string_bytes text.old) (string_bytes text.new)) }
-        ensures ends { IfOk result (λ more. more ≡ false → NothingLeft self.old × (string_bytes text.new ≡ string_bytes text.old)) }
+    fn advance(&mut self, text: &mut Vec<u8>) -> Result<bool, MergeFault>
+        ensures steps { IfOk result (λ more. more ≡ true → AreAllBehind self.old → Steps R.remaining self.old self.new text.old.items text.new.items) }
+        ensures ends { IfOk result (λ more. more ≡ false → NothingLeft self.old × (text.new.items ≡ text.old.items)) }
     {
         let Some(place) = self.first() else {
             return Ok(false);
@@ -154,7 +153,7 @@ impl<R: Read + Drop> Merge<R> {
         ensures { OnOk result ((texts : List (Option (List ℕ))) → HoldsTexts R.remaining texts self → MergesRows texts (W.contents out.old) (W.contents out.new)) }
     {
         let mut merge = self;
-        let mut text = String::new(merge.alloc);
+        let mut text = Vec::new(merge.alloc);
         for _ in 0..u64::MAX {
             if !merge.advance(&mut text)? {
                 write_text(out, &mut text)?;

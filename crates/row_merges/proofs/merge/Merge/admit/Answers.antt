@@ -1,5 +1,5 @@
 use Rattle.std.proofs.Common.{ap, ◌∙◌}
-use Rattle.row_merges.proofs.Passing.{some_ref}
+use Rattle.row_merges.proofs.Passing.{is_there}
 use Rattle.row_merges.specs.declared.head.Head.{Head}
 use Rattle.row_merges.proofs.merge.Merge.admit.Goals as goal
 
@@ -7,4 +7,4 @@ pub unwrap-row-requires : goal.unwrap-row-requires
 unwrap-row-requires g c =
     let head = c.index-head.result.now in
     let here = c.requires.1 head in
-    some_ref (λ r. r.now) c.as_ref.result head.row here.0 c.as_ref.ensures.value (ap (λ (h : Head g.row.R.Denot). h.row) c.index-head.ensures ∙ here.1)
+    is_there head.row here.0 (ap (λ (h : Head g.row.R.Denot). h.row) c.index-head.ensures ∙ here.1)
