@@ -118,16 +118,33 @@ HasWords words (Group key max par) = (key.now ≡ word words (codes "KEY")) × (
 HasWords words (Explain code) = code.now ≡ word words (codes "CODE")
 HasWords words Version = Unit {0}
 
--- a name is one of a command
+-- a name is one of a command that runs a job or tells how it is laid out
+abbrev pub is_job_command : List ℕ → Bool
+is_job_command name =
+    bytes_eq name (codes "run") || (bytes_eq name (codes "simulate") || (bytes_eq name (codes "leg") || (bytes_eq name (codes "cuts") || bytes_eq name (codes "layout"))))
+
+-- of one that makes files, or looks at such
+abbrev pub is_file_command : List ℕ → Bool
+is_file_command name =
+    bytes_eq name (codes "check") || (bytes_eq name (codes "import") || (bytes_eq name (codes "split") || (bytes_eq name (codes "export") || (bytes_eq name (codes "diff") || bytes_eq name (codes "rows")))))
+
+-- of one that tells something
+abbrev pub is_told_command : List ℕ → Bool
+is_told_command name =
+    bytes_eq name (codes "show") || (bytes_eq name (codes "group") || (bytes_eq name (codes "explain") || bytes_eq name (codes "version")))
+
+-- of any
 abbrev pub is_command : List ℕ → Bool
-is_command name =
-    bytes_eq name (codes "run") || (bytes_eq name (codes "simulate") || (bytes_eq name (codes "leg") || (bytes_eq name (codes "cuts") || (bytes_eq name (codes "layout") || (bytes_eq name (codes "check") || (bytes_eq name (codes "import")
-    || (bytes_eq name (codes "split") || (bytes_eq name (codes "export") || (bytes_eq name (codes "diff") || (bytes_eq name (codes "rows") || (bytes_eq name (codes "show") || (bytes_eq name (codes "group") || (bytes_eq name (codes "explain") || bytes_eq name (codes "version"))))))))))))))
+is_command name = is_job_command name || (is_file_command name || is_told_command name)
+
+-- the command of a name, with the words after it, of those whose names meet a test; no other name that meets it has one
+abbrev pub IsReadOf : (List ℕ → Bool) → List ℕ → Found → Option Command → Type 0
+IsReadOf is name words (Some command) = (bytes_eq name (name_of command) ≡ true) × HasWords words command
+IsReadOf is name words None = is name ≡ false
 
 -- the command of a name, with the words after it; no other name has one
 abbrev pub IsRead : List ℕ → Found → Option Command → Type 0
-IsRead name words (Some command) = (bytes_eq name (name_of command) ≡ true) × HasWords words command
-IsRead name words None = is_command name ≡ false
+IsRead name words command = IsReadOf is_command name words command
 
 -- and so of the name that clap has found, if it has found one
 abbrev pub IsFound : Option (List ℕ) → Option Command → Type 0

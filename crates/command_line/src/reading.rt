@@ -2,7 +2,7 @@
 
 ghost use Rattle.std.specs.Prelude.{◌≡◌, option_map};
 ghost use Rattle.clap.specs.Words.{found_of, subcommand_name_of};
-ghost use Rattle.command_line.specs.Reading.{word, HasCheckWords, HasExportWords, HasImportWords, HasLegWords, HasMergeWords, HasRunWords, HasSplitWords, IsFound, IsRead};
+ghost use Rattle.command_line.specs.Reading.{word, HasCheckWords, HasExportWords, HasImportWords, HasLegWords, HasMergeWords, HasRunWords, HasSplitWords, IsFound, IsRead, IsReadOf, is_file_command, is_job_command, is_told_command};
 
 use clap::ArgMatches;
 use commands::{CheckWords, Command, RunWords};
@@ -126,36 +126,10 @@ fn leg_words<'m>(words: &'m ArgMatches<'_>) -> LegWords<'m>
     }
 }
 
-/// The command that a name and the words after it say, if the name is one of a command.
-fn command_in<'m>(name: &str, words: &'m ArgMatches<'_>) -> Option<Command<'m>>
-    ensures { IsRead name.now (found_of words.now) result }
+/// The command that runs a job, or tells how it is laid out, that a name and the words after it say, if the name is one of such.
+fn job_command<'m>(name: &str, words: &'m ArgMatches<'_>) -> Option<Command<'m>>
+    ensures { IsReadOf is_job_command name.now (found_of words.now) result }
 {
-    if name == "import" {
-        return Some(Command::Import {
-            words: import_words(words),
-        });
-    }
-    if name == "export" {
-        return Some(Command::Export {
-            plan: named(words, "PLAN"),
-            words: export_words(words),
-        });
-    }
-    if name == "split" {
-        return Some(Command::Split {
-            words: split_words(words),
-        });
-    }
-    if name == "rows" {
-        return Some(Command::Merge {
-            words: merge_words(words),
-        });
-    }
-    if name == "check" {
-        return Some(Command::Check {
-            words: check_words(words),
-        });
-    }
     match name {
         "run" => Some(Command::Run {
             words: run_words(words),
@@ -179,12 +153,46 @@ fn command_in<'m>(name: &str, words: &'m ArgMatches<'_>) -> Option<Command<'m>>
             plan: named(words, "PLAN"),
             scale: named(words, "SCALE"),
         }),
+        _ => None,
+    }
+}
+
+/// The same of a command that makes files, or looks at such.
+fn file_command<'m>(name: &str, words: &'m ArgMatches<'_>) -> Option<Command<'m>>
+    ensures { IsReadOf is_file_command name.now (found_of words.now) result }
+{
+    match name {
+        "check" => Some(Command::Check {
+            words: check_words(words),
+        }),
+        "import" => Some(Command::Import {
+            words: import_words(words),
+        }),
+        "split" => Some(Command::Split {
+            words: split_words(words),
+        }),
+        "export" => Some(Command::Export {
+            plan: named(words, "PLAN"),
+            words: export_words(words),
+        }),
         "diff" => Some(Command::Diff {
             words: DiffWords {
                 old: named(words, "OLD"),
                 new: named(words, "NEW"),
             },
         }),
+        "rows" => Some(Command::Merge {
+            words: merge_words(words),
+        }),
+        _ => None,
+    }
+}
+
+/// The same of a command that tells something.
+fn told_command<'m>(name: &str, words: &'m ArgMatches<'_>) -> Option<Command<'m>>
+    ensures { IsReadOf is_told_command name.now (found_of words.now) result }
+{
+    match name {
         "show" => Some(Command::Show {
             savepoint: named(words, "SAVEPOINT"),
             group: words.get_str("group"),
@@ -200,6 +208,19 @@ fn command_in<'m>(name: &str, words: &'m ArgMatches<'_>) -> Option<Command<'m>>
         "version" => Some(Command::Version),
         _ => None,
     }
+}
+
+/// The command that a name and the words after it say, if the name is one of a command.
+fn command_in<'m>(name: &str, words: &'m ArgMatches<'_>) -> Option<Command<'m>>
+    ensures { IsRead name.now (found_of words.now) result }
+{
+    if let Some(command) = job_command(name, words) {
+        return Some(command);
+    }
+    if let Some(command) = file_command(name, words) {
+        return Some(command);
+    }
+    told_command(name, words)
 }
 
 /// The command that clap has found, if it has found one.
