@@ -49,11 +49,6 @@ const NO_JSON: [&str; 9] = [
     r#"{"t":[01]}"#,
 ];
 
-#[test]
-fn texts_that_are_no_json(rt: HostRuntime) -> Result<(), Fail> {
-    check_all(&rt, &NO_JSON, Some(InputFault::NotJson))
-}
-
 const OF_ANOTHER_FORM: [&str; 21] = [
     "7",
     "[]",
@@ -78,11 +73,6 @@ const OF_ANOTHER_FORM: [&str; 21] = [
     r#"{"s":[[{"row":7,"row":7}],[]],"a":[[]]}"#,
 ];
 
-#[test]
-fn texts_of_another_form(rt: HostRuntime) -> Result<(), Fail> {
-    check_all(&rt, &OF_ANOTHER_FORM, Some(InputFault::Member))
-}
-
 const OF_OTHER_SOURCES: [&str; 8] = [
     "{}",
     r#"{"s":[[],[]]}"#,
@@ -94,22 +84,12 @@ const OF_OTHER_SOURCES: [&str; 8] = [
     r#"{"t":7,"s":[[],[]],"a":[[]],"t":[]}"#,
 ];
 
-#[test]
-fn texts_of_other_sources(rt: HostRuntime) -> Result<(), Fail> {
-    check_all(&rt, &OF_OTHER_SOURCES, Some(InputFault::Source))
-}
-
 const OF_OTHER_PARTITIONS: [&str; 4] = [
     r#"{"s":[[]],"a":[[]]}"#,
     r#"{"s":[[],[],[]],"a":[[]]}"#,
     r#"{"s":[[{"rows":[[1]]}]],"a":[[]]}"#,
     r#"{"s":[[],[]],"a":[[]],"a":[]}"#,
 ];
-
-#[test]
-fn texts_of_other_partitions(rt: HostRuntime) -> Result<(), Fail> {
-    check_all(&rt, &OF_OTHER_PARTITIONS, Some(InputFault::Partitions))
-}
 
 const OF_OTHER_WIDTH: [&str; 6] = [
     r#"{"s":[[{"rows":[[1,1]]}],[]],"a":[[]]}"#,
@@ -119,11 +99,6 @@ const OF_OTHER_WIDTH: [&str; 6] = [
     r#"{"s":[[],[]],"s":[[{"rows":[[1]]}],[]],"a":[[]]}"#,
     r#"{"s":[[{"rows":[[1,1,1]],"rows":[[1]]}],[]],"a":[[]]}"#,
 ];
-
-#[test]
-fn texts_of_other_width(rt: HostRuntime) -> Result<(), Fail> {
-    check_all(&rt, &OF_OTHER_WIDTH, Some(InputFault::Width))
-}
 
 const OF_OTHER_NUMBERS: [&str; 11] = [
     r#"{"s":[[{"rows":[[1,1,1.5]]}],[]],"a":[[]]}"#,
@@ -139,20 +114,10 @@ const OF_OTHER_NUMBERS: [&str; 11] = [
     r#"{"s":[[{"watermark":9},{"rows":[[9,1,1]]}],[]],"a":[[{"watermark":"9"}]]}"#,
 ];
 
-#[test]
-fn texts_of_other_numbers(rt: HostRuntime) -> Result<(), Fail> {
-    check_all(&rt, &OF_OTHER_NUMBERS, Some(InputFault::Number))
-}
-
 const WITHOUT_ROWS: [&str; 2] = [
     r#"{"s":[[{"rows":[]}],[]],"a":[[]]}"#,
     r#"{"s":[[{"watermark":4611686018427387904},{"rows":[]}],[]],"a":[[]]}"#,
 ];
-
-#[test]
-fn texts_without_rows(rt: HostRuntime) -> Result<(), Fail> {
-    check_all(&rt, &WITHOUT_ROWS, Some(InputFault::Rows))
-}
 
 const OUT_OF_TIME: [&str; 4] = [
     r#"{"s":[[{"rows":[[4611686018427387904,1,1]]}],[]],"a":[[]]}"#,
@@ -161,11 +126,6 @@ const OUT_OF_TIME: [&str; 4] = [
     r#"{"\u0073":[[{"watermark":9},{"rows":[[9,1,1]]},{"watermark":-4611686018427387905}],[]],"a":[[]]}"#,
 ];
 
-#[test]
-fn texts_out_of_time(rt: HostRuntime) -> Result<(), Fail> {
-    check_all(&rt, &OUT_OF_TIME, Some(InputFault::TimeRange))
-}
-
 const LATE: [&str; 5] = [
     r#"{"s":[[],[{"watermark":9},{"rows":[[10,1,1],[9,1,1]]}]],"a":[[]]}"#,
     r#"{"\u0073":[[],[{"watermark":9},{"rows":[[10,1,1],[9,1,1]]}]],"a":[[]]}"#,
@@ -173,16 +133,6 @@ const LATE: [&str; 5] = [
     r#"{"\u0061":[[{"watermark":9},{"rows":[[9,1,1]]}]],"s":[[],[{"watermark":9},{"rows":[[9,1,1]]}]]}"#,
     r#"{"s":[[{"watermark":9},{"rows":[[9,1,1]]}],[]],"a":[[]],"s":[[],[{"watermark":7,"watermark":9},{"rows":[[9,1,1]]},{"rows":[[8,1,1]]}]]}"#,
 ];
-
-#[test]
-fn texts_with_late_rows(rt: HostRuntime) -> Result<(), Fail> {
-    let late = InputFault::LateRecord {
-        source: 0,
-        partition: 1,
-        entry: 1,
-    };
-    check_all(&rt, &LATE, Some(late))
-}
 
 const RIGHT: [&str; 9] = [
     r#"{"s":[[],[]],"a":[[]]}"#,
@@ -196,9 +146,33 @@ const RIGHT: [&str; 9] = [
     r#"{"s":[[],[{"watermark":99,"watermark":9},{"rows":[[10,1,1]]}]],"a":[[]]}"#,
 ];
 
+const LATE_ROW: InputFault = InputFault::LateRecord {
+    source: 0,
+    partition: 1,
+    entry: 1,
+};
+
+/// Texts, and the fault that each of them has.
+const LISTS: &[(&[&str], Option<InputFault>)] = &[
+    (&NO_JSON, Some(InputFault::NotJson)),
+    (&OF_ANOTHER_FORM, Some(InputFault::Member)),
+    (&OF_OTHER_SOURCES, Some(InputFault::Source)),
+    (&OF_OTHER_PARTITIONS, Some(InputFault::Partitions)),
+    (&OF_OTHER_WIDTH, Some(InputFault::Width)),
+    (&OF_OTHER_NUMBERS, Some(InputFault::Number)),
+    (&WITHOUT_ROWS, Some(InputFault::Rows)),
+    (&OUT_OF_TIME, Some(InputFault::TimeRange)),
+    (&LATE, Some(LATE_ROW)),
+    (&RIGHT, None),
+];
+
 #[test]
-fn texts_that_are_read(rt: HostRuntime) -> Result<(), Fail> {
-    check_all(&rt, &RIGHT, None)
+fn each_text_has_its_fault(rt: HostRuntime) -> Result<(), Fail> {
+    let plan = Plan::read(rt.alloc(), PLAN.as_bytes())?;
+    for (listed, fault) in LISTS {
+        check_refused(&rt, &plan, listed, *fault);
+    }
+    Ok(())
 }
 
 /// So many lists in one another.
@@ -213,30 +187,45 @@ fn nested(rt: &impl AllocGlobal, depth: usize) -> Result<String, Fail> {
     Ok(text)
 }
 
+/// Such lists as a text, or as a cell of one.
+fn nested_text(rt: &impl AllocGlobal, depth: usize, is_cell: bool) -> Result<String, Fail> {
+    let lists = nested(rt, depth)?;
+    if !is_cell {
+        return Ok(lists);
+    }
+    Ok(format!(in rt.alloc(); r#"{{"s":[[{{"rows":[[1,1,{lists}]]}}],[]],"a":[[]]}}"#)?)
+}
+
 #[test]
 fn texts_that_nest(rt: HostRuntime) -> Result<(), Fail> {
-    let deepest = nested(&rt, 127)?;
-    check_all(&rt, &[deepest.as_str()], Some(InputFault::Member))?;
-    let deeper = nested(&rt, 128)?;
-    check_all(&rt, &[deeper.as_str()], Some(InputFault::NotJson))?;
-    let cell = nested(&rt, 121)?;
-    let text = format!(in rt.alloc(); r#"{{"s":[[{{"rows":[[1,1,{cell}]]}}],[]],"a":[[]]}}"#)?;
-    check_all(&rt, &[text.as_str()], Some(InputFault::Number))?;
-    let cell = nested(&rt, 122)?;
-    let text = format!(in rt.alloc(); r#"{{"s":[[{{"rows":[[1,1,{cell}]]}}],[]],"a":[[]]}}"#)?;
-    check_all(&rt, &[text.as_str()], Some(InputFault::NotJson))
+    for (depth, is_cell, fault) in [
+        (127, false, InputFault::Member),
+        (128, false, InputFault::NotJson),
+        (121, true, InputFault::Number),
+        (122, true, InputFault::NotJson),
+    ] {
+        let text = nested_text(&rt, depth, is_cell)?;
+        check_all(&rt, &[text.as_str()], Some(fault))?;
+    }
+    Ok(())
+}
+
+/// A text with so many rows in a batch.
+fn text_of_rows(rt: &impl AllocGlobal, count: u32) -> Result<String, Fail> {
+    let mut text = String::new(rt.alloc());
+    text.push_str(r#"{"s":[[{"rows":[[1,1,1]"#)?;
+    for _row in 1..count {
+        text.push_str(",[1,1,1]")?;
+    }
+    text.push_str(r#"]}],[]],"a":[[]]}"#)?;
+    Ok(text)
 }
 
 #[test]
 fn batches_at_their_limit(rt: HostRuntime) -> Result<(), Fail> {
-    let mut rows = String::new(rt.alloc());
-    for _row in 0..4095 {
-        rows.push_str("[1,1,1],")?;
+    for (count, fault) in [(4096, None), (4097, Some(InputFault::Rows))] {
+        let text = text_of_rows(&rt, count)?;
+        check_all(&rt, &[text.as_str()], fault)?;
     }
-    let text = format!(in rt.alloc(); r#"{{"s":[[{{"rows":[{rows}[1,1,1]]}}],[]],"a":[[]]}}"#)?;
-    check_all(&rt, &[text.as_str()], None)?;
-    let text = format!(in rt.alloc();
-        r#"{{"s":[[{{"rows":[{rows}[1,1,1],[1,1,1]]}}],[]],"a":[[]]}}"#
-    )?;
-    check_all(&rt, &[text.as_str()], Some(InputFault::Rows))
+    Ok(())
 }

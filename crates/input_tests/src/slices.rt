@@ -46,66 +46,58 @@ const BY_ONES: &str =
 const LONGEST: &str =
     r#"{"columns":2,"maxParallelism":128,"time":0,"key":1,"sources":[{"uid":"s","partitions":1}],"window":{"uid":"w","size":1099511627776,"offset":1099511627775,"aggregates":[{"fn":"count"}]}}"#;
 
-#[test]
-fn a_window_that_no_other_overlaps_is_one_slice(rt: HostRuntime) -> Result<(), Fail> {
-    check_slices(
-        &rt,
+/// Plans, and times with the start and the end of their slices.
+const SLICES: &[(&str, &[(i64, i64, i64)])] = &[
+    // A window that no other overlaps is one slice.
+    (
         BY_TENS,
         &[(0, 0, 10), (9, 0, 10), (10, 10, 20), (-1, -10, 0)],
-    )
-}
-
-#[test]
-fn a_slide_of_half_the_size_cuts_a_window_in_two(rt: HostRuntime) -> Result<(), Fail> {
-    check_slices(
-        &rt,
-        BY_FIVES,
-        &[(0, 0, 5), (4, 0, 5), (7, 5, 10), (-3, -5, 0)],
-    )
-}
-
-#[test]
-fn starts_and_ends_both_cut(rt: HostRuntime) -> Result<(), Fail> {
-    let listed = [
-        (0, -1, 1),
-        (1, 1, 2),
-        (2, 2, 4),
-        (3, 2, 4),
-        (4, 4, 5),
-        (5, 5, 7),
-    ];
-    check_slices(&rt, BY_THREES, &listed)
-}
-
-#[test]
-fn what_lies_between_windows_is_a_slice(rt: HostRuntime) -> Result<(), Fail> {
-    check_slices(
-        &rt,
+    ),
+    // A slide of half the size cuts a window in two.
+    (BY_FIVES, &[(0, 0, 5), (4, 0, 5), (7, 5, 10), (-3, -5, 0)]),
+    // Starts and ends both cut.
+    (
+        BY_THREES,
+        &[
+            (0, -1, 1),
+            (1, 1, 2),
+            (2, 2, 4),
+            (3, 2, 4),
+            (4, 4, 5),
+            (5, 5, 7),
+        ],
+    ),
+    // What lies between windows is a slice.
+    (
         APART,
         &[(0, -1, 1), (1, 1, 4), (3, 1, 4), (4, 4, 6), (-2, -4, -1)],
-    )
-}
+    ),
+    // A slide of one cuts everywhere.
+    (BY_ONES, &[(7, 7, 8), (0, 0, 1), (-5, -5, -4)]),
+    // The least and the greatest time have a slice.
+    (
+        LONGEST,
+        &[
+            (
+                -4611686018427387904,
+                -4611686018427387905,
+                -4611684918915760129,
+            ),
+            (
+                4611686018427387903,
+                4611686018427387903,
+                4611687117939015679,
+            ),
+        ],
+    ),
+];
 
 #[test]
-fn a_slide_of_one_cuts_everywhere(rt: HostRuntime) -> Result<(), Fail> {
-    check_slices(&rt, BY_ONES, &[(7, 7, 8), (0, 0, 1), (-5, -5, -4)])
-}
-
-#[test]
-fn the_least_and_the_greatest_time_have_a_slice(rt: HostRuntime) -> Result<(), Fail> {
-    let listed = [
-        (
-            -4611686018427387904,
-            -4611686018427387905,
-            -4611684918915760129,
-        ),
-        (
-            4611686018427387903,
-            4611686018427387903,
-            4611687117939015679,
-        ),
-    ];
-    check_slices(&rt, LONGEST, &listed)
+fn each_time_has_its_slice(rt: HostRuntime) -> Result<(), Fail> {
+    for (plan, listed) in SLICES {
+        check_slices(&rt, plan, listed)?;
+    }
+    Ok(())
 }
 
 #[test]

@@ -5,19 +5,31 @@ use std::test::Fail;
 
 const KEYS: [i64; 5] = [0, -1, 1, 4_294_967_295, 2_271_560_481];
 
+fn max_of(number: u32) -> Option<u32> {
+    MaxParallelism::new(number).map(|max| max.get())
+}
+
+fn parallelism_of(max: u32, number: u32) -> Option<u32> {
+    match MaxParallelism::new(max) {
+        Some(max) => Parallelism::new(number, max).map(|par| par.get()),
+        None => None,
+    }
+}
+
 #[test]
-fn limits_are_checked(rt: HostRuntime) -> Result<(), Fail> {
-    assert_eq!(rt; MaxParallelism::new(0), None);
-    assert_eq!(rt; MaxParallelism::new(32769), None);
-    let most = MaxParallelism::new(32768).ok_or("32768")?;
-    assert_eq!(rt; most.get(), 32768);
-    assert_eq!(rt; Parallelism::new(0, most), None);
-    assert_eq!(rt; Parallelism::new(65, most), None);
-    assert_eq!(rt; Parallelism::new(64, most).ok_or("64")?.get(), 64);
-    let two = MaxParallelism::new(2).ok_or("2")?;
-    assert_eq!(rt; Parallelism::new(3, two), None);
-    assert_eq!(rt; Parallelism::new(2, two).ok_or("2 of 2")?.get(), 2);
-    Ok(())
+fn limits_are_checked(rt: HostRuntime) {
+    for (number, wanted) in [(0, None), (32768, Some(32768)), (32769, None)] {
+        assert_eq!(rt; max_of(number), wanted, "{number}");
+    }
+    for (max, number, wanted) in [
+        (32768, 0, None),
+        (32768, 64, Some(64)),
+        (32768, 65, None),
+        (2, 2, Some(2)),
+        (2, 3, None),
+    ] {
+        assert_eq!(rt; parallelism_of(max, number), wanted, "{number} of {max}");
+    }
 }
 
 #[test]
