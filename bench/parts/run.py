@@ -9,9 +9,9 @@ into N parts (4), `run` of each part, and `rows` over what they print, of which 
 `run`.
 
 For each, the least CPU time of user and system, the least wall time and the greatest peak of memory, of 3 runs or as
---runs says, and the CPU time over that of reading. The last line has the longest way of a job whose parts run side by
-side, over the one `run`: that of the slowest part, and the same with `split` before it and `rows` behind it. Ends with
-status 1 if two answers differ.
+--runs says, in turn, and the CPU time over that of reading. The last line has the longest way of a job whose parts run
+side by side, over the one `run`: that of the slowest part, and the same with `split` before it and `rows` behind it.
+Ends with status 1 if two answers differ.
 """
 import argparse
 import pathlib
@@ -20,30 +20,47 @@ import tempfile
 
 sys.dont_write_bytecode = True
 sys.path.insert(0, str(pathlib.Path(__file__).resolve().parents[1]))
-from measuring import PROGRAM, generate, measured  # noqa: E402
+from measuring import PROGRAM, Cost, generate, run_once  # noqa: E402
 
 
 def told(name, cost, reading):
     print(f"{name:12} CPU {cost.cpu:7.3f} s, {cost.cpu / reading:5.2f} of reading; wall {cost.wall:7.3f} s; peak {cost.peak:7.1f} MB", flush=True)
 
 
+def commands_of(parts):
+    """Each command's name, its words, and the file that its output goes to, each behind those whose files it reads."""
+    runs = [(f"run part {part}", ["run", "plan.json", f"part.{part}"], f"{part}.rows") for part in range(parts)]
+    return [
+        ("cuts", ["cuts", "plan.json", "input.json"], "out"),
+        ("check", ["check", "plan.json", "input.json"], "out"),
+        ("run", ["run", "plan.json", "input.json"], "whole.rows"),
+        ("split", ["split", "plan.json", "input.json", str(parts), "part"], "out"),
+        *runs,
+        ("rows", ["rows", *(out for _, _, out in runs)], "all.rows"),
+    ]
+
+
+def costs_of(program, folder, commands, runs):
+    """What each command took, by its name. They run in turn, so that a slow minute is one for all; `split` finds no parts."""
+    costs = {name: Cost() for name, _, _ in commands}
+    for _ in range(runs):
+        for name, words, out in commands:
+            if name == "split":
+                for part in folder.glob("part.*"):
+                    part.unlink()
+            costs[name].take(*run_once(program, folder, words, out))
+    return costs
+
+
 def measure(program, folder, parts, runs):
     """Prints what each command took; returns whether the parts gave what the whole gave."""
-    on = lambda *words, out="out": measured(program, folder, runs, words, out)
-    reading = on("cuts", "plan.json", "input.json")
-    whole = on("run", "plan.json", "input.json", out="whole.rows")
-    split = on("split", "plan.json", "input.json", str(parts), "part")
-    told("cuts", reading, reading.cpu)
-    told("check", on("check", "plan.json", "input.json"), reading.cpu)
-    told("run", whole, reading.cpu)
-    told(f"split {parts}", split, reading.cpu)
-    costs = [on("run", "plan.json", f"part.{part}", out=f"{part}.rows") for part in range(parts)]
-    for part, cost in enumerate(costs):
-        told(f"run part {part}", cost, reading.cpu)
-    rows = on("rows", *(f"{part}.rows" for part in range(parts)), out="all.rows")
-    told("rows", rows, reading.cpu)
-    slowest = max(cost.wall for cost in costs)
-    print(f"longest way over one run: the slowest part {slowest / whole.wall:.2f}, with split and rows {(slowest + split.wall + rows.wall) / whole.wall:.2f}")
+    costs = costs_of(program, folder, commands_of(parts), runs)
+    for name, cost in costs.items():
+        told(name, cost, costs["cuts"].cpu)
+    slowest = max(cost.wall for name, cost in costs.items() if name.startswith("run part"))
+    way = slowest + costs["split"].wall + costs["rows"].wall
+    whole = costs["run"].wall
+    print(f"longest way over one run: the slowest part {slowest / whole:.2f}, with split and rows {way / whole:.2f}")
     return (folder / "all.rows").read_bytes() == (folder / "whole.rows").read_bytes()
 
 
