@@ -3,5 +3,6 @@ mod Unique
 mod Numerals
 mod Lines
 mod Parts
+mod ThreeDigits
 pub mod Ascii
 pub mod Facts

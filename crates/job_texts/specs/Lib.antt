@@ -1,6 +1,7 @@
 pub mod Fault
 pub mod FaultText
 pub mod Text
+pub mod ThreeDigits
 pub mod Group
 pub mod Cut
 pub mod LayoutText

@@ -2,6 +2,7 @@
 #![tactic(auto)]
 
 mod cut;
+mod digits;
 mod fault;
 mod group;
 pub mod laws;
