@@ -64,6 +64,10 @@ without_numbers (Some a) h = absurd cc
 pub same_totals : (es fs : List (Pane × AccData)) → ((q : Pane) → acc_at es q ≡ acc_at fs q) → from_entries {R = pane_cmp} (totals es) ≡ from_entries (totals fs)
 same_totals es fs is = same_map pane_cmp_total pane_cmp-IsAntisymmetric _ _ (λ q. get-totals es q ∙ ap (option_map (λ (a : AccData). a.total)) (is q) ∙ sym (get-totals fs q))
 
+-- and so do those that have the same totals
+pub same_by_totals : (es fs : List (Pane × AccData)) → ((q : Pane) → total_at es q ≡ total_at fs q) → from_entries {R = pane_cmp} (totals es) ≡ from_entries (totals fs)
+same_by_totals es fs is = same_map pane_cmp_total pane_cmp-IsAntisymmetric _ _ (λ q. get-totals es q ∙ is q ∙ sym (get-totals fs q))
+
 pub total_cond : (b : Bool) (a o : Option AccData) → option_map (λ (x : AccData). x.total) (cond b a o) ≡ cond b (option_map (λ (x : AccData). x.total) a) (option_map (λ (x : AccData). x.total) o)
 total_cond true a o = refl
 total_cond false a o = refl

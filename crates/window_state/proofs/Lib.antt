@@ -3,10 +3,9 @@ mod Spread
 mod Updates
 mod Slides
 mod Entries
-mod Ordered
+mod Starts
 mod Sorted
 mod Rows
 mod PartMaps
-mod Due
 mod Placed
 pub mod Facts

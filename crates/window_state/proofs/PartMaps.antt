@@ -1,18 +1,20 @@
 -- The parts of a map, and the map of parts.
-use Rattle.std.proofs.Common.{◌≡◌, ℕ, ◌+◌, ◌<◌, Bool, true, false, cond, ◌||◌, List, [], ◌∷◌, length, take, get_or, None, ◌++◌, refl, sym, ap, ◌∙◌, Option, Some}
+use Rattle.std.proofs.Common.{◌≡◌, ℕ, ℤ, ◌+◌, ◌<◌, Bool, true, false, cond, ◌||◌, List, [], ◌∷◌, length, take, get_or, None, ◌++◌, refl, sym, ap, ◌∙◌, Option, Some}
 use Rattle.std.specs.FinMap.{from_entries}
-use Rattle.std.specs.List.Sorted.{IsStrictlySortedBy}
+use Rattle.std.specs.Global.{Vec}
+use Rattle.std.specs.Ordering.{is_eq}
 use Rattle.std.specs.Option.{is_some}
 use Rattle.std.proofs.lemmas.List.{take_more, map-append}
 use Rattle.plan_model.specs.declared.spec.Pane.{Pane}
 use Rattle.plan_model.specs.Rows.{pane_cmp}
 use Rattle.aggregates.specs.Kinds.{AccData}
 use Rattle.window_state.specs.declared.parts.Part.{Part}
-use Rattle.window_state.specs.Windows.{is_pane, acc_at, AreOrdered}
+use Rattle.window_state.specs.Windows.{acc_at, has_pane, is_pane}
+use Rattle.window_state.specs.Open.{has_open, AreOpen}
 use Rattle.window_state.specs.State.{totals}
 use Rattle.window_state.specs.Parts.{parts_in, panes_in, accs_in, entries_of}
 use Rattle.window_state.proofs.Entries.{tied, same_totals}
-use Rattle.window_state.proofs.Ordered.{has_pane}
+use Rattle.window_state.proofs.Sorted.{flips}
 use Rattle.window_state.proofs.Spread.{found-push, found-again}
 
 pub totals-parts : (es : List (Pane × AccData)) → entries_of (parts_in es) ≡ totals es
@@ -60,5 +62,25 @@ panes_found (p ∷ parts) q = (λ i. tied q p.pane i || panes_found parts q i) �
     by_case true o = refl
     by_case false o = refl
 
-pub order_of_parts : (ps : List Pane) (es : List (Pane × AccData)) (parts : List Part) → IsStrictlySortedBy pane_cmp ps → ((q : Pane) → has_pane ps q ≡ has_pane (panes_in parts) q) → HasFirst parts es → AreOrdered ps es
-order_of_parts ps es parts ordered those first = record { ordered = ordered; those = λ q. those q ∙ panes_found parts q ∙ ap is_some (sym (first q)) }
+pub opened_of_parts : (opened : List (ℤ × Vec ℤ)) (es : List (Pane × AccData)) (parts : List Part) → ((q : Pane) → has_open opened q ≡ has_pane (panes_in parts) q) → HasFirst parts es → AreOpen opened es
+opened_of_parts opened es parts those first q = those q ∙ panes_found parts q ∙ ap is_some (sym (first q))
+
+-- the pane of one part more
+pub pane_more : (parts : List Part) (i : ℕ) (p : Part) (q : Pane) → i < length parts → p ≡ get_or parts i p
+    → cond (is_pane p.pane q) true (has_pane (panes_in (take i parts)) q) ≡ has_pane (panes_in (take (i + 1) parts)) q
+pane_more parts i p q low is =
+    behind (panes_in (take i parts))
+    ∙ ap (λ l. has_pane l q) (sym (ap panes_in (take_more parts i p low ∙ (λ t. take i parts ++ sym is t ∷ [])) ∙ map-append (λ (x : Part). x.pane) (take i parts) (p ∷ [])))
+  where
+    one : (b c : Bool) → b ≡ c → cond b true false ≡ (c || false)
+    one true c e = ap (λ x. x || false) e
+    one false c e = ap (λ x. x || false) e
+
+    later : (a b c : Bool) → cond b true c ≡ cond b true c → cond b true (a || c) ≡ (a || cond b true c)
+    later true true c e = refl
+    later true false c e = refl
+    later false b c e = refl
+
+    behind : (ps : List Pane) → cond (is_pane p.pane q) true (has_pane ps q) ≡ has_pane (ps ++ p.pane ∷ []) q
+    behind [] = one (is_pane p.pane q) (is_eq (pane_cmp q p.pane)) (flips p.pane q ∙ sym (tied q p.pane))
+    behind (x ∷ ps) = later (is_eq (pane_cmp q x)) (is_pane p.pane q) (has_pane ps q) refl ∙ ap (λ b. is_eq (pane_cmp q x) || b) (behind ps)

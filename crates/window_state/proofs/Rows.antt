@@ -77,12 +77,16 @@ option_twice : (w : WindowSpec) (q : Pane) (o : Option AccData) → option_map (
 option_twice w q None = refl
 option_twice w q (Some a) = refl
 
--- the entries in order have the same in each pane
-pub rows_fired : (w : WindowSpec) (t : ℤ) (es sorted : List (Pane × AccData)) → IsStrictlySortedBy pane_cmp (keys_of sorted) → ((q : Pane) → acc_at sorted q ≡ acc_at es q)
+same_due : (w : WindowSpec) (q : Pane) (b : Bool) (x y : Option AccData) → (b ≡ true → x ≡ y) → option_to_list (if b then option_map (λ a. row_at w q a.total) x else None) ≡ option_to_list (if b then option_map (λ a. row_at w q a.total) y else None)
+same_due w q true x y same = ap (λ o. option_to_list (option_map (λ (a : AccData). row_at w q a.total) o)) (same refl)
+same_due w q false x y same = refl
+
+-- the entries in order have the same in each pane whose window fires
+pub rows_fired : (w : WindowSpec) (t : ℤ) (es sorted : List (Pane × AccData)) → IsStrictlySortedBy pane_cmp (keys_of sorted) → ((q : Pane) → is_due w t q.start ≡ true → acc_at sorted q ≡ acc_at es q)
     → AreRowsOf (fired w t (get (from_entries {R = pane_cmp} (totals es)))) (rows_due w t sorted)
 rows_fired w t es sorted strict same q =
     rows_found w t sorted strict q
-    ∙ ap (λ o. option_to_list (if is_due w t q.start then option_map (λ a. row_at w q a.total) o else None)) (same q)
+    ∙ same_due w q (is_due w t q.start) (acc_at sorted q) (acc_at es q) (same q)
     ∙ sym (ap (λ o. option_to_list (if is_due w t q.start then o else None)) (ap (option_map (row_at w q)) (get-totals es q) ∙ option_twice w q (acc_at es q)))
 
 -- ---- in order

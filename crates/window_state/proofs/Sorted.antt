@@ -10,7 +10,7 @@ use Rattle.std.proofs.lemmas.Int.{ints}
 use Rattle.plan_model.specs.declared.spec.Pane.{Pane}
 use Rattle.plan_model.specs.Rows.{pane_cmp}
 use Rattle.aggregates.specs.Kinds.{AccData}
-use Rattle.window_state.specs.Windows.{is_pane, acc_at, AreOrdered}
+use Rattle.window_state.specs.Windows.{is_pane, acc_at, has_pane}
 use Rattle.window_state.specs.Parts.{with_entry, entries_at}
 use Rattle.window_state.proofs.Updates.{pane_from_test}
 use Rattle.window_state.proofs.Entries.{tied}
@@ -70,8 +70,8 @@ any_pane : (ps : List Pane) (q : Pane) → list_any (λ p. is_eq (pane_cmp q p))
 any_pane [] q = refl
 any_pane (p ∷ ps) q = λ i. tied q p i || any_pane ps q i
 
-pub found_at : (es : List (Pane × AccData)) (ps : List Pane) (q : Pane) → AreOrdered ps es → acc_at (entries_at es ps) q ≡ acc_at es q
-found_at es ps q order = found_among es ps q ∙ by_case (acc_at es q) refl
+pub found_at : (es : List (Pane × AccData)) (ps : List Pane) (q : Pane) → has_pane ps q ≡ is_some (acc_at es q) → acc_at (entries_at es ps) q ≡ acc_at es q
+found_at es ps q those = found_among es ps q ∙ by_case (acc_at es q) refl
   where
     either_none : (b : Bool) → (let none : Option AccData = None in cond b none none ≡ none)
     either_none true = refl
@@ -79,4 +79,4 @@ found_at es ps q order = found_among es ps q ∙ by_case (acc_at es q) refl
 
     by_case : (o : Option AccData) → acc_at es q ≡ o → (if list_any (is_pane q) ps then acc_at es q else None) ≡ acc_at es q
     by_case None e = ap (λ o. if list_any (is_pane q) ps then o else None) e ∙ either_none (list_any (is_pane q) ps) ∙ sym e
-    by_case (Some a) e = ap (λ b. if b then acc_at es q else None) (sym (any_pane ps q) ∙ order.those q ∙ ap is_some e)
+    by_case (Some a) e = ap (λ b. if b then acc_at es q else None) (sym (any_pane ps q) ∙ those ∙ ap is_some e)

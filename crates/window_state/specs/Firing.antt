@@ -1,12 +1,11 @@
 -- The rows of windows that fire.
-use Rattle.std.specs.Prelude.{◌≡◌, ℤ, true, false, map, filter, List, Option, Some, None, if◌then◌else◌}
-use Rattle.std.specs.List.{All, list_any}
-use Rattle.std.specs.Ordering.{is_eq}
+use Rattle.std.specs.Prelude.{◌≡◌, ℤ, true, map, filter, List, Option, Some, None, if◌then◌else◌}
+use Rattle.std.specs.List.{All}
 use Rattle.plan_model.specs.declared.spec.Having.{Having}
 use Rattle.plan_model.specs.declared.spec.WindowSpec.{WindowSpec}
 use Rattle.plan_model.specs.declared.spec.Pane.{Pane}
 use Rattle.plan_model.specs.declared.spec.Row.{Row}
-use Rattle.plan_model.specs.Rows.{pane_cmp, is_due, keeps, row_at}
+use Rattle.plan_model.specs.Rows.{is_due, keeps, row_at}
 use Rattle.aggregates.specs.Kinds.{AccData}
 
 -- the rows of the entries that fire by a watermark, in order
@@ -16,14 +15,6 @@ rows_due w watermark entries = map (λ e. row_at w e.0 e.1.total) (filter (λ e.
 -- each window of the panes fires by a watermark
 abbrev pub AllDue : WindowSpec → ℤ → List Pane → Type 0
 AllDue w watermark panes = All (λ p. is_due w watermark p.start ≡ true) panes
-
--- no window of the panes fires by a watermark
-abbrev pub NoneDue : WindowSpec → ℤ → List Pane → Type 0
-NoneDue w watermark panes = All (λ p. is_due w watermark p.start ≡ false) panes
-
--- the rest has the panes but for one
-abbrev pub IsWithout : Pane → List Pane → List Pane → Type 0
-IsWithout p panes rest = (q : Pane) → list_any (λ x. is_eq (pane_cmp q x)) rest ≡ (if is_eq (pane_cmp p q) then false else list_any (λ x. is_eq (pane_cmp q x)) panes)
 
 -- a row that meets the having conditions
 abbrev pub kept_where : List Having → Option Row → Option Row

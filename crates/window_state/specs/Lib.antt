@@ -3,6 +3,7 @@ pub mod State
 pub mod StateView
 pub mod Codes
 pub mod Firing
+pub mod Open
 pub mod Parts
 pub mod Hashing
 pub mod Words

@@ -1,9 +1,8 @@
 -- The windows of a state as a function of a pane, and what every state's windows meet.
-use Rattle.std.specs.Prelude.{◌≡◌, ℕ, ℤ, neg_ℤ, ◌+ℤ◌, ◌≤◌, ◌<◌, ◌<ℤ◌, length, map, List, Option, Some, is_some, option_map, Bool, ◌&&◌}
+use Rattle.std.specs.Prelude.{◌≡◌, ℕ, ℤ, neg_ℤ, ◌+ℤ◌, ◌≤◌, ◌<◌, ◌<ℤ◌, length, map, List, Option, Some, option_map, Bool, ◌&&◌}
 use Rattle.std.specs.Map.{keys_of, lookup}
 use Rattle.std.specs.Ordering.{int_eq, is_eq}
 use Rattle.std.specs.List.{All, IsDistinct, list_any}
-use Rattle.std.specs.List.Sorted.{IsStrictlySortedBy}
 use Rattle.plan_model.specs.declared.spec.WindowSpec.{WindowSpec}
 use Rattle.plan_model.specs.declared.spec.Pane.{Pane}
 use Rattle.plan_model.specs.PlanData.{IsWindow, has_column}
@@ -35,10 +34,9 @@ pub record AreWindows (w : WindowSpec) (es : List (Pane × AccData)) : Type 0 wh
   pub kinds : (q : Pane) (a : AccData) → acc_at es q ≡ Some a → a.kinds ≡ map kind_of w.aggregates
   pub starts : (q : Pane) (a : AccData) → acc_at es q ≡ Some a → IsStart q.start
 
--- the panes ascend, and are just those of the windows
-pub record AreOrdered (panes : List Pane) (es : List (Pane × AccData)) : Type 0 where
-  pub ordered : IsStrictlySortedBy pane_cmp panes
-  pub those : (q : Pane) → list_any (λ p. is_eq (pane_cmp q p)) panes ≡ is_some (acc_at es q)
+-- whether q is one of the panes
+abbrev pub has_pane : List Pane → Pane → Bool
+has_pane ps q = list_any (λ p. is_eq (pane_cmp q p)) ps
 
 -- a window operator as every plan has it
 pub record IsOperator (w : WindowSpec) : Type 0 where

@@ -6,6 +6,7 @@ mod fault;
 mod firing;
 mod hashing;
 mod having;
+mod opened;
 mod parts;
 mod places;
 mod state;

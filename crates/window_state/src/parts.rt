@@ -6,6 +6,7 @@ ghost use Rattle.std.specs.List.{All};
 ghost use Rattle.aggregates.specs.Kinds.{kind_of};
 ghost use Rattle.window_state.specs.Parts.{entries_of, IsPartOf};
 
+use crate::opened::all_panes;
 use crate::windows::Windows;
 use aggregates::{Acc, Kind};
 use plan_model::{Aggregate, Pane};
@@ -23,9 +24,10 @@ pub(crate) fn parts_of(alloc: Global, windows: &Windows) -> Result<Vec<Part>, Al
     ensures says { IfOk result (λ parts. entries_of parts.items ≡ entries windows.now.totals) }
     ensures sound { IfOk result (λ parts. All (IsPartOf windows.now.window) parts.items) }
 {
+    let panes = all_panes(alloc, &windows.opened)?;
     let mut parts = Vec::with_capacity(alloc, windows.places.len())?;
     let kinds = kinds_of(alloc, windows.window().aggregates.as_slice())?;
-    for pane in &windows.panes {
+    for pane in &panes {
         if let Some(acc) = windows.places.acc(alloc, kinds.as_slice(), pane)? {
             parts.push(Part { pane: *pane, acc })?;
         }

@@ -1,12 +1,14 @@
 //! The places of panes.
 
-ghost use Rattle.std.specs.Prelude.{◌≡◌, true, false, pos, ◌++◌, ◌∷◌, [], ◌^◌, ◌<◌, ◌≤◌, ◌*◌, length, map, replicate, slice_index_or, IfOk, IfSome, OnOk, OnErr, Some, None, is_some, if◌then◌else◌};
+ghost use Rattle.std.specs.Prelude.{◌≡◌, true, false, pos, ◌++◌, ◌∷◌, [], ◌^◌, ◌<◌, ◌≤◌, ◌*◌, ◌&&◌, length, map, replicate, slice_index_or, IfOk, IfSome, OnOk, OnErr, Some, None, is_some, if◌then◌else◌};
 ghost use Rattle.std.specs.List.{All, IsDistinct, list_any};
 ghost use Rattle.std.specs.Option.{option_map};
+ghost use Rattle.std.specs.Ordering.{int_eq};
 ghost use Rattle.plan_model.specs.declared.spec.Pane.{Pane as PaneValue};
 ghost use Rattle.plan_model.specs.Aggregates.{aggregate_of, merge};
 ghost use Rattle.aggregates.specs.Kinds.{AccData, kind_of};
 ghost use Rattle.window_state.specs.Windows.{acc_at, is_pane, total_at, CanAggregate, IsOperator, IsStart};
+ghost use Rattle.window_state.specs.Open.{has_key};
 ghost use Rattle.window_state.specs.Parts.{IsPartOf};
 
 use crate::hashing::HashKeys;
@@ -196,6 +198,16 @@ impl Places {
             let words = self.words.as_mut_slice();
             words.copy_within(last.., place * self.stride);
             self.words.truncate(last);
+        }
+    }
+
+    /// Takes the places of keys at a start.
+    pub fn remove_keys(&mut self, start: i64, keys: &[i64])
+        ensures window_stays { self.new.window ≡ self.old.window }
+        ensures taken { (q : PaneValue) → acc_at self.new.entries q ≡ (if int_eq q.start start && has_key q.key keys.now then None else acc_at self.old.entries q) }
+    {
+        for key in keys {
+            self.remove(&Pane { start, key: *key });
         }
     }
 

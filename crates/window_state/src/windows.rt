@@ -1,29 +1,30 @@
 //! Open windows.
 
 ghost use Rattle.std.specs.Prelude.{◌≡◌, OnOk, OnErr, IfOk, None, if◌then◌else◌, [], ◌∷◌, length, slice_index_or, ◌<◌};
-ghost use Rattle.std.specs.BTreeSet.{IsFromIterResult};
 ghost use Rattle.std.specs.FinMap as map;
 ghost use Rattle.std.specs.List.{All};
 ghost use Rattle.plan_model.specs.declared.spec.Pane.{Pane as PaneValue};
 ghost use Rattle.plan_model.specs.Aggregates.{aggregate_of};
-ghost use Rattle.plan_model.specs.Rows.{pane_cmp};
-ghost use Rattle.window_state.specs.Windows.{IsOperator, CanAggregate, IsStart, acc_at, is_pane};
+ghost use Rattle.window_state.specs.Open.{has_open};
+ghost use Rattle.window_state.specs.Windows.{IsOperator, CanAggregate, IsStart, acc_at, has_pane, is_pane};
 ghost use Rattle.window_state.specs.Parts.{accs_in, entries_of, panes_in, IsPartOf};
 
 use crate::hashing::HashKeys;
+use crate::opened::{OpenPanes, open_pane};
 use crate::parts::Part;
 use crate::places::Places;
 use columns::Batch;
 use plan_model::{Pane, WindowSpec};
 use std::alloc::{AllocError, Global};
-use std::collections::BTreeSet;
+use std::collections::BTreeMap;
 use std::marker::Model;
 
-/// The open windows of a window operator: what stands in each pane, and the panes in order.
+/// The open windows of a window operator: what stands in each pane, and the panes by their starts.
 #[derive(Drop)]
 pub(crate) struct Windows {
+    alloc: Global,
     pub places: Places,
-    pub panes: BTreeSet<Pane>,
+    pub opened: OpenPanes,
 }
 
 impl Model for Windows {
@@ -50,8 +51,9 @@ impl Windows {
         ensures { result ≡ record { window = window; totals = map.empty } }
     {
         Windows {
+            alloc,
             places: Places::new(alloc, keys, window),
-            panes: BTreeSet::new(alloc),
+            opened: BTreeMap::new(alloc),
         }
     }
 
@@ -67,8 +69,12 @@ impl Windows {
         ensures { IfOk result (λ windows. windows ≡ record { window = window; totals = map.from_entries (entries_of parts.now) }) }
     {
         let places = places_of(alloc, keys, window, parts)?;
-        let panes = panes_of(alloc, parts)?;
-        Ok(Windows { places, panes })
+        let opened = open_of(alloc, parts)?;
+        Ok(Windows {
+            alloc,
+            places,
+            opened,
+        })
     }
 
     /// The window operator.
@@ -90,11 +96,11 @@ impl Windows {
         ensures err { OnErr result (self.new ≡ self.old) }
         ensures window_stays { self.new.window ≡ self.old.window }
     {
-        self.panes.insert(pane)?;
-        match self.places.push_first(pane, batch, row) {
+        self.places.push_first(pane, batch, row)?;
+        match open_pane(self.alloc, &mut self.opened, pane) {
             Ok(()) => Ok(()),
             Err(_) => {
-                self.panes.remove(&pane);
+                self.places.remove(&pane);
                 Err(AllocError)
             }
         }
@@ -122,9 +128,13 @@ fn places_of(
     Ok(places)
 }
 
-/// The panes of the parts, in order.
-fn panes_of(alloc: Global, parts: &[Part]) -> Result<BTreeSet<Pane>, AllocError>
-    ensures { IfOk result (IsFromIterResult pane_cmp (panes_in parts.now)) }
+/// The panes of the parts, by their starts.
+fn open_of(alloc: Global, parts: &[Part]) -> Result<OpenPanes, AllocError>
+    ensures { IfOk result (λ opened. (q : PaneValue) → has_open opened.entries q ≡ has_pane (panes_in parts.now) q) }
 {
-    parts.iter().map(|part| part.pane).collect(alloc)
+    let mut opened = BTreeMap::new(alloc);
+    for part in parts {
+        open_pane(alloc, &mut opened, part.pane)?;
+    }
+    Ok(opened)
 }

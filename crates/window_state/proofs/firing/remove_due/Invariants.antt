@@ -5,12 +5,12 @@ use Rattle.window_state.specs.Windows.{acc_at}
 use Rattle.window_state.specs.StateView.{IsWindowsInside}
 use Rattle.window_state.proofs.firing.remove_due.Given as goal
 
-abbrev pub invariant-loop-pane : goal.invariant-loop-pane
-invariant-loop-pane l = record {
+abbrev pub invariant-loop-start : goal.invariant-loop-start
+invariant-loop-start l = record {
   window : l.windows-inside.places.window ≡ l.initial.windows-inside.places.window;
   sound : IsWindowsInside l.windows-inside;
   later : (q : Pane) → is_due l.windows-inside.places.window l.watermark q.start ≡ false → acc_at l.windows-inside.places.entries q ≡ acc_at l.initial.windows-inside.places.entries q;
 }
 
-abbrev pub decreases-loop-pane : goal.decreases-loop-pane
-decreases-loop-pane l = length l.windows-inside.panes.keys
+abbrev pub decreases-loop-start : goal.decreases-loop-start
+decreases-loop-start l = length l.windows-inside.opened.entries

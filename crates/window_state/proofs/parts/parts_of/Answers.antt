@@ -1,4 +1,4 @@
-use Rattle.std.proofs.Common.{◌≡◌, ◌++◌, ◌∷◌, [], None, Some, ◌∙◌, sym, ap, subst, append_assoc, append-nil}
+use Rattle.std.proofs.Common.{◌≡◌, ◌++◌, ◌∷◌, [], None, Some, ◌∙◌, rules, sym, ap, subst, append_assoc, append-nil}
 use Rattle.std.specs.Prelude.{IfSome}
 use Rattle.std.specs.FinMap.{entries}
 use Rattle.std.specs.List.{All}
@@ -13,8 +13,8 @@ use Rattle.window_state.proofs.Sorted.{entries_strict, found_at}
 use Rattle.window_state.proofs.PartMaps.{totals-parts}
 use Rattle.window_state.proofs.parts.parts_of.Goals as goal
 
-pub loop-pane-preserved-in-Continue-branch-5 : goal.loop-pane-preserved-in-Continue-branch-5
-loop-pane-preserved-in-Continue-branch-5 c =
+pub loop-pane-preserved-in-Continue-branch-6 : goal.loop-pane-preserved-in-Continue-branch-6
+loop-pane-preserved-in-Continue-branch-6 c =
     let es = c.windows.inside.places.entries in
     let w = c.windows.inside.places.window in
     let p = c.in-Some.pane.now in
@@ -44,11 +44,12 @@ pub returns-clause-says : goal.returns-clause-says
 returns-clause-says c =
     let s = c.windows.inside in
     let es = s.places.entries in
-    let order = c.windows.invariant in
-    let sorted = entries_at es s.panes.keys in
+    let ps = c.in_ok-panes.panes.keys in
+    let gives : c.into_iter-pane-iterator.result ≡ ps = search rules in
+    let sorted = entries_at es ps in
     let parts = c.loop-pane.parts.items in
-    let all : parts ≡ parts_in sorted = sym (append-nil parts) ∙ ap (λ l. parts ++ parts_in (entries_at es l)) (sym c.in-None.ensures.steps.0) ∙ c.loop-pane.invariant.same in
+    let all : parts ≡ parts_in sorted = sym (append-nil parts) ∙ ap (λ l. parts ++ parts_in (entries_at es l)) (sym c.in-None.ensures.steps.0) ∙ c.loop-pane.invariant.same ∙ ap (λ l. parts_in (entries_at es l)) gives in
     ap entries_of all ∙ totals-parts sorted
-    ∙ sym (entries-totals sorted (entries_strict es s.panes.keys order.ordered))
-    ∙ ap entries (same_totals sorted es (λ q. found_at es s.panes.keys q order))
+    ∙ sym (entries-totals sorted (entries_strict es ps c.in_ok-panes.ensures.ordered))
+    ∙ ap entries (same_totals sorted es (λ q. found_at es ps q (c.in_ok-panes.ensures.those q ∙ c.windows.invariant q)))
     ∙ ap (λ (v : OpenWindows). entries v.totals) c.windows.view_is

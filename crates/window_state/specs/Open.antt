@@ -1,0 +1,24 @@
+-- The panes of open windows, by the start of their window.
+use Rattle.std.specs.Prelude.{◌≡◌, ℤ, map, Bool, ◌&&◌, List, is_some}
+use Rattle.std.specs.List.{list_any}
+use Rattle.std.specs.Ordering.{int_eq}
+use Rattle.std.specs.Global.{Vec}
+use Rattle.plan_model.specs.declared.spec.Pane.{Pane}
+use Rattle.aggregates.specs.Kinds.{AccData}
+use Rattle.window_state.specs.Windows.{acc_at}
+
+-- whether a key is one of some
+abbrev pub has_key : ℤ → List ℤ → Bool
+has_key k keys = list_any (int_eq k) keys
+
+-- whether a pane is open: its key is one of those of its start
+abbrev pub has_open : List (ℤ × Vec ℤ) → Pane → Bool
+has_open opened q = list_any (λ e. int_eq q.start e.0 && has_key q.key e.1.items) opened
+
+-- the panes of keys at a start
+abbrev pub panes_from : ℤ → List ℤ → List Pane
+panes_from start keys = map (λ k. record { start = start; key = k }) keys
+
+-- the open panes are just those of the windows
+abbrev pub AreOpen : List (ℤ × Vec ℤ) → List (Pane × AccData) → Type 0
+AreOpen opened es = (q : Pane) → has_open opened q ≡ is_some (acc_at es q)

@@ -1,0 +1,122 @@
+//! The panes of open windows, by the start of their window.
+
+ghost use Rattle.std.specs.Prelude.{◌≡◌, ◌++◌, ◌&&◌, ◌↔◌, ◌<◌, length, true, false, IfOk, IfSome, IfNone, OnOk, OnErr, if◌then◌else◌};
+ghost use Rattle.std.specs.BTreeSet.{IsFromIterResult};
+ghost use Rattle.std.specs.List.{All};
+ghost use Rattle.std.specs.List.Sorted.{IsStrictlySortedBy};
+ghost use Rattle.std.specs.Ordering.{int_eq};
+ghost use Rattle.plan_model.specs.declared.spec.Pane.{Pane as PaneValue};
+ghost use Rattle.plan_model.specs.Rows.{is_due as due, pane_cmp};
+ghost use Rattle.window_state.specs.Windows.{has_pane, is_pane};
+ghost use Rattle.window_state.specs.Open.{has_open, has_key, panes_from};
+
+use crate::firing::is_due;
+use plan_model::{Pane, WindowSpec};
+use std::alloc::{AllocError, Global};
+use std::collections::{BTreeMap, BTreeSet};
+
+/// For each start of an open window the keys that have a pane there, in the order in which they came. They are put in order
+/// only when their window fires, which costs less than to keep all panes in order.
+pub(crate) type OpenPanes = BTreeMap<i64, Vec<i64>>;
+
+/// Puts a pane behind those of its start. Where no memory is to be had, nothing has changed.
+pub(crate) fn open_pane(alloc: Global, opened: &mut OpenPanes, pane: Pane) -> Result<(), AllocError>
+    ensures opened { OnOk result ((q : PaneValue) → has_open opened.new.entries q ≡ (if is_pane pane q then true else has_open opened.old.entries q)) }
+    ensures err { OnErr result ((q : PaneValue) → has_open opened.new.entries q ≡ has_open opened.old.entries q) }
+{
+    if let Some(keys) = opened.get_mut(&pane.start) {
+        return match keys.push(pane.key) {
+            Ok(()) => Ok(()),
+            Err(_) => Err(AllocError),
+        };
+    }
+    let mut keys = Vec::new(alloc);
+    keys.push(pane.key)?;
+    match opened.insert(pane.start, keys) {
+        Ok(_) => Ok(()),
+        Err(_) => Err(AllocError),
+    }
+}
+
+/// Puts the panes of a start behind others.
+fn push_panes(panes: &mut Vec<Pane>, start: i64, keys: &[i64]) -> Result<(), AllocError>
+    ensures { OnOk result (panes.new.items ≡ panes.old.items ++ panes_from start keys.now) }
+{
+    for key in keys {
+        panes.push(Pane { start, key: *key })?;
+    }
+    Ok(())
+}
+
+/// Panes in order.
+fn sorted(alloc: Global, panes: &[Pane]) -> Result<BTreeSet<Pane>, AllocError>
+    ensures { IfOk result (IsFromIterResult pane_cmp panes.now) }
+{
+    panes.iter().map(|pane| *pane).collect(alloc)
+}
+
+/// The panes whose windows fire by the watermark, in order.
+pub(crate) fn due_panes(
+    alloc: Global,
+    opened: &OpenPanes,
+    w: &WindowSpec,
+    watermark: i64,
+) -> Result<BTreeSet<Pane>, AllocError>
+    ensures ordered { IfOk result (λ panes. IsStrictlySortedBy pane_cmp panes.keys) }
+    ensures those { IfOk result (λ panes. (q : PaneValue) → has_pane panes.keys q ≡ (due w.now watermark q.start && has_open opened.now.entries q)) }
+{
+    let mut panes = Vec::new(alloc);
+    for (start, keys) in opened {
+        if !is_due(w, watermark, *start) {
+            break;
+        }
+        push_panes(&mut panes, *start, keys.as_slice())?;
+    }
+    let panes = sorted(alloc, panes.as_slice())?;
+    Ok(panes)
+}
+
+/// All panes, in order.
+pub(crate) fn all_panes(alloc: Global, opened: &OpenPanes) -> Result<BTreeSet<Pane>, AllocError>
+    ensures ordered { IfOk result (λ panes. IsStrictlySortedBy pane_cmp panes.keys) }
+    ensures those { IfOk result (λ panes. (q : PaneValue) → has_pane panes.keys q ≡ has_open opened.now.entries q) }
+{
+    let mut panes = Vec::new(alloc);
+    for (start, keys) in opened {
+        push_panes(&mut panes, *start, keys.as_slice())?;
+    }
+    let panes = sorted(alloc, panes.as_slice())?;
+    Ok(panes)
+}
+
+/// Whether each window fires by the watermark: the last does.
+pub(crate) fn are_all_due(opened: &OpenPanes, w: &WindowSpec, watermark: i64) -> bool
+    ensures { result ≡ true ↔ All (λ e. due w.now watermark e.0 ≡ true) opened.now.entries }
+{
+    match opened.last_key_value() {
+        Some((start, _)) => is_due(w, watermark, *start),
+        None => true,
+    }
+}
+
+/// Takes the panes of the first window out, where it fires by the watermark. All windows have one size, so that those that
+/// fire come before those that do not.
+pub(crate) fn pop_due(
+    opened: &mut OpenPanes,
+    w: &WindowSpec,
+    watermark: i64,
+) -> Option<(i64, Vec<i64>)>
+    ensures taken { IfSome result (λ first. (q : PaneValue) → has_open opened.new.entries q ≡ (if int_eq q.start first.0 then false else has_open opened.old.entries q)) }
+    ensures those { IfSome result (λ first. (q : PaneValue) → int_eq q.start first.0 ≡ true → has_open opened.old.entries q ≡ has_key q.key first.1.items) }
+    ensures due { IfSome result (λ first. due w.now watermark first.0 ≡ true) }
+    ensures fewer { IfSome result (λ first. length opened.new.entries < length opened.old.entries) }
+    ensures none { IfNone result (All (λ e. due w.now watermark e.0 ≡ false) opened.old.entries) }
+    ensures same { IfNone result (opened.new.entries ≡ opened.old.entries) }
+{
+    let (start, _) = opened.first_key_value()?;
+    if is_due(w, watermark, *start) {
+        opened.pop_first()
+    } else {
+        None
+    }
+}
