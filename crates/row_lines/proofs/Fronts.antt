@@ -1,35 +1,17 @@
 -- Numbers in front of a text.
-use Rattle.std.proofs.Common.{◌≡◌, ℕ, ℤ, ◌+◌, ◌-◌, ◌*◌, ◌^◌, ◌<◌, List, [], ◌∷◌, ◌++◌, length, get_or, take, FitsSigned, rules, arith, sym, ap, subst, ◌∙◌, append_assoc, length-append, to_z, of_z}
+use Rattle.std.proofs.Common.{◌≡◌, ℕ, ℤ, ◌+◌, ◌^◌, ◌<◌, List, [], ◌∷◌, ◌++◌, length, get_or, take, FitsSigned, rules, arith, sym, ap, subst, ◌∙◌, append_assoc, length-append, to_z, of_z}
 use mir.Syntax.{w64, w128}
-use Rattle.std.specs.Char.{digit_value}
 use Rattle.std.specs.Fmt.{decimal, signed_decimal}
-use Rattle.std.specs.Str.Parse.{AllDigits}
 use Rattle.std.specs.List.{All, flat_map}
 use Rattle.std.proofs.lemmas.Grind.{flat_map-append}
 use Rattle.std.proofs.lemmas.Int.{to_z-of_z}
-use Rattle.std.proofs.lemmas.List.{append-nil, take_more}
-use Rattle.core.proofs.str.Classes.{has_value}
-use Rattle.core.proofs.str.DigitValues.{digits_value_more}
+use Rattle.std.proofs.lemmas.List.{append-nil}
 use Rattle.std.proofs.lemmas.List.Concat.{flat_map-cons}
 use Rattle.std.proofs.lemmas.List.Elements.{All-push, All-weaker}
 use Rattle.row_lines.specs.Text.{spaced}
 use Rattle.row_lines.specs.Numbers.{IsSizeOf, AreSpaced}
 use Rattle.row_lines.specs.Rows.{IsPlaceOf}
 use Rattle.row_lines.proofs.Sizes.{printed_size}
-
-digits_push : (ds : List ℕ) (c : ℕ) → AllDigits 10 ds → digit_value c < 10 → AllDigits 10 (ds ++ c ∷ [])
-digits_push [] c h d = (d, tt)
-digits_push (x ∷ ds) c h d = (h.0, digits_push ds c h.1 d)
-
--- one digit more
-pub size_more : (text : List ℕ) (at size longer : ℕ) → at < length text → IsSizeOf (take at text) size → digit_value (get_or text at 0) < 10 → (size * 10 + (get_or text at 0 - 48) < 2 ^ 64) × (longer ≡ size * 10 + (get_or text at 0 - 48)) → IsSizeOf (take (at + 1) text) longer
-size_more text at size longer lt h bound is =
-    let digit = has_value (get_or text at 0) 10 (omega arith) bound in
-    let same : get_or text at 0 - 48 ≡ digit_value (get_or text at 0) = omega arith in (
-      subst (AllDigits 10) (sym (take_more text at 0 lt)) (digits_push (take at text) (get_or text at 0) h.0 bound),
-      is.1 ∙ (λ i. h.1 i * 10 + same i) ∙ sym (digits_value_more 10 text at lt),
-      omega (arith, is.0, is.1),
-    )
 
 -- and what stands behind the digits
 pub size_printed : (text ds rest : List ℕ) (count size : ℕ) → text ≡ ds ++ rest → ds ≡ take count text → IsSizeOf (take count text) size → 0 < length ds → (get_or ds 0 0 ≡ 48 → length ds ≡ 1) → (size < 2 ^ 64) × (text ≡ decimal size ++ rest)

@@ -1,10 +1,27 @@
 -- Digits as numbers of 64 bits.
-use Rattle.std.proofs.Common.{◌≡◌, ℕ, ◌^◌, ◌<◌, List, length, get_or, arith, sym, ap, ◌∙◌}
+use Rattle.std.proofs.Common.{◌≡◌, ℕ, ◌+◌, ◌-◌, ◌*◌, ◌%◌, ◌^◌, ◌<◌, ◌≤◌, List, length, get_or, take, drop, arith, sym, ap, subst, ◌∙◌, lit<, length-take}
+use Rattle.std.specs.Float.Numeral.{digits_len}
 use Rattle.std.specs.Fmt.{decimal}
 use Rattle.std.specs.Str.Parse.{AllDigits, digits_value}
 use Rattle.std.proofs.lemmas.Fmt.{decimal-digits_value}
+use Rattle.std.proofs.lemmas.Int.Digits.{digits_value-lt}
+use Rattle.std.proofs.Math.Nat.{lt_of_lt_of_le, pow-le-pow_right}
+use Rattle.core.proofs.dec2flt.Rows.{AllDigits-digits_len}
+use Rattle.row_lines.specs.Numbers.{IsSizeOf}
 use Rattle.row_lines.proofs.Parses.{own}
 
 -- digits without a zero before others are how their number is printed
 pub printed_size : (ds : List ℕ) (n : ℕ) → 0 < length ds → (get_or ds 0 0 ≡ 48 → length ds ≡ 1) → AllDigits 10 ds → n ≡ digits_value 10 ds → n < 2 ^ 64 → ds ≡ decimal n
 printed_size ds n some zero digits is small = sym (decimal-digits_value own ds digits some zero (omega arith)) ∙ ap decimal (sym is)
+
+-- up to 19 digits in front of a text write a number of 64 bits, which is as it was read
+pub size_read : (text : List ℕ) (count size : ℕ) → count ≡ 0 + digits_len (drop 0 text) → count ≤ 19 → size ≡ (0 * 10 ^ (count - 0) + digits_value 10 (take (count - 0) (drop 0 text))) % 2 ^ 64 → IsSizeOf (take count text) size
+size_read text count size counted few read =
+    let all : AllDigits 10 (take count text) = AllDigits-digits_len text count (omega (arith, counted)) in
+    let short : length (take count text) ≤ 19 = omega (arith, length-take count text) in
+    let less : digits_value 10 (take count text) < 10 ^ 19 = lt_of_lt_of_le (digits_value-lt 10 (take count text) all) (pow-le-pow_right (lit< tt) short) in
+    let small : digits_value 10 (take count text) < 2 ^ 64 = omega (arith, less) in
+    let cut : count - 0 ≡ count = omega arith in
+    let sum : 0 * 10 ^ (count - 0) + digits_value 10 (take (count - 0) text) ≡ digits_value 10 (take count text) = rw cut (omega arith) in
+    let is : size ≡ digits_value 10 (take count text) = read ∙ ap (λ n. n % 2 ^ 64) sum ∙ omega (arith, small) in
+    (all, is, subst (λ n. n < 2 ^ 64) (sym is) small)

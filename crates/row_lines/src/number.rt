@@ -1,22 +1,19 @@
 //! Numbers in decimal, as rows have them.
 
-ghost use Rattle.std.specs.Prelude.{◌≡◌, ◌+◌, ◌*◌, ◌^◌, ◌<◌, ◌≤◌, ◌∷◌, ◌++◌, FitsSigned, IfSome, IsTrue, SomeIff, length, take, slice_index};
+ghost use Rattle.std.specs.Prelude.{◌≡◌, ◌^◌, ◌<◌, ◌≤◌, ◌∷◌, ◌++◌, FitsSigned, IfSome, IsTrue, length, take, slice_index};
 ghost use Rattle.std.specs.Int.{w64};
 ghost use Rattle.std.specs.Fmt.{decimal, signed_decimal};
 ghost use Rattle.row_lines.specs.Numbers.{GivesNumber, IsSizeOf};
 
+use core::dec2flt::read_digits;
 use itoa::Buffer;
 use std::str;
 
-/// A number with one digit more, where 64 bits without a sign hold it.
-fn with_digit(number: u64, digit: u8) -> Option<u64>
-    ensures { SomeIff result (number * 10 + digit < 2 ^ 64) (number * 10 + digit) }
-{
-    let tens = number.checked_mul(10)?;
-    tens.checked_add(u64::from(digit))
-}
+/// The most digits whose number surely fits 64 bits: those of no number of 64 bits with a sign are more.
+const MOST_DIGITS: usize = 19;
 
 /// Whether there are digits, and no zero stands before others.
+#[inline(always)]
 fn are_plain(digits: &[u8]) -> bool
     ensures some { IsTrue result → 0 < length digits.now }
     ensures zero { IsTrue result → slice_index digits.now 0 ≡ 48 → length digits.now ≡ 1 }
@@ -25,6 +22,7 @@ fn are_plain(digits: &[u8]) -> bool
 }
 
 /// The number of so many digits in front of a text, and what stands behind them, if no zero stands before others.
+#[inline(always)]
 fn with_rest(size: u64, text: &[u8], count: usize) -> Option<(u64, &[u8])>
     requires within { count ≤ length text.now }
     requires size { IsSizeOf (take count text.now) size }
@@ -39,24 +37,19 @@ fn with_rest(size: u64, text: &[u8], count: usize) -> Option<(u64, &[u8])>
 }
 
 /// The number of 64 bits without a sign that is printed in front of a text, and what stands behind its digits.
+#[inline(always)]
 fn size_front(text: &[u8]) -> Option<(u64, &[u8])>
     ensures { IfSome result (λ front. (front.0 < 2 ^ 64) × (text.now ≡ decimal front.0 ++ front.1.now)) }
 {
-    let mut size = 0;
-    for at in 0..text.len() {
-        let byte = text[at];
-        if !byte.is_ascii_digit() {
-            return with_rest(size, text, at);
-        }
-        let Some(longer) = with_digit(size, byte - b'0') else {
-            return None;
-        };
-        size = longer;
+    let (count, size) = read_digits(text, 0, 0);
+    if MOST_DIGITS < count {
+        return None;
     }
-    with_rest(size, text, text.len())
+    with_rest(size, text, count)
 }
 
 /// The number of 64 bits below zero that is printed as a hyphen and the digits in front of a text, and what stands behind them.
+#[inline(always)]
 fn negative_front(digits: &[u8]) -> Option<(i64, &[u8])>
     ensures { IfSome result (λ front. FitsSigned w64 front.0 × (45 ∷ digits.now ≡ signed_decimal front.0 ++ front.1.now)) }
 {
@@ -70,6 +63,7 @@ fn negative_front(digits: &[u8]) -> Option<(i64, &[u8])>
 }
 
 /// The number of 64 bits from zero on that is printed in front of a text, and what stands behind it.
+#[inline(always)]
 fn positive_front(text: &[u8]) -> Option<(i64, &[u8])>
     ensures { IfSome result (λ front. FitsSigned w64 front.0 × (text.now ≡ signed_decimal front.0 ++ front.1.now)) }
 {
@@ -84,6 +78,7 @@ fn positive_front(text: &[u8]) -> Option<(i64, &[u8])>
 
 /// The number of 64 bits that is printed in front of a text, and what stands behind its digits. Of a text of another number, or
 /// of none, there is none.
+#[inline(always)]
 pub(crate) fn narrow_front(text: &[u8]) -> Option<(i64, &[u8])>
     ensures { IfSome result (λ front. FitsSigned w64 front.0 × (text.now ≡ signed_decimal front.0 ++ front.1.now)) }
 {

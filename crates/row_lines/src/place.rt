@@ -20,6 +20,7 @@ pub struct RowPlace {
 }
 
 /// The number of 64 bits behind a space in front of a text, and what stands behind it.
+#[inline(always)]
 fn spaced_front(text: &[u8]) -> Option<(i64, &[u8])>
     ensures { IfSome result (λ front. FitsSigned w64 front.0 × (text.now ≡ 32 ∷ signed_decimal front.0 ++ front.1.now)) }
 {

@@ -1,7 +1,10 @@
-use Rattle.std.proofs.Common.{arith}
-use Rattle.row_lines.proofs.Fronts.{size_more}
+use Rattle.row_lines.proofs.Sizes.{size_read}
 use Rattle.row_lines.proofs.number.size_front.Goals as goal
 
-pub loop-at-preserved : goal.loop-at-preserved
-loop-at-preserved c =
-    size_more c.args.text.now c.loop-at.at c.loop-at.size c.in-Some.longer (omega (arith, c.loop-at-test.true, c.loop-at.auto.at-end)) c.loop-at.invariant c.if-not-is_ascii_digit.ensures.bound c.in-Some.ensures
+pub with_rest-requires : goal.with_rest-requires
+with_rest-requires c =
+    let read = c.read_digits-count.ensures in
+    record {
+      within = read.within;
+      size = size_read c.args.text.now c.read_digits-count.result.0 c.read_digits-count.result.1 read.end c.if-count-gt-MOST_DIGITS.false read.value;
+    }
