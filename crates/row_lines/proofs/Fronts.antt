@@ -1,15 +1,16 @@
 -- Numbers in front of a text.
-use Rattle.std.proofs.Common.{◌≡◌, ℕ, ℤ, ◌+◌, ◌^◌, ◌<◌, List, [], ◌∷◌, ◌++◌, length, get_or, take, FitsSigned, rules, arith, sym, ap, subst, ◌∙◌, append_assoc, length-append, to_z, of_z}
+use Rattle.std.proofs.Common.{◌≡◌, ℕ, ℤ, ◌+◌, ◌-◌, ◌^◌, ◌<◌, List, [], ◌∷◌, ◌++◌, length, get_or, take, FitsSigned, rules, arith, sym, ap, subst, ◌∙◌, append_assoc, length-append, to_z, of_z}
 use mir.Syntax.{w64, w128}
 use Rattle.std.specs.Fmt.{decimal, signed_decimal}
 use Rattle.std.specs.List.{All, flat_map}
 use Rattle.std.proofs.lemmas.Grind.{flat_map-append}
 use Rattle.std.proofs.lemmas.Int.{to_z-of_z}
 use Rattle.std.proofs.lemmas.List.{append-nil}
+use Rattle.std.proofs.Math.Seq.{take-append_seam}
 use Rattle.std.proofs.lemmas.List.Concat.{flat_map-cons}
 use Rattle.std.proofs.lemmas.List.Elements.{All-push, All-weaker}
 use Rattle.row_lines.specs.Text.{spaced}
-use Rattle.row_lines.specs.Numbers.{IsSizeOf, AreSpaced}
+use Rattle.row_lines.specs.Numbers.{IsSizeOf, AreSpaced, HasFront}
 use Rattle.row_lines.specs.Rows.{IsPlaceOf}
 use Rattle.row_lines.proofs.Sizes.{printed_size}
 
@@ -32,26 +33,41 @@ numbers_more text rest behind count z h front =
       h.3 ∙ ap (λ l. flat_map spaced numbers ++ l) front.1 ∙ sym (append_assoc (flat_map spaced numbers) (spaced z) behind) ∙ ap (λ l. l ++ behind) (sym more),
     )
 
+-- a front and what stands behind it
+pub behind_kept : (line text rest : List ℕ) (s e : ℤ) → HasFront text s e [] → line ≡ text ++ rest → HasFront line (to_z w64 (of_z w64 s)) (to_z w64 (of_z w64 e)) rest
+behind_kept line text rest s e front parts =
+    let s_back : to_z w64 (of_z w64 s) ≡ s = to_z-of_z w64 s front.start_fits in
+    let e_back : to_z w64 (of_z w64 e) ≡ e = to_z-of_z w64 e front.end_fits in
+    let is : line ≡ signed_decimal s ++ spaced e ++ 32 ∷ rest = parts ∙ ap (λ l. l ++ rest) front.is ∙ append_assoc (signed_decimal s ++ spaced e) (32 ∷ []) rest in
+    let both : HasFront line s e rest = record { start_fits = front.start_fits; end_fits = front.end_fits; is = is } in
+    subst (λ z. HasFront line z (to_z w64 (of_z w64 e)) rest) (sym s_back) (subst (λ z. HasFront line s z rest) (sym e_back) both)
+
+-- the front of a line is what does not stand behind it
+pub front_kept : (line text rest : List ℕ) (s e : ℤ) → HasFront line s e rest → text ≡ take (length line - length rest) line → HasFront text (to_z w64 (of_z w64 s)) (to_z w64 (of_z w64 e)) []
+front_kept line text rest s e has text_is =
+    let front = signed_decimal s ++ spaced e ++ 32 ∷ [] in
+    let parts : line ≡ front ++ rest = has.is ∙ sym (append_assoc (signed_decimal s ++ spaced e) (32 ∷ []) rest) in
+    let long : length line ≡ length front + length rest = ap length parts ∙ length-append front rest in
+    let count : length line - length rest ≡ length front = omega (arith, long) in
+    let is : text ≡ front = text_is ∙ (λ i. take (count i) (parts i)) ∙ take-append_seam front rest in
+    behind_kept text text [] s e (record { start_fits = has.start_fits; end_fits = has.end_fits; is = is }) (sym (append-nil text))
+
 wider : (z : ℤ) → FitsSigned w64 z → FitsSigned w128 z
 wider z h = search rules
 
 -- the place of a row, by what stands in front of what is left of its line
-pub place_given : (line behind_start behind_end behind_key : List ℕ) (s e k : ℤ) (width : ℕ) → FitsSigned w64 s × (line ≡ signed_decimal s ++ behind_start) → FitsSigned w64 e × (behind_start ≡ 32 ∷ signed_decimal e ++ behind_end)
-    → FitsSigned w64 k × (behind_end ≡ 32 ∷ signed_decimal k ++ behind_key) → AreSpaced behind_key width → 0 < width
+pub place_given : (line behind_front behind_key : List ℕ) (s e k : ℤ) (width : ℕ) → HasFront line s e behind_front → FitsSigned w64 k × (behind_front ≡ signed_decimal k ++ behind_key) → AreSpaced behind_key width → 0 < width
     → IsPlaceOf line (record { pane = record { start = to_z w64 (of_z w64 s); key = to_z w64 (of_z w64 k) }; width = width })
-place_given line behind_start behind_end behind_key s e k width hs he hk values some =
+place_given line behind_front behind_key s e k width front hk values some =
     let zs = values.numbers in
-    let t = signed_decimal s in
+    let t = signed_decimal s ++ spaced e in
     let count = values.count_is in
     let few = values.few in
-    let s_back : to_z w64 (of_z w64 s) ≡ s = to_z-of_z w64 s hs.0 in
+    let s_back : to_z w64 (of_z w64 s) ≡ s = to_z-of_z w64 s front.start_fits in
     let k_back : to_z w64 (of_z w64 k) ≡ k = to_z-of_z w64 k hk.0 in
     record {
       row = record { start = s; end = e; key = k; values = zs };
-      is = record { start = hs.0; end = he.0; key = hk.0; some = omega arith; few = omega arith; values = All-weaker (FitsSigned w64) (FitsSigned w128) wider zs values.fit };
-      line_is =
-          hs.1 ∙ ap (λ l. t ++ l) (he.1 ∙ ap (λ l. spaced e ++ l) (hk.1 ∙ ap (λ l. spaced k ++ l) values.is))
-          ∙ sym (append_assoc t (spaced e) (spaced k ++ flat_map spaced zs))
-          ∙ sym (append_assoc (t ++ spaced e) (spaced k) (flat_map spaced zs));
+      is = record { start = front.start_fits; end = front.end_fits; key = hk.0; some = omega arith; few = omega arith; values = All-weaker (FitsSigned w64) (FitsSigned w128) wider zs values.fit };
+      line_is = front.is ∙ ap (λ l. t ++ 32 ∷ l) (hk.1 ∙ ap (λ l. signed_decimal k ++ l) values.is) ∙ sym (append_assoc t (spaced k) (flat_map spaced zs));
       place_is = λ i. record { pane = record { start = s_back i; key = k_back i }; width = sym count i };
     }

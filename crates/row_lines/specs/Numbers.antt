@@ -1,5 +1,5 @@
 -- Numbers, as they are printed.
-use Rattle.std.specs.Prelude.{◌≡◌, ◌≢◌, ℕ, ℤ, ◌^◌, ◌<◌, ◌≤◌, List, map, length, Option, Some, None, FitsSigned}
+use Rattle.std.specs.Prelude.{◌≡◌, ◌≢◌, ℕ, ℤ, ◌^◌, ◌<◌, ◌≤◌, List, ◌∷◌, ◌++◌, map, length, Option, Some, None, FitsSigned}
 use Rattle.std.specs.Int.{w64, w128}
 use Rattle.std.specs.List.{All, flat_map, join_with_byte}
 use Rattle.std.specs.Fmt.{signed_decimal}
@@ -40,3 +40,9 @@ pub record AreSpaced (text : List ℕ) (count : ℕ) : Type 0 where
   pub few : count ≤ MOST_AGGREGATES
   pub fit : All (FitsSigned w64) numbers
   pub is : text ≡ flat_map spaced numbers
+
+-- a text is a start and an end of 64 bits, each with a space behind it, and then the rest
+pub record HasFront (text : List ℕ) (start end : ℤ) (rest : List ℕ) : Type 0 where
+  pub start_fits : FitsSigned w64 start
+  pub end_fits : FitsSigned w64 end
+  pub is : text ≡ signed_decimal start ++ spaced end ++ 32 ∷ rest

@@ -1,6 +1,7 @@
 //! The text of rows, read line by line: of each line the row, or that it is none.
 #![tactic(auto)]
 
+mod front;
 mod lines;
 mod number;
 mod place;

@@ -88,6 +88,17 @@ pub(crate) fn narrow_front(text: &[u8]) -> Option<(i64, &[u8])>
     }
 }
 
+/// The number of 64 bits behind a space in front of a text, and what stands behind it.
+#[inline(always)]
+pub(crate) fn spaced_front(text: &[u8]) -> Option<(i64, &[u8])>
+    ensures { IfSome result (λ front. FitsSigned w64 front.0 × (text.now ≡ 32 ∷ signed_decimal front.0 ++ front.1.now)) }
+{
+    match text.split_first() {
+        Some((first, rest)) if *first == b' ' => narrow_front(rest),
+        _ => None,
+    }
+}
+
 /// The number of 64 bits that is printed so. Of a text of another number, or of none, there is none.
 fn narrow_of(text: &[u8]) -> Option<i64>
     ensures { IfSome result (λ z. FitsSigned w64 z × (text.now ≡ signed_decimal z)) }

@@ -2,6 +2,7 @@
 
 ghost use Rattle.row_lines.specs.Sequences.{IsReadFault};
 
+use crate::front::Front;
 use crate::lines::{Lines, ReadFault, Step};
 use crate::place::{RowPlace, place_of, read_place};
 use crate::row::read_row;
@@ -50,6 +51,8 @@ pub struct RowLines<R> {
     lines: Lines<R>,
     width: Option<usize>,
     last: Option<Pane>,
+    /// The front of a line before, where there is one: it mostly is that of the next line too.
+    front: Option<Front>,
     number: u64,
 }
 
@@ -74,6 +77,7 @@ impl<R: Read + Drop> RowLines<R> {
             lines: Lines::new(alloc, input)?,
             width,
             last: None,
+            front: None,
             number: 0,
         })
     }
@@ -156,7 +160,7 @@ impl<R: Read + Drop> RowLines<R> {
         ensures lines { lines_of self.new ≡ lines_of self.old }
         ensures number { line_number self.new ≡ line_number self.old }
     {
-        let Some(place) = read_place(self.alloc, self.lines.line())? else {
+        let Some(place) = read_place(self.alloc, &mut self.front, self.lines.line())? else {
             return Err(RowsFault::Line);
         };
         match self.take(place) {
