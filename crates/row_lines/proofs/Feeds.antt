@@ -1,5 +1,6 @@
 -- Lines of rows in a text.
-use Rattle.std.proofs.Common.{◌≡◌, ◌≢◌, ℕ, suc, ℤ, pos, negsuc, ◌+◌, ◌*◌, ◌^◌, ◌<◌, ◌≤◌, true, false, List, [], ◌∷◌, ◌++◌, length, get_or, take, drop, Option, Some, None, IfSome, Err, FitsSigned, rules, arith, refl, sym, ap, subst, ◌∙◌, append_assoc, length-append}
+use Rattle.std.proofs.Common.{◌≡◌, ◌≢◌, ℕ, suc, ℤ, pos, negsuc, ◌+◌, ◌*◌, ◌^◌, ◌<◌, ◌≤◌, true, false, List, [], ◌∷◌, ◌++◌, length, get_or, take, drop, Option, Some, None, IfSome, Result, Ok, Err, FitsSigned, rules, arith, refl, sym, ap, subst, ◌∙◌, append_assoc, length-append}
+use Rattle.std.specs.Prelude.{IsErr, IsErrAnd}
 use mir.Syntax.{w64, w128}
 use Rattle.std.specs.Fmt.{decimal, signed_decimal}
 use Rattle.std.specs.Int.{IsInRange}
@@ -170,3 +171,8 @@ take_refused old new row place fault.Order is line at may = (
   ap (λ (p : RowPlace). is_after (last_of old) p.pane) (sym at) ∙ may.1,
   line,
 )
+
+-- what `?` hands on is the fault that it has
+pub handed : {T E : Type 0} (result : Result T E) (fault : E) → IsErr result → IsErrAnd result (λ e. e ≡ fault) → result ≡ Err fault
+handed (Ok value) fault fails is = absurd cc
+handed (Err other) fault fails is = ap Err is

@@ -116,6 +116,14 @@ IsLineCounted old new (Ok true) = line_number new ≡ counted (line_number old)
 IsLineCounted old new (Ok false) = line_number new ≡ line_number old
 IsLineCounted old new (Err f) = IsCounted old new (Err f)
 
+-- a row at a place may be the next one, or why it is refused
+abbrev pub Admits : Option ℕ → Option Pane → RowPlace → Result (Unit {0}) RowsFault → Type 0
+Admits width last place (Ok done) = (has_width width place.width ≡ true) × (is_after last place.pane ≡ true)
+Admits width last place (Err fault.Line) = has_width width place.width ≡ false
+Admits width last place (Err fault.Order) = (has_width width place.width ≡ true) × (is_after last place.pane ≡ false)
+Admits width last place (Err fault.Read) = ⊥
+Admits width last place (Err fault.Memory) = ⊥
+
 -- a row at a place is the last one, or why it is refused
 pub record IsLast {R : Type 0} (old new : RowLines R) (place : RowPlace) : Type 0 where
   pub wide : has_width (width_of old) place.width ≡ true
@@ -125,10 +133,7 @@ pub record IsLast {R : Type 0} (old new : RowLines R) (place : RowPlace) : Type 
 
 abbrev pub MayTake : {R : Type 0} → RowLines R → RowLines R → RowPlace → Result (Unit {0}) RowsFault → Type 0
 MayTake old new place (Ok done) = IsLast old new place
-MayTake old new place (Err fault.Line) = has_width (width_of old) place.width ≡ false
-MayTake old new place (Err fault.Order) = (has_width (width_of old) place.width ≡ true) × (is_after (last_of old) place.pane ≡ false)
-MayTake old new place (Err fault.Read) = ⊥
-MayTake old new place (Err fault.Memory) = ⊥
+MayTake old new place (Err f) = Admits (width_of old) (last_of old) place (Err f)
 
 -- the row of the line, or why it is refused
 pub record IsTaken {R : Type 0} (old new : RowLines R) (row : Row) : Type 0 where

@@ -4,6 +4,7 @@
 mod front;
 mod lines;
 mod number;
+mod order;
 mod place;
 mod row;
 mod rows;
@@ -11,6 +12,7 @@ mod text;
 
 pub use lines::LONGEST_LINE;
 pub use number::number_of;
+pub use order::admit;
 pub use place::RowPlace;
 pub use row::read_row;
 pub use rows::{RowLines, RowsFault};

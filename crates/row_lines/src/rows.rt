@@ -4,6 +4,7 @@ ghost use Rattle.row_lines.specs.Sequences.{IsReadFault};
 
 use crate::front::Front;
 use crate::lines::{Lines, ReadFault, Step};
+use crate::order::admit;
 use crate::place::{RowPlace, place_of, read_place};
 use crate::row::read_row;
 use plan_model::{Pane, Row};
@@ -59,7 +60,7 @@ pub struct RowLines<R> {
 impl<R: Read + Drop> RowLines<R> {
     ghost use Rattle.std.specs.Prelude.{◌≡◌, None, IfOk};
     ghost use Rattle.row_lines.specs.Lines.{line_in};
-    ghost use Rattle.row_lines.specs.Sequences.{rows_left, line_number, width_of, last_of, lines_of, has_width, is_after, IsNext, IsNextLine, IsNextPlace, IsCounted, IsLineCounted, IsPlaceCounted, MayTake, Takes, TakesPlace};
+    ghost use Rattle.row_lines.specs.Sequences.{rows_left, line_number, width_of, last_of, lines_of, IsNext, IsNextLine, IsNextPlace, IsCounted, IsLineCounted, IsPlaceCounted, MayTake, Takes, TakesPlace};
 
     /// The rows of all that a reader gives. Each has `width` numbers of aggregates, where that is told.
     ///
@@ -96,26 +97,6 @@ impl<R: Read + Drop> RowLines<R> {
         self.width
     }
 
-    /// Whether a row may have so many numbers.
-    fn has_width(&self, width: usize) -> bool
-        ensures { result ≡ has_width (width_of self.now) width }
-    {
-        match self.width {
-            Some(wanted) => wanted == width,
-            None => true,
-        }
-    }
-
-    /// Whether a row may stand behind the one before.
-    fn is_after(&self, pane: Pane) -> bool
-        ensures { result ≡ is_after (last_of self.now) pane }
-    {
-        match self.last {
-            Some(last) => last < pane,
-            None => true,
-        }
-    }
-
     /// The line that was looked at last, without its line feed.
     pub fn line(&self) -> &[u8]
         ensures { result.now ≡ line_in (lines_of self.now) }
@@ -129,16 +110,12 @@ impl<R: Read + Drop> RowLines<R> {
         ensures lines { lines_of self.new ≡ lines_of self.old }
         ensures number { line_number self.new ≡ line_number self.old }
     {
-        if !self.has_width(place.width) {
-            return Err(RowsFault::Line);
-        }
-        if !self.is_after(place.pane) {
-            return Err(RowsFault::Order);
-        }
+        admit(self.width, self.last, place)?;
         self.width = Some(place.width);
         self.last = Some(place.pane);
         Ok(())
     }
+
     /// The row of the line.
     fn take_row(&mut self) -> Result<Row, RowsFault>
         ensures takes { Takes self.old self.new result }
@@ -148,10 +125,8 @@ impl<R: Read + Drop> RowLines<R> {
         let Some(row) = read_row(self.alloc, self.lines.line())? else {
             return Err(RowsFault::Line);
         };
-        match self.take(place_of(&row)) {
-            Ok(()) => Ok(row),
-            Err(fault) => Err(fault),
-        }
+        self.take(place_of(&row))?;
+        Ok(row)
     }
 
     /// The place of the row of the line.
@@ -163,10 +138,8 @@ impl<R: Read + Drop> RowLines<R> {
         let Some(place) = read_place(self.alloc, &mut self.front, self.lines.line())? else {
             return Err(RowsFault::Line);
         };
-        match self.take(place) {
-            Ok(()) => Ok(place),
-            Err(fault) => Err(fault),
-        }
+        self.take(place)?;
+        Ok(place)
     }
 
     /// Goes on to the next line, which is counted, and tells whether there is one.
@@ -195,15 +168,10 @@ impl<R: Read + Drop> RowLines<R> {
         ensures next { IsNext R.remaining self.old self.new result }
         ensures number { IsCounted self.old self.new result }
     {
-        match self.next_line() {
-            Ok(true) => {}
-            Ok(false) => return Ok(None),
-            Err(fault) => return Err(fault),
+        if !self.next_line()? {
+            return Ok(None);
         }
-        match self.take_row() {
-            Ok(row) => Ok(Some(row)),
-            Err(fault) => Err(fault),
-        }
+        Ok(Some(self.take_row()?))
     }
 
     /// Goes on to the next row, if there is one, and tells no more of it than its place. Its text is then the `line`.
@@ -215,14 +183,9 @@ impl<R: Read + Drop> RowLines<R> {
         ensures next { IsNextPlace R.remaining self.old self.new result }
         ensures number { IsPlaceCounted self.old self.new result }
     {
-        match self.next_line() {
-            Ok(true) => {}
-            Ok(false) => return Ok(None),
-            Err(fault) => return Err(fault),
+        if !self.next_line()? {
+            return Ok(None);
         }
-        match self.take_place() {
-            Ok(place) => Ok(Some(place)),
-            Err(fault) => Err(fault),
-        }
+        Ok(Some(self.take_place()?))
     }
 }
