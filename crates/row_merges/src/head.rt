@@ -1,7 +1,8 @@
 //! A text of rows with its next row at hand.
 
-ghost use Rattle.std.specs.Prelude.{◌≡◌, Ok, IfOk};
-ghost use Rattle.row_lines.specs.Sequences.{IsNextPlace, has_width, is_after};
+ghost use Rattle.std.specs.Prelude.{Ok, IfOk, IfErr};
+ghost use Rattle.row_lines.specs.Sequences.{IsNextPlace};
+ghost use Rattle.row_merges.specs.Refusals.{RefusesNext};
 
 use crate::fault::{MergeFault, fault_at};
 use plan_model::Pane;
@@ -14,31 +15,12 @@ fn next_row<R: Read + Drop>(
     rows: &mut RowLines<R>,
     place: usize,
 ) -> Result<Option<RowPlace>, MergeFault>
-    ensures { IfOk result (λ row. IsNextPlace R.remaining rows.old rows.new (Ok row)) }
+    ensures next { IfOk result (λ row. IsNextPlace R.remaining rows.old rows.new (Ok row)) }
+    ensures refused { IfErr result (RefusesNext R.remaining rows.old rows.new place) }
 {
     match rows.advance_place() {
         Ok(row) => Ok(row),
         Err(fault) => Err(fault_at(place, rows.line_number(), fault)),
-    }
-}
-
-/// Whether a row may have so many numbers, where it is told how many.
-pub(crate) fn has_width(wanted: Option<usize>, width: usize) -> bool
-    ensures { result ≡ has_width wanted width }
-{
-    match wanted {
-        Some(wanted) => wanted == width,
-        None => true,
-    }
-}
-
-/// Whether a row may stand behind the last one, if there is one.
-pub(crate) fn is_after(last: Option<Pane>, pane: Pane) -> bool
-    ensures { result ≡ is_after last pane }
-{
-    match last {
-        Some(last) => last < pane,
-        None => true,
     }
 }
 
@@ -50,9 +32,10 @@ pub(crate) struct Head<R> {
 }
 
 impl<R: Read + Drop> Head<R> {
-    ghost use Rattle.std.specs.Prelude.{◌≡◌, ◌++◌, Ok, IfOk, OnOk, option_map};
+    ghost use Rattle.std.specs.Prelude.{◌≡◌, ◌++◌, Ok, IfOk, IfErr, OnOk, option_map};
     ghost use Rattle.row_lines.specs.Sequences.{IsNextPlace};
     ghost use Rattle.row_merges.specs.Merges.{IsOpened, line_at_hand, pane_in};
+    ghost use Rattle.row_merges.specs.Refusals.{RefusesNext};
 
     /// A text, the one at this place, before its first row.
     pub(crate) fn new(alloc: Global, text: R, place: usize) -> Result<Head<R>, MergeFault>
@@ -77,6 +60,7 @@ impl<R: Read + Drop> Head<R> {
     pub(crate) fn pass(&mut self, place: usize, text: &mut Vec<u8>) -> Result<(), MergeFault>
         ensures text { OnOk result (text.new.items ≡ text.old.items ++ line_at_hand self.old) }
         ensures next { OnOk result (IsNextPlace R.remaining self.old.rows self.new.rows (Ok self.new.row)) }
+        ensures refused { IfErr result (RefusesNext R.remaining self.old.rows self.new.rows place) }
     {
         if self.row.is_some() {
             text.extend_from_slice(self.rows.line())?;

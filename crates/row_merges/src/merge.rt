@@ -1,12 +1,12 @@
 //! Texts of rows, gone through together.
 
-ghost use Rattle.std.specs.Prelude.{◌≡◌, ◌⊎◌, [], None, Some, OnOk, IfSome};
+ghost use Rattle.std.specs.Prelude.{◌≡◌, ◌⊎◌, [], None, Some, OnOk, IfErr, IfSome};
 ghost use Rattle.std.specs.Io.KnownBytes.{Appends};
 
 use crate::fault::{MergeFault, fault_at};
-use crate::head::{Head, has_width, is_after};
+use crate::head::Head;
 use plan_model::Pane;
-use row_lines::{RowPlace, RowsFault};
+use row_lines::{RowPlace, admit};
 use std::alloc::Global;
 use std::io::{Read, Write};
 
@@ -17,6 +17,7 @@ const CHUNK: usize = 65536;
 fn write_text<W: Write>(out: &mut W, text: &mut Vec<u8>) -> Result<(), MergeFault>
     ensures written { OnOk result (Appends (W.contents out.old) (W.contents out.new) text.old.items) }
     ensures empty { OnOk result (text.new.items ≡ []) }
+    ensures refused { IfErr result (λ told. told ≡ MergeFault.Write) }
 {
     if out.write_all(text.as_slice()).is_err() {
         return Err(MergeFault::Write);
@@ -55,9 +56,10 @@ pub struct Merge<R> {
 }
 
 impl<R: Read + Drop> Merge<R> {
-    ghost use Rattle.std.specs.Prelude.{◌≡◌, ◌<◌, ◌++◌, ℕ, List, [], ◌∷◌, Option, None, true, false, length, IfOk, IfSome, OnOk};
+    ghost use Rattle.std.specs.Prelude.{◌≡◌, ◌<◌, ◌++◌, ℕ, List, [], ◌∷◌, Option, None, true, false, length, IfOk, IfErr, IfSome, OnOk};
     ghost use Rattle.std.specs.List.{All};
     ghost use Rattle.row_merges.specs.Merges.{HoldsTexts, MergesRows, AreAllBehind, HasRowAt, IsAdmitted, Steps, NothingLeft};
+    ghost use Rattle.row_merges.specs.Refusals.{RefusesRow, RefusesAt, IsOfText};
 
     /// No texts.
     pub fn new(alloc: Global) -> Merge<R>
@@ -104,24 +106,23 @@ impl<R: Read + Drop> Merge<R> {
     /// the last one. Tells how many numbers it has, and where it stands.
     fn admit(&self, place: usize) -> Result<RowPlace, MergeFault>
         requires { HasRowAt self.now.heads.items place }
-        ensures { IfOk result (IsAdmitted self.now place) }
+        ensures admitted { IfOk result (IsAdmitted self.now place) }
+        ensures refused { IfErr result (RefusesRow self.now place) }
     {
         let head: &Head<R> = &self.heads[place];
         let row = head.row.unwrap();
-        let line = head.rows.line_number();
-        if !has_width(self.width, row.width) {
-            return Err(fault_at(place, line, RowsFault::Line));
+        match admit(self.width, self.last, row) {
+            Ok(()) => Ok(row),
+            Err(fault) => Err(fault_at(place, head.rows.line_number(), fault)),
         }
-        if !is_after(self.last, row.pane) {
-            return Err(fault_at(place, line, RowsFault::Order));
-        }
-        Ok(row)
     }
 
     /// Puts the line of the row at hand of the text at a place behind a text, and goes on behind it.
     fn pass(&mut self, place: usize, text: &mut Vec<u8>) -> Result<(), MergeFault>
         requires { HasRowAt self.old.heads.items place }
-        ensures { OnOk result (AreAllBehind self.old → Steps R.remaining self.old self.new text.old.items text.new.items) }
+        ensures steps { OnOk result (AreAllBehind self.old → Steps R.remaining self.old self.new text.old.items text.new.items) }
+        ensures count { OnOk result (length self.new.heads.items ≡ length self.old.heads.items) }
+        ensures refused { IfErr result (RefusesAt R.remaining self.old place) }
     {
         let row = self.admit(place)?;
         let head: &mut Head<R> = &mut self.heads[place];
@@ -135,6 +136,8 @@ impl<R: Read + Drop> Merge<R> {
     fn advance(&mut self, text: &mut Vec<u8>) -> Result<bool, MergeFault>
         ensures steps { IfOk result (λ more. more ≡ true → AreAllBehind self.old → Steps R.remaining self.old self.new text.old.items text.new.items) }
         ensures ends { IfOk result (λ more. more ≡ false → NothingLeft self.old × (text.new.items ≡ text.old.items)) }
+        ensures count { OnOk result (length self.new.heads.items ≡ length self.old.heads.items) }
+        ensures refused { IfErr result (λ told. (place : ℕ) × HasRowAt self.old.heads.items place × RefusesAt R.remaining self.old place told) }
     {
         let Some(place) = self.first() else {
             return Ok(false);
@@ -150,7 +153,8 @@ impl<R: Read + Drop> Merge<R> {
     /// `Text` with the place of a text and the line at which it is none of rows in order with as many numbers as those before, or
     /// has a row at the start and key of another text's; `Write`; `Memory`. What comes before may have been written then.
     pub fn write<W: Write>(self, out: &mut W) -> Result<(), MergeFault>
-        ensures { OnOk result ((texts : List (Option (List ℕ))) → HoldsTexts R.remaining texts self → MergesRows texts (W.contents out.old) (W.contents out.new)) }
+        ensures rows { OnOk result ((texts : List (Option (List ℕ))) → HoldsTexts R.remaining texts self → MergesRows texts (W.contents out.old) (W.contents out.new)) }
+        ensures refused { IfErr result (IsOfText (length self.heads.items)) }
     {
         let mut merge = self;
         let mut text = Vec::new(merge.alloc);
