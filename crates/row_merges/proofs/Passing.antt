@@ -29,7 +29,7 @@ abbrev given : {X : Type 0} → Option X → X → X
 given None x = x
 given (Some y) x = y
 
-same_some : {X : Type 0} (x y : X) → Some x ≡ Some y → x ≡ y
+pub same_some : {X : Type 0} (x y : X) → Some x ≡ Some y → x ≡ y
 same_some x y e = ap (λ o. given o x) e
 
 -- the row that was read is any whose line, place and width are its own

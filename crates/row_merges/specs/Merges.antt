@@ -1,11 +1,12 @@
 -- Texts of rows that are merged.
-use Rattle.std.specs.Prelude.{◌≡◌, ℕ, ◌<◌, cond, true, List, [], ◌∷◌, ◌++◌, length, Option, Some, None, is_some, slice_index_or}
+use Rattle.std.specs.Prelude.{◌≡◌, ℕ, ◌<◌, cond, true, false, List, [], ◌∷◌, ◌++◌, length, Option, Some, None, is_some, slice_index_or}
 use Rattle.std.specs.List.{All, AllZip, flat_map}
 use Rattle.std.specs.List.Sorted.{IsPermutation}
+use Rattle.std.specs.Ordering.{is_gt}
 use Rattle.std.specs.Io.KnownBytes.{Appends}
 use Rattle.plan_model.specs.declared.spec.Pane.{Pane}
 use Rattle.plan_model.specs.declared.spec.Row.{Row}
-use Rattle.plan_model.specs.Rows.{pane_of}
+use Rattle.plan_model.specs.Rows.{pane_of, pane_cmp}
 use Rattle.row_lines.specs.Lines.{line_in}
 use Rattle.row_lines.specs.Text.{text_of_row, line_of, text_of_rows}
 use Rattle.row_lines.specs.Rows.{IsRow, place_of}
@@ -100,6 +101,15 @@ pub record HoldsTexts {R : Type 0} (remaining : R → Option (List ℕ)) (texts 
 -- the text at a place has a row at hand
 abbrev pub HasRowAt : {R : Type 0} → List (Head R) → ℕ → Type 0
 HasRowAt {R} heads place = (place < length heads) × ((d : Head R) → (row : RowPlace) × ((slice_index_or heads place d).row ≡ Some row))
+
+-- a row, if there is one, is not before a place
+abbrev pub IsUpTo : Pane → Option RowPlace → Type 0
+IsUpTo first None = Unit {0}
+IsUpTo first (Some row) = is_gt (pane_cmp first row.pane) ≡ false
+
+-- and no row at hand of another text is before that one
+abbrev pub IsFirst : {R : Type 0} → List (Head R) → ℕ → Type 0
+IsFirst {R} heads place = (d : Head R) (row : RowPlace) → (slice_index_or heads place d).row ≡ Some row → (k : ℕ) → k < length heads → IsUpTo row.pane (slice_index_or heads k d).row
 
 -- and that row may be the next one
 pub record IsAdmitted {R : Type 0} (merge : Merge R) (place : ℕ) (row : RowPlace) : Type 0 where

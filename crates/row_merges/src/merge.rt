@@ -1,7 +1,9 @@
 //! Texts of rows, gone through together.
 
-ghost use Rattle.std.specs.Prelude.{◌≡◌, ◌⊎◌, [], None, Some, OnOk, IfErr, IfSome};
+ghost use Rattle.std.specs.Prelude.{◌≡◌, ◌⊎◌, [], None, Some, false, OnOk, IfErr, IfSome};
+ghost use Rattle.std.specs.Ordering.{is_gt};
 ghost use Rattle.std.specs.Io.KnownBytes.{Appends};
+ghost use Rattle.plan_model.specs.Rows.{pane_cmp};
 
 use crate::fault::{MergeFault, fault_at};
 use crate::head::Head;
@@ -33,6 +35,7 @@ type At = (usize, Pane);
 fn earlier(found: Option<At>, place: usize, pane: Option<Pane>) -> Option<At>
     ensures none { result ≡ None → (found ≡ None) × (pane ≡ None) }
     ensures some { IfSome result (λ at. (found ≡ Some at) ⊎ ((at.0 ≡ place) × (pane ≡ Some at.1))) }
+    ensures least { IfSome result (λ at. IfSome found (λ other. is_gt (pane_cmp at.1 other.1) ≡ false) × IfSome pane (λ p. is_gt (pane_cmp at.1 p) ≡ false)) }
 {
     match (found, pane) {
         (found, None) => found,
@@ -58,7 +61,7 @@ pub struct Merge<R> {
 impl<R: Read + Drop> Merge<R> {
     ghost use Rattle.std.specs.Prelude.{◌≡◌, ◌<◌, ◌++◌, ℕ, List, [], ◌∷◌, Option, None, true, false, length, IfOk, IfErr, IfSome, OnOk};
     ghost use Rattle.std.specs.List.{All};
-    ghost use Rattle.row_merges.specs.Merges.{HoldsTexts, MergesRows, AreAllBehind, HasRowAt, IsAdmitted, Steps, NothingLeft};
+    ghost use Rattle.row_merges.specs.Merges.{HoldsTexts, MergesRows, AreAllBehind, HasRowAt, IsFirst, IsAdmitted, Steps, NothingLeft};
     ghost use Rattle.row_merges.specs.Refusals.{RefusesRow, RefusesAt, IsOfText};
 
     /// No texts.
@@ -89,6 +92,7 @@ impl<R: Read + Drop> Merge<R> {
     /// The place of the text whose row stands first, if there is a row.
     fn first(&self) -> Option<usize>
         ensures some { IfSome result (HasRowAt self.now.heads.items) }
+        ensures least { IfSome result (IsFirst self.now.heads.items) }
         ensures none { result ≡ None → NothingLeft self.now }
     {
         let mut found = None;
@@ -137,7 +141,7 @@ impl<R: Read + Drop> Merge<R> {
         ensures steps { IfOk result (λ more. more ≡ true → AreAllBehind self.old → Steps R.remaining self.old self.new text.old.items text.new.items) }
         ensures ends { IfOk result (λ more. more ≡ false → NothingLeft self.old × (text.new.items ≡ text.old.items)) }
         ensures count { OnOk result (length self.new.heads.items ≡ length self.old.heads.items) }
-        ensures refused { IfErr result (λ told. (place : ℕ) × HasRowAt self.old.heads.items place × RefusesAt R.remaining self.old place told) }
+        ensures refused { IfErr result (λ told. (place : ℕ) × HasRowAt self.old.heads.items place × IsFirst self.old.heads.items place × RefusesAt R.remaining self.old place told) }
     {
         let Some(place) = self.first() else {
             return Ok(false);

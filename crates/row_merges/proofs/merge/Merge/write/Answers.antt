@@ -36,7 +36,7 @@ returns-in_err-advance-clause-refused g c =
     let count = length c.args.self.heads.items in
     let told = c.in_err-advance.field-0.0 in
     let refused = c.in_err-advance.ensures.refused in
-    let one = of_text g.R.Read.remaining c.loop.merge refused.0 count told refused.1 c.loop.invariant.count refused.2 in
+    let one = of_text g.R.Read.remaining c.loop.merge refused.0 count told refused.1 c.loop.invariant.count refused.3 in
     handed_on (IsOfText count) c.from_residual.result told one c.from_residual.ensures.0 c.from_residual.ensures.1
 
 pub returns-in_err-write_text-clause-refused : goal.returns-in_err-write_text-clause-refused
