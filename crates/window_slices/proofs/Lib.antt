@@ -1,3 +1,4 @@
+pub mod Facts
 mod Starts
 mod Boundaries
 mod Totals

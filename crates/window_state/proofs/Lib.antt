@@ -9,3 +9,14 @@ mod Rows
 mod PartMaps
 mod Placed
 pub mod Facts
+mod Standing
+mod SliceAdds
+mod SliceTotals
+mod Openings
+mod Apart
+mod Removals
+mod SliceFits
+mod SpanAdds
+mod SpanFits
+mod SpanDrops
+mod SpanTotals

@@ -1,29 +1,40 @@
 -- The parts of a map, and the map of parts.
-use Rattle.std.proofs.Common.{◌≡◌, ℕ, ℤ, ◌+◌, ◌<◌, Bool, true, false, cond, ◌||◌, List, [], ◌∷◌, length, take, get_or, None, ◌++◌, refl, sym, ap, ◌∙◌, Option, Some}
-use Rattle.std.specs.FinMap.{from_entries}
+use Rattle.std.proofs.Common.{◌≡◌, ℕ, ℤ, ◌+◌, ◌<◌, Bool, true, false, cond, ◌||◌, List, [], ◌∷◌, length, take, get_or, None, ◌++◌, refl, sym, ap, subst, ◌∙◌, Option, Some}
+use Rattle.std.specs.Prelude.{int_lt, ◌<ℤ◌}
+use Rattle.std.specs.List.{All}
+use Rattle.std.specs.Map.{lookup}
+use Rattle.std.proofs.lemmas.List.Elements.{All-head, All-tail}
+use Rattle.window_state.proofs.Updates.{pane_from_test}
+use Rattle.window_state.proofs.Standing.{lt_true}
 use Rattle.std.specs.Global.{Vec}
 use Rattle.std.specs.Ordering.{is_eq}
-use Rattle.std.specs.Option.{is_some}
+use Rattle.std.specs.Option.{is_some, option_map}
 use Rattle.std.proofs.lemmas.List.{take_more, map-append}
 use Rattle.plan_model.specs.declared.spec.Pane.{Pane}
+use Rattle.plan_model.specs.Aggregates.{Aggregated}
 use Rattle.plan_model.specs.Rows.{pane_cmp}
+use Rattle.aggregates.specs.declared.kind.Kind.{Kind}
 use Rattle.aggregates.specs.Kinds.{AccData}
 use Rattle.window_state.specs.declared.parts.Part.{Part}
 use Rattle.window_state.specs.Windows.{acc_at, has_pane, is_pane}
-use Rattle.window_state.specs.Open.{has_open, AreOpen}
-use Rattle.window_state.specs.State.{totals}
+use Rattle.window_state.specs.Open.{has_open}
 use Rattle.window_state.specs.Parts.{parts_in, panes_in, accs_in, entries_of}
-use Rattle.window_state.proofs.Entries.{tied, same_totals}
+use Rattle.window_state.proofs.Entries.{tied}
 use Rattle.window_state.proofs.Sorted.{flips}
 use Rattle.window_state.proofs.Spread.{found-push, found-again}
 
-pub totals-parts : (es : List (Pane × AccData)) → entries_of (parts_in es) ≡ totals es
-totals-parts [] = refl
-totals-parts (e ∷ es) = ap (λ l. (e.0, e.1.total) ∷ l) (totals-parts es)
+pub totals-parts : (kinds : List Kind) (es : List (Pane × Aggregated)) → entries_of (parts_in kinds es) ≡ es
+totals-parts kinds [] = refl
+totals-parts kinds (e ∷ es) = ap (λ l. e ∷ l) (totals-parts kinds es)
 
-totals-accs : (parts : List Part) → totals (accs_in parts) ≡ entries_of parts
-totals-accs [] = refl
-totals-accs (p ∷ parts) = ap (λ l. (p.pane, p.acc.total) ∷ l) (totals-accs parts)
+-- what the first part of a pane has
+pub first_total : (parts : List Part) (q : Pane) → lookup (is_pane q) (entries_of parts) ≡ option_map (λ (a : AccData). a.total) (acc_at (accs_in parts) q)
+first_total [] q = refl
+first_total (p ∷ parts) q = ap (cond (is_pane q p.pane) (Some p.acc.total)) (first_total parts q) ∙ through (is_pane q p.pane)
+  where
+    through : (b : Bool) → cond b (Some p.acc.total) (option_map (λ (a : AccData). a.total) (acc_at (accs_in parts) q)) ≡ option_map (λ (a : AccData). a.total) (cond b (Some p.acc) (acc_at (accs_in parts) q))
+    through true = refl
+    through false = refl
 
 -- entries that have in each pane what the first part there has
 abbrev pub HasFirst : List Part → List (Pane × AccData) → Type 0
@@ -50,10 +61,6 @@ part_again parts i p m low is before some q =
     ∙ sym (found-again (accs_in (take i parts)) p.pane q p.acc (sym (ap is_some (before p.pane)) ∙ some))
     ∙ ap (λ l. acc_at l q) (sym (accs_more parts i p low is))
 
--- their map is the parts' map
-pub map_of_parts : (es : List (Pane × AccData)) (parts : List Part) → HasFirst parts es → from_entries {R = pane_cmp} (totals es) ≡ from_entries (entries_of parts)
-map_of_parts es parts first = same_totals es (accs_in parts) first ∙ ap (λ l. from_entries {R = pane_cmp} l) (totals-accs parts)
-
 panes_found : (parts : List Part) (q : Pane) → has_pane (panes_in parts) q ≡ is_some (acc_at (accs_in parts) q)
 panes_found [] q = refl
 panes_found (p ∷ parts) q = (λ i. tied q p.pane i || panes_found parts q i) ∙ by_case (is_pane q p.pane) (acc_at (accs_in parts) q)
@@ -62,8 +69,9 @@ panes_found (p ∷ parts) q = (λ i. tied q p.pane i || panes_found parts q i) �
     by_case true o = refl
     by_case false o = refl
 
-pub opened_of_parts : (opened : List (ℤ × Vec ℤ)) (es : List (Pane × AccData)) (parts : List Part) → ((q : Pane) → has_open opened q ≡ has_pane (panes_in parts) q) → HasFirst parts es → AreOpen opened es
-opened_of_parts opened es parts those first q = those q ∙ panes_found parts q ∙ ap is_some (sym (first q))
+-- and the panes of parts are open where something stands
+pub opened_of_parts : (opened : List (ℤ × Vec ℤ)) (parts : List Part) (q : Pane) → has_open opened q ≡ has_pane (panes_in parts) q → is_some (acc_at (accs_in parts) q) ≡ true → has_open opened q ≡ true
+opened_of_parts opened parts q those there = those ∙ panes_found parts q ∙ there
 
 -- the pane of one part more
 pub pane_more : (parts : List Part) (i : ℕ) (p : Part) (q : Pane) → i < length parts → p ≡ get_or parts i p
@@ -84,3 +92,13 @@ pane_more parts i p q low is =
     behind : (ps : List Pane) → cond (is_pane p.pane q) true (has_pane ps q) ≡ has_pane (ps ++ p.pane ∷ []) q
     behind [] = one (is_pane p.pane q) (is_eq (pane_cmp q p.pane)) (flips p.pane q ∙ sym (tied q p.pane))
     behind (x ∷ ps) = later (is_eq (pane_cmp q x)) (is_pane p.pane q) (has_pane ps q) refl ∙ ap (λ b. is_eq (pane_cmp q x) || b) (behind ps)
+
+-- the parts' windows begin before a number
+pub parts_before : (from : ℤ) (parts : List Part) → All (λ p. p.pane.start <ℤ from) parts → (q : Pane) → is_some (acc_at (accs_in parts) q) ≡ true → int_lt q.start from ≡ true
+parts_before from [] h q some = absurd cc
+parts_before from (p ∷ parts) h q some = by_case (is_pane q p.pane) refl (parts_before from parts (All-tail (λ (x : Part). x.pane.start <ℤ from) p parts h) q)
+  where
+    by_case : (b : Bool) → is_pane q p.pane ≡ b → (is_some (acc_at (accs_in parts) q) ≡ true → int_lt q.start from ≡ true) → int_lt q.start from ≡ true
+    by_case true here rest =
+        subst (λ (x : Pane). int_lt x.start from ≡ true) (sym (pane_from_test q p.pane here)) (lt_true p.pane.start from (All-head (λ (x : Part). x.pane.start <ℤ from) p parts h))
+    by_case false other rest = rest (ap is_some (sym (ap (λ b. cond b (Some p.acc) (acc_at (accs_in parts) q)) other)) ∙ some)

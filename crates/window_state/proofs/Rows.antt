@@ -2,22 +2,20 @@
 use Rattle.std.proofs.Common.{◌≡◌, zero, suc, ℤ, ◌+◌, Bool, true, false, cond, ◌&&◌, List, [], ◌∷◌, map, refl, sym, ap, subst, ◌∙◌, arith, Option, Some, None, if◌then◌else◌}
 use Rattle.std.specs.List.{filter, AllByRecursion}
 use Rattle.std.specs.List.Sorted.{IsStrictlySortedBy, IsSortedByKey}
-use Rattle.std.specs.Map.{keys_of}
+use Rattle.std.specs.Map.{keys_of, lookup}
 use Rattle.std.specs.Option.{option_map, option_to_list}
 use Rattle.std.specs.Ordering.{int_eq, int_cmp, is_lt, ordering_then}
 use Rattle.std.specs.declared.cmp.Ordering.TheVariants.{Less}
-use Rattle.std.specs.FinMap.{get, from_entries}
 use Rattle.std.proofs.lemmas.Int.{ints}
 use Rattle.plan_model.specs.declared.spec.WindowSpec.{WindowSpec}
 use Rattle.plan_model.specs.declared.spec.Pane.{Pane}
 use Rattle.plan_model.specs.declared.spec.Row.{Row}
 use Rattle.plan_model.specs.Rows.{pane_cmp, pane_of, row_is_at, is_due, row_at, AreRowsOf}
-use Rattle.aggregates.specs.Kinds.{AccData}
-use Rattle.window_state.specs.Windows.{is_pane, acc_at}
-use Rattle.window_state.specs.State.{totals, fired}
+use Rattle.plan_model.specs.Aggregates.{Aggregated}
+use Rattle.window_state.specs.Windows.{is_pane}
+use Rattle.window_state.specs.State.{fired}
 use Rattle.window_state.specs.Firing.{rows_due}
 use Rattle.window_state.proofs.Updates.{pane_from_test}
-use Rattle.window_state.proofs.Entries.{get-totals}
 use Rattle.window_state.proofs.Sorted.{flips}
 
 -- ---- just those that are due
@@ -30,17 +28,17 @@ skipped : (q : Pane) (b : Bool) (row : Row) (rows : List Row) → row_is_at q ro
 skipped q true row rows h = ap (λ t. cond t (row ∷ filter (row_is_at q) rows) (filter (row_is_at q) rows)) h
 skipped q false row rows h = refl
 
-pub rows_cons : (w : WindowSpec) (t : ℤ) (e : Pane × AccData) (es : List (Pane × AccData))
-    → rows_due w t (e ∷ es) ≡ cond (is_due w t e.0.start) (row_at w e.0 e.1.total ∷ rows_due w t es) (rows_due w t es)
-rows_cons w t e es = elim (is_due w t e.0.start) as (λ b. map (λ x. row_at w x.0 x.1.total) (cond b (e ∷ filter (λ x. is_due w t x.0.start) es) (filter (λ x. is_due w t x.0.start) es))
-    ≡ cond b (row_at w e.0 e.1.total ∷ rows_due w t es) (rows_due w t es)) [ true ↦ refl | false ↦ refl ]
+pub rows_cons : (w : WindowSpec) (t : ℤ) (e : Pane × Aggregated) (es : List (Pane × Aggregated))
+    → rows_due w t (e ∷ es) ≡ cond (is_due w t e.0.start) (row_at w e.0 e.1 ∷ rows_due w t es) (rows_due w t es)
+rows_cons w t e es = elim (is_due w t e.0.start) as (λ b. map (λ x. row_at w x.0 x.1) (cond b (e ∷ filter (λ x. is_due w t x.0.start) es) (filter (λ x. is_due w t x.0.start) es))
+    ≡ cond b (row_at w e.0 e.1 ∷ rows_due w t es) (rows_due w t es)) [ true ↦ refl | false ↦ refl ]
 
 -- no later entry has the pane
-none_at : (w : WindowSpec) (t : ℤ) (p : Pane) (es : List (Pane × AccData)) → AllByRecursion (λ q. pane_cmp p q ≡ Less) (keys_of es) → filter (row_is_at p) (rows_due w t es) ≡ []
+none_at : (w : WindowSpec) (t : ℤ) (p : Pane) (es : List (Pane × Aggregated)) → AllByRecursion (λ q. pane_cmp p q ≡ Less) (keys_of es) → filter (row_is_at p) (rows_due w t es) ≡ []
 none_at w t p [] h = refl
 none_at w t p (e ∷ es) h =
     ap (filter (row_is_at p)) (rows_cons w t e es)
-    ∙ skipped p (is_due w t e.0.start) (row_at w e.0 e.1.total) (rows_due w t es) (apart p.start p.key e.0.start e.0.key h.0)
+    ∙ skipped p (is_due w t e.0.start) (row_at w e.0 e.1) (rows_due w t es) (apart p.start p.key e.0.start e.0.key h.0)
     ∙ none_at w t p es h.1
 
 taken : (w : WindowSpec) (q : Pane) (b : Bool) (row : Row) (rows : List Row) → row_is_at q row ≡ true → filter (row_is_at q) rows ≡ []
@@ -49,64 +47,57 @@ taken w q true row rows h none = ap (λ t. cond t (row ∷ filter (row_is_at q) 
 taken w q false row rows h none = none
 
 -- what is due of the entries found
-abbrev pub due_found : WindowSpec → ℤ → List (Pane × AccData) → Pane → Option Row
-due_found w t es q = if is_due w t q.start then option_map (λ a. row_at w q a.total) (acc_at es q) else None
+abbrev pub due_found : WindowSpec → ℤ → List (Pane × Aggregated) → Pane → Option Row
+due_found w t es q = if is_due w t q.start then option_map (row_at w q) (lookup (is_pane q) es) else None
 
-rows_found : (w : WindowSpec) (t : ℤ) (es : List (Pane × AccData)) → IsStrictlySortedBy pane_cmp (keys_of es) → (q : Pane) → filter (row_is_at q) (rows_due w t es) ≡ option_to_list (due_found w t es q)
+rows_found : (w : WindowSpec) (t : ℤ) (es : List (Pane × Aggregated)) → IsStrictlySortedBy pane_cmp (keys_of es) → (q : Pane) → filter (row_is_at q) (rows_due w t es) ≡ option_to_list (due_found w t es q)
 unfolding IsStrictlySortedBy
-rows_found w t [] h q = elim (is_due w t q.start) as (λ b. [] ≡ option_to_list (if b then option_map (λ (a : AccData). row_at w q a.total) None else None)) [ true ↦ refl | false ↦ refl ]
+rows_found w t [] h q = elim (is_due w t q.start) as (λ b. [] ≡ option_to_list (if b then option_map (row_at w q) None else None)) [ true ↦ refl | false ↦ refl ]
 rows_found w t (e ∷ es) h q = by_case (is_pane e.0 q) refl (rows_found w t es h.1 q)
   where
     by_case : (b : Bool) → is_pane e.0 q ≡ b → filter (row_is_at q) (rows_due w t es) ≡ option_to_list (due_found w t es q) → filter (row_is_at q) (rows_due w t (e ∷ es)) ≡ option_to_list (due_found w t (e ∷ es) q)
     by_case true here later =
         let same : e.0 ≡ q = pane_from_test e.0 q here in
         let none : filter (row_is_at q) (rows_due w t es) ≡ [] = subst (λ p. filter (row_is_at p) (rows_due w t es) ≡ []) same (none_at w t e.0 es h.0) in
-        let first : acc_at (e ∷ es) q ≡ Some e.1 = ap (λ b. cond b (Some e.1) (acc_at es q)) (flips q e.0 ∙ here) in
+        let first : lookup (is_pane q) (e ∷ es) ≡ Some e.1 = ap (λ b. cond b (Some e.1) (lookup (is_pane q) es)) (flips q e.0 ∙ here) in
         ap (filter (row_is_at q)) (rows_cons w t e es)
-        ∙ taken w q (is_due w t e.0.start) (row_at w e.0 e.1.total) (rows_due w t es) here none
-        ∙ ap (λ p. option_to_list (if is_due w t p.start then Some (row_at w p e.1.total) else None)) same
-        ∙ sym (ap (λ o. option_to_list (if is_due w t q.start then option_map (λ (a : AccData). row_at w q a.total) o else None)) first)
+        ∙ taken w q (is_due w t e.0.start) (row_at w e.0 e.1) (rows_due w t es) here none
+        ∙ ap (λ p. option_to_list (if is_due w t p.start then Some (row_at w p e.1) else None)) same
+        ∙ sym (ap (λ o. option_to_list (if is_due w t q.start then option_map (row_at w q) o else None)) first)
     by_case false here later =
-        let next : acc_at (e ∷ es) q ≡ acc_at es q = ap (λ b. cond b (Some e.1) (acc_at es q)) (flips q e.0 ∙ here) in
+        let next : lookup (is_pane q) (e ∷ es) ≡ lookup (is_pane q) es = ap (λ b. cond b (Some e.1) (lookup (is_pane q) es)) (flips q e.0 ∙ here) in
         ap (filter (row_is_at q)) (rows_cons w t e es)
-        ∙ skipped q (is_due w t e.0.start) (row_at w e.0 e.1.total) (rows_due w t es) here
+        ∙ skipped q (is_due w t e.0.start) (row_at w e.0 e.1) (rows_due w t es) here
         ∙ later
-        ∙ sym (ap (λ o. option_to_list (if is_due w t q.start then option_map (λ (a : AccData). row_at w q a.total) o else None)) next)
+        ∙ sym (ap (λ o. option_to_list (if is_due w t q.start then option_map (row_at w q) o else None)) next)
 
-option_twice : (w : WindowSpec) (q : Pane) (o : Option AccData) → option_map (row_at w q) (option_map (λ a. a.total) o) ≡ option_map (λ a. row_at w q a.total) o
-option_twice w q None = refl
-option_twice w q (Some a) = refl
-
-same_due : (w : WindowSpec) (q : Pane) (b : Bool) (x y : Option AccData) → (b ≡ true → x ≡ y) → option_to_list (if b then option_map (λ a. row_at w q a.total) x else None) ≡ option_to_list (if b then option_map (λ a. row_at w q a.total) y else None)
-same_due w q true x y same = ap (λ o. option_to_list (option_map (λ (a : AccData). row_at w q a.total) o)) (same refl)
+same_due : (w : WindowSpec) (q : Pane) (b : Bool) (x y : Option Aggregated) → (b ≡ true → x ≡ y) → option_to_list (if b then option_map (row_at w q) x else None) ≡ option_to_list (if b then option_map (row_at w q) y else None)
+same_due w q true x y same = ap (λ o. option_to_list (option_map (row_at w q) o)) (same refl)
 same_due w q false x y same = refl
 
--- the entries in order have the same in each pane whose window fires
-pub rows_fired : (w : WindowSpec) (t : ℤ) (es sorted : List (Pane × AccData)) → IsStrictlySortedBy pane_cmp (keys_of sorted) → ((q : Pane) → is_due w t q.start ≡ true → acc_at sorted q ≡ acc_at es q)
-    → AreRowsOf (fired w t (get (from_entries {R = pane_cmp} (totals es)))) (rows_due w t sorted)
-rows_fired w t es sorted strict same q =
-    rows_found w t sorted strict q
-    ∙ same_due w q (is_due w t q.start) (acc_at sorted q) (acc_at es q) (same q)
-    ∙ sym (ap (λ o. option_to_list (if is_due w t q.start then o else None)) (ap (option_map (row_at w q)) (get-totals es q) ∙ option_twice w q (acc_at es q)))
+-- the entries in order have what stands in each pane whose window fires
+pub rows_fired : (w : WindowSpec) (t : ℤ) (f : Pane → Option Aggregated) (sorted : List (Pane × Aggregated)) → IsStrictlySortedBy pane_cmp (keys_of sorted)
+    → ((q : Pane) → is_due w t q.start ≡ true → lookup (is_pane q) sorted ≡ f q) → AreRowsOf (fired w t f) (rows_due w t sorted)
+rows_fired w t f sorted strict same q = rows_found w t sorted strict q ∙ same_due w q (is_due w t q.start) (lookup (is_pane q) sorted) (f q) (same q)
 
 -- ---- in order
 
-rise : (p : Pane) (w : WindowSpec) (t : ℤ) (es : List (Pane × AccData)) → AllByRecursion (λ q. pane_cmp p q ≡ Less) (keys_of es) → AllByRecursion (λ q. pane_cmp p q ≡ Less) (map pane_of (rows_due w t es))
+rise : (p : Pane) (w : WindowSpec) (t : ℤ) (es : List (Pane × Aggregated)) → AllByRecursion (λ q. pane_cmp p q ≡ Less) (keys_of es) → AllByRecursion (λ q. pane_cmp p q ≡ Less) (map pane_of (rows_due w t es))
 rise p w t [] h = tt
 rise p w t (e ∷ es) h = subst (λ l. AllByRecursion (λ q. pane_cmp p q ≡ Less) (map pane_of l)) (sym (rows_cons w t e es)) (by_case (is_due w t e.0.start) (rise p w t es h.1))
   where
     by_case : (b : Bool) → AllByRecursion (λ q. pane_cmp p q ≡ Less) (map pane_of (rows_due w t es))
-        → AllByRecursion (λ q. pane_cmp p q ≡ Less) (map pane_of (cond b (row_at w e.0 e.1.total ∷ rows_due w t es) (rows_due w t es)))
+        → AllByRecursion (λ q. pane_cmp p q ≡ Less) (map pane_of (cond b (row_at w e.0 e.1 ∷ rows_due w t es) (rows_due w t es)))
     by_case true later = (h.0, later)
     by_case false later = later
 
-rows_rise : (w : WindowSpec) (t : ℤ) (es : List (Pane × AccData)) → IsStrictlySortedBy pane_cmp (keys_of es) → IsStrictlySortedBy pane_cmp (map pane_of (rows_due w t es))
+rows_rise : (w : WindowSpec) (t : ℤ) (es : List (Pane × Aggregated)) → IsStrictlySortedBy pane_cmp (keys_of es) → IsStrictlySortedBy pane_cmp (map pane_of (rows_due w t es))
 unfolding IsStrictlySortedBy
 rows_rise w t [] h = tt
 rows_rise w t (e ∷ es) h = subst (λ l. IsStrictlySortedBy pane_cmp (map pane_of l)) (sym (rows_cons w t e es)) (by_case (is_due w t e.0.start) (rows_rise w t es h.1))
   where
     by_case : (b : Bool) → IsStrictlySortedBy pane_cmp (map pane_of (rows_due w t es))
-        → IsStrictlySortedBy pane_cmp (map pane_of (cond b (row_at w e.0 e.1.total ∷ rows_due w t es) (rows_due w t es)))
+        → IsStrictlySortedBy pane_cmp (map pane_of (cond b (row_at w e.0 e.1 ∷ rows_due w t es) (rows_due w t es)))
     by_case true later = (rise e.0 w t es h.0, later)
     by_case false later = later
 
@@ -122,5 +113,5 @@ in_order (x ∷ y ∷ ys) h (suc k) d low high =
     let e : suc k + 1 ≡ suc (k + 1) = omega arith in
     rw e (in_order (y ∷ ys) h.1 k d (omega arith) (omega arith))
 
-pub rows_ordered : (w : WindowSpec) (t : ℤ) (es : List (Pane × AccData)) → IsStrictlySortedBy pane_cmp (keys_of es) → IsSortedByKey pane_of pane_cmp (rows_due w t es)
+pub rows_ordered : (w : WindowSpec) (t : ℤ) (es : List (Pane × Aggregated)) → IsStrictlySortedBy pane_cmp (keys_of es) → IsSortedByKey pane_of pane_cmp (rows_due w t es)
 rows_ordered w t es strict = in_order (rows_due w t es) (rows_rise w t es strict)

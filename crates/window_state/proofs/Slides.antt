@@ -1,9 +1,10 @@
 -- A record brought in at several windows, one after another, and several records.
 use Rattle.std.proofs.Common.{◌≡◌, ℕ, ℤ, pos, ◌-ℤ◌, ◌+◌, ◌^◌, ◌<◌, ◌≤◌, ◌%◌, Bool, true, false, cond, ◌&&◌, ◌||◌, List, [], ◌∷◌, take, drop, length, get_or, refl, sym, ap, subst, ◌∙◌, arith, Option, Some, None, ◌≤ℤ◌, FitsSigned, to_z, of_z, if◌then◌else◌}
+use Rattle.std.specs.Prelude.{int_lt, ◌<ℤ◌}
 use Rattle.std.specs.Int.{int_rem_euclid}
 use Rattle.std.specs.FinMap.{FinMap, get}
 use Rattle.std.specs.Ordering.{int_eq}
-use Rattle.std.specs.Int.{w64}
+use Rattle.std.specs.Int.{w64, w128}
 use Rattle.std.specs.Int.Signed.{pos-nat_abs, yes_non_neg}
 use Rattle.std.proofs.Math.IntN.{nat_abs}
 use Rattle.std.proofs.lemmas.Int.{ints, to_z-of_z, to_z_pos}
@@ -160,18 +161,18 @@ pub record Sliding (w : WindowSpec) (r : Record) (n m rest : ℕ) : Type 0 where
 abbrev pub held : ℤ → ℕ
 held z = nat_abs (to_z w64 (of_z w64 z))
 
-positive_is : (z : ℤ) → FitsSigned w64 z → pos 1 ≤ℤ z → z ≡ pos (held z)
+pub positive_is : (z : ℤ) → FitsSigned w64 z → pos 1 ≤ℤ z → z ≡ pos (held z)
 positive_is z fits h =
     let above : pos 0 ≤ℤ z = omega (arith, ints) in
     sym (ap (λ y. pos (nat_abs y)) (to_z-of_z w64 z fits) ∙ pos-nat_abs z (yes_non_neg above))
 
-at_least_one : (z : ℤ) (n : ℕ) → z ≡ pos n → pos 1 ≤ℤ z → 0 < n
+pub at_least_one : (z : ℤ) (n : ℕ) → z ≡ pos n → pos 1 ≤ℤ z → 0 < n
 at_least_one z n e h = omega (arith, ints)
 
-at_most : (z : ℤ) (n m : ℕ) → z ≡ pos n → z ≤ℤ pos m → n ≤ m
+pub at_most : (z : ℤ) (n m : ℕ) → z ≡ pos n → z ≤ℤ pos m → n ≤ m
 at_most z n m e h = omega (arith, ints)
 
-fits_window : (z : ℤ) → pos 1 ≤ℤ z → z ≤ℤ pos (2 ^ 40) → FitsSigned w64 z
+pub fits_window : (z : ℤ) → pos 1 ≤ℤ z → z ≤ℤ pos (2 ^ 40) → FitsSigned w64 z
 fits_window z h k = grind (arith, ints)
 
 sliding : (w : WindowSpec) (r : Record) (rest : ℕ) → IsWindow w → int_rem_euclid (at w.time r -ℤ w.offset) w.slide ≡ pos rest → Sliding w r (held w.slide) (held w.size) rest
@@ -190,7 +191,7 @@ sliding w r rest h is =
       low = subst (λ k. k < held w.slide) (pos_same found.0 rest (sym found.2 ∙ rem)) found.1;
     }
 
-fits_start : (t : ℤ) (b : ℕ) → IsTime t → b ≤ 2 ^ 40 → FitsSigned w64 (t -ℤ pos b)
+pub fits_start : (t : ℤ) (b : ℕ) → IsTime t → b ≤ 2 ^ 40 → FitsSigned w64 (t -ℤ pos b)
 fits_start t b h k = grind (arith, ints)
 
 -- the start of a window as the code computes it
@@ -208,3 +209,53 @@ start_in_range t b time small = record { above = grind (arith, ints, time, small
 
 pub key_is : (k x : ℤ) → FitsSigned w64 x → x ≡ k → to_z w64 (of_z w64 x) ≡ k
 key_is k x fits is = to_z-of_z w64 x fits ∙ is
+
+-- ---- only windows that begin before a number
+
+pub either_way : {x y : Option Aggregated} (b : Bool) → x ≡ y → x ≡ cond b y x
+either_way true is = is
+either_way false is = refl
+
+no_pane : (a b f : ℤ) → int_lt a f ≡ false → int_lt b f ≡ true → int_eq b a ≡ false
+no_pane a b f h k = grind (arith, ints)
+
+no_pane_back : (a b f : ℤ) → int_lt a f ≡ true → int_lt b f ≡ false → int_eq b a ≡ false
+no_pane_back a b f h k = grind (arith, ints)
+
+-- one window more, which begins before it
+pub slid_before : (w : WindowSpec) (r : Record) (f : ℤ) (x now after : Option Aggregated) (q : Pane) (b n m rest : ℕ) → 0 < n → w.slide ≡ pos n → w.size ≡ pos m
+    → int_rem_euclid (at w.time r -ℤ w.offset) (pos n) ≡ pos rest → b % n ≡ rest → b < m → int_lt (at w.time r -ℤ pos b) f ≡ true
+    → now ≡ cond (int_lt q.start f) (slid w r x q b) x
+    → after ≡ (if int_eq (at w.time r -ℤ pos b) q.start && int_eq (at w.key r) q.key then merge w.aggregates now (aggregate_of w.aggregates (r ∷ [])) else now)
+    → after ≡ cond (int_lt q.start f) (slid w r x q (b + n)) x
+slid_before w r f x now after q b n m rest h slide size is e low before had adds = by_case (int_lt q.start f) refl had
+  where
+    by_case : (t : Bool) → int_lt q.start f ≡ t → now ≡ cond t (slid w r x q b) x → after ≡ cond t (slid w r x q (b + n)) x
+    by_case true here was = adds ∙ slid_step w r x now q b n m rest h slide size is e low was
+    by_case false other was =
+        adds
+        ∙ ap (λ t. if t && int_eq (at w.key r) q.key then merge w.aggregates now (aggregate_of w.aggregates (r ∷ [])) else now) (no_pane q.start (at w.time r -ℤ pos b) f other before)
+        ∙ was
+
+-- and one that does not
+pub slid_later : (w : WindowSpec) (r : Record) (f : ℤ) (x now : Option Aggregated) (q : Pane) (b n m rest : ℕ) → 0 < n → w.slide ≡ pos n → w.size ≡ pos m
+    → int_rem_euclid (at w.time r -ℤ w.offset) (pos n) ≡ pos rest → b % n ≡ rest → b < m → int_lt (at w.time r -ℤ pos b) f ≡ false
+    → now ≡ cond (int_lt q.start f) (slid w r x q b) x → now ≡ cond (int_lt q.start f) (slid w r x q (b + n)) x
+slid_later w r f x now q b n m rest h slide size is e low later had = by_case (int_lt q.start f) refl had
+  where
+    by_case : (t : Bool) → int_lt q.start f ≡ t → now ≡ cond t (slid w r x q b) x → now ≡ cond t (slid w r x q (b + n)) x
+    by_case true here was =
+        sym (ap (λ t. if t && int_eq (at w.key r) q.key then merge w.aggregates now (aggregate_of w.aggregates (r ∷ [])) else now) (no_pane_back q.start (at w.time r -ℤ pos b) f here later))
+        ∙ slid_step w r x now q b n m rest h slide size is e low was
+    by_case false other was = was
+
+fits_wide : (t : ℤ) (b : ℕ) → IsTime t → b ≤ 2 ^ 40 → FitsSigned w128 (t -ℤ pos b)
+fits_wide t b h k = grind (arith, ints)
+
+-- a start beside a number, as the code compares them
+pub start_side : (t y f : ℤ) (b : ℕ) (d : Bool) → y ≡ t -ℤ pos b → IsTime t → b ≤ 2 ^ 40 → FitsSigned w128 f → int_lt (to_z w128 (of_z w128 y)) (to_z w128 (of_z w128 f)) ≡ d
+    → int_lt (t -ℤ pos b) f ≡ d
+start_side t y f b d is time small hf h = sym (λ i. int_lt ((ap (λ z. to_z w128 (of_z w128 z)) is ∙ to_z-of_z w128 (t -ℤ pos b) (fits_wide t b time small)) i) (to_z-of_z w128 f hf i)) ∙ h
+
+pub lt_from_test : (a b : ℤ) → int_lt a b ≡ true → a <ℤ b
+lt_from_test a b h = grind (arith, ints)

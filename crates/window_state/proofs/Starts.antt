@@ -1,5 +1,5 @@
 -- Open panes by their starts: what is put in, and what is taken out.
-use Rattle.std.proofs.Common.{◌≡◌, ℤ, pos, ◌+ℤ◌, ◌-ℤ◌, Bool, true, false, cond, ◌&&◌, ◌||◌, List, [], ◌∷◌, ◌++◌, ◌-◌, ◌<◌, length, slice_get, refl, sym, ap, subst, ◌∙◌, arith, Option, Some, None, if◌then◌else◌}
+use Rattle.std.proofs.Common.{◌≡◌, ℤ, pos, ◌+ℤ◌, ◌-ℤ◌, Bool, true, false, cond, ◌&&◌, ◌||◌, List, [], ◌∷◌, ◌++◌, ◌-◌, ◌<◌, length, slice_get, refl, sym, ap, subst, ◌∙◌, arith, Option, Some, None}
 use Rattle.std.specs.Prelude.{int_le, IfSome}
 use Rattle.std.specs.Global.{Vec}
 use Rattle.std.specs.List.{All, AllByRecursion}
@@ -15,16 +15,12 @@ use Rattle.std.proofs.lemmas.List.Elements.{All-nil, All-cons, All-head, All-tai
 use Rattle.std.proofs.lemmas.Option.{get_or_from_slice_get}
 use Rattle.plan_model.specs.declared.spec.WindowSpec.{WindowSpec}
 use Rattle.plan_model.specs.declared.spec.Pane.{Pane}
-use Rattle.plan_model.specs.Aggregates.{Aggregated}
 use Rattle.aggregates.specs.Kinds.{AccData}
-use Rattle.std.specs.Option.{is_some, option_map}
 use Rattle.plan_model.specs.Rows.{is_due}
 use Rattle.plan_model.specs.Rows.{pane_cmp}
-use Rattle.window_state.specs.Windows.{acc_at, has_pane, is_pane, total_at}
-use Rattle.window_state.specs.Open.{has_key, has_open, panes_from, AreOpen}
-use Rattle.window_state.specs.Firing.{AllDue}
-use Rattle.window_state.proofs.Updates.{pane_from_test}
-use Rattle.window_state.proofs.Entries.{none_there, tied}
+use Rattle.window_state.specs.Windows.{has_pane, is_pane}
+use Rattle.window_state.specs.Open.{has_key, has_open, panes_from}
+use Rattle.window_state.proofs.Entries.{tied}
 
 or_swap : (a b c : Bool) → (a || (b || c)) ≡ (b || (a || c))
 or_swap true b c = elim b as (λ b. true ≡ (b || true)) [ true ↦ refl | false ↦ refl ]
@@ -35,7 +31,7 @@ and_or true true c d = refl
 and_or true false c d = refl
 and_or false b c d = refl
 
-same_start : (s a : ℤ) → int_eq s a ≡ true → a ≡ s
+pub same_start : (s a : ℤ) → int_eq s a ≡ true → a ≡ s
 same_start s a h = grind (arith, ints)
 
 -- ---- keys of a start that has some
@@ -187,7 +183,7 @@ last_due w t p (x ∷ es) last h =
 
 -- ---- the panes of a start behind others
 
-panes_of_start : (s : ℤ) (keys : List ℤ) (q : Pane) → has_pane (panes_from s keys) q ≡ (int_eq q.start s && has_key q.key keys)
+pub panes_of_start : (s : ℤ) (keys : List ℤ) (q : Pane) → has_pane (panes_from s keys) q ≡ (int_eq q.start s && has_key q.key keys)
 panes_of_start s [] q = sym (and_false (int_eq q.start s))
 panes_of_start s (k ∷ keys) q =
     (λ i. tied q (record { start = s; key = k }) i || panes_of_start s keys q i)
@@ -197,7 +193,7 @@ panes_of_start s (k ∷ keys) q =
     split true b c = refl
     split false b c = refl
 
-has_both : (ps more : List Pane) (q : Pane) → has_pane (ps ++ more) q ≡ (has_pane ps q || has_pane more q)
+pub has_both : (ps more : List Pane) (q : Pane) → has_pane (ps ++ more) q ≡ (has_pane ps q || has_pane more q)
 has_both [] more q = refl
 has_both (p ∷ ps) more q = ap (λ t. is_eq (pane_cmp q p) || t) (has_both ps more q) ∙ or_assoc (is_eq (pane_cmp q p)) (has_pane ps q) (has_pane more q)
   where
@@ -288,71 +284,6 @@ key_gone s k keys q o =
     ∙ key_gone_by (int_eq q.start s) (int_eq q.key k) (has_key q.key keys) o
     ∙ ap (λ b. cond (int_eq q.start s && b) None o) (sym (key_more q.key k keys))
 
--- a start, and what stands in its panes
-pub start_gone : (b k old : Bool) (o : Option AccData) → old ≡ is_some o → (b ≡ true → old ≡ k) → cond b false old ≡ is_some (cond (b && k) (let none : Option AccData = None in none) o)
-start_gone false k old o is those = is
-start_gone true true old o is those = refl
-start_gone true false old o is those = sym (those refl) ∙ is
-
--- a window that does not fire is of no start that does
-pub stays_later : (w : WindowSpec) (t s : ℤ) (q : Pane) (k : Bool) (o : Option AccData) → is_due w t s ≡ true → is_due w t q.start ≡ false → cond (int_eq q.start s && k) None o ≡ o
-stays_later w t s q k o due undue = by_case (int_eq q.start s) refl
-  where
-    by_case : (b : Bool) → int_eq q.start s ≡ b → cond (b && k) None o ≡ o
-    by_case false other = refl
-    by_case true same = absurd (let no : true ≡ false = sym due ∙ ap (is_due w t) (same_start q.start s same) ∙ undue in cc)
-
--- so what is left is what does not fire
-pub left_over : (w : WindowSpec) (t : ℤ) (q : Pane) (opened : List (ℤ × Vec ℤ)) (m n : List (Pane × AccData)) → AreOpen opened n → All (λ e. is_due w t e.0 ≡ false) opened
-    → (is_due w t q.start ≡ false → acc_at n q ≡ acc_at m q) → acc_at n q ≡ (if is_due w t q.start then None else acc_at m q)
-left_over w t q opened m n are none later = by_case (is_due w t q.start) refl (due_none w t opened q none)
-  where
-    by_case : (b : Bool) → is_due w t q.start ≡ b → (is_due w t q.start && has_open opened q) ≡ false → acc_at n q ≡ cond b None (acc_at m q)
-    by_case true due gone = none_there (acc_at n q) (sym (are q) ∙ ap (λ d. d && has_open opened q) (sym due) ∙ gone)
-    by_case false due gone = later due
-
-all_there : (w : WindowSpec) (t : ℤ) (es : List (ℤ × Vec ℤ)) (q : Pane) → All (λ e. is_due w t e.0 ≡ true) es → is_due w t q.start ≡ false → has_open es q ≡ false
-all_there w t [] q all undue = refl
-all_there w t (e ∷ es) q all undue =
-    by_case (int_eq q.start e.0) refl (all_there w t es q (All-tail (λ (e : ℤ × Vec ℤ). is_due w t e.0 ≡ true) e es all) undue)
-  where
-    by_case : (b : Bool) → int_eq q.start e.0 ≡ b → has_open es q ≡ false → ((b && has_key q.key e.1.items) || has_open es q) ≡ false
-    by_case false other later = later
-    by_case true same later =
-        absurd (let no : true ≡ false = sym (All-head (λ (e : ℤ × Vec ℤ). is_due w t e.0 ≡ true) e es all) ∙ ap (is_due w t) (same_start q.start e.0 same) ∙ undue in cc)
-
--- where all fire nothing is left
-pub none_left : (w : WindowSpec) (t : ℤ) (q : Pane) (opened : List (ℤ × Vec ℤ)) (m n : List (Pane × AccData)) → AreOpen opened m → All (λ e. is_due w t e.0 ≡ true) opened → n ≡ []
-    → acc_at n q ≡ (if is_due w t q.start then None else acc_at m q)
-none_left w t q opened m n are all empty = ap (λ l. acc_at l q) empty ∙ by_case (is_due w t q.start) refl
-  where
-    by_case : (b : Bool) → is_due w t q.start ≡ b → None ≡ cond b None (acc_at m q)
-    by_case true due = refl
-    by_case false undue = sym (none_there (acc_at m q) (sym (are q) ∙ all_there w t opened q all undue))
-
--- ---- one pane more, and its place
-
-pub put_pane : (p : Pane) (m n : List (Pane × AccData)) (old new : List (ℤ × Vec ℤ)) → AreOpen old m → ((q : Pane) → has_open new q ≡ cond (is_pane p q) true (has_open old q))
-    → ((q : Pane) → is_some (acc_at n q) ≡ cond (is_pane p q) true (is_some (acc_at m q))) → AreOpen new n
-put_pane p m n old new are opened put q = opened q ∙ ap (cond (is_pane p q) true) (are q) ∙ sym (put q)
-
--- and taken back, where nothing stood
-pub back_pane : (p : Pane) (m n k : List (Pane × AccData)) (old new : List (ℤ × Vec ℤ)) → AreOpen old m → acc_at m p ≡ None → ((q : Pane) → has_open new q ≡ has_open old q)
-    → ((q : Pane) → is_some (acc_at n q) ≡ cond (is_pane p q) true (is_some (acc_at m q))) → ((q : Pane) → acc_at k q ≡ cond (is_pane p q) None (acc_at n q)) → AreOpen new k
-back_pane p m n k old new are none same put taken q = same q ∙ are q ∙ by_case (is_pane p q) refl ∙ ap is_some (sym (taken q))
-  where
-    by_case : (b : Bool) → is_pane p q ≡ b → is_some (acc_at m q) ≡ is_some (cond b None (acc_at n q))
-    by_case true here = ap is_some (ap (acc_at m) (sym (pane_from_test p q here)) ∙ none)
-    by_case false other = sym (put q ∙ ap (λ b. cond b true (is_some (acc_at m q))) other)
-
-pub back_total : (p : Pane) (m n k : List (Pane × AccData)) (a : Option Aggregated) → acc_at m p ≡ None → ((q : Pane) → total_at n q ≡ cond (is_pane p q) a (total_at m q))
-    → ((q : Pane) → acc_at k q ≡ cond (is_pane p q) None (acc_at n q)) → (q : Pane) → total_at k q ≡ total_at m q
-back_total p m n k a none added taken q = ap (option_map (λ (x : AccData). x.total)) (taken q) ∙ by_case (is_pane p q) refl
-  where
-    by_case : (b : Bool) → is_pane p q ≡ b → option_map (λ (x : AccData). x.total) (cond b None (acc_at n q)) ≡ total_at m q
-    by_case true here = sym (ap (option_map (λ (x : AccData). x.total)) (ap (acc_at m) (sym (pane_from_test p q here)) ∙ none))
-    by_case false other = added q ∙ ap (λ b. cond b a (total_at m q)) other
-
 -- ---- panes that all fire
 
 has_itself : (p : Pane) (ps : List Pane) → has_pane (p ∷ ps) p ≡ true
@@ -361,10 +292,10 @@ has_itself p ps = ap (λ b. b || has_pane ps p) (same p.start p.key)
     same : (a b : ℤ) → is_eq (ordering_then (int_cmp a a) (int_cmp b b)) ≡ true
     same a b = grind (arith, ints)
 
-pub each_due : (w : WindowSpec) (t : ℤ) (ps : List Pane) → ((q : Pane) → has_pane ps q ≡ true → is_due w t q.start ≡ true) → AllDue w t ps
-each_due w t [] due = All-nil (λ (p : Pane). is_due w t p.start ≡ true)
-each_due w t (p ∷ ps) due =
-    All-cons (λ (p : Pane). is_due w t p.start ≡ true) p ps (due p (has_itself p ps)) (each_due w t ps (λ q has. due q (ap (λ b. is_eq (pane_cmp q p) || b) has ∙ either (is_eq (pane_cmp q p)))))
+-- what is so of each pane that is among them
+pub each_pane : (P : Pane → Type 0) (ps : List Pane) → ((q : Pane) → has_pane ps q ≡ true → P q) → All P ps
+each_pane P [] h = All-nil P
+each_pane P (p ∷ ps) h = All-cons P p ps (h p (has_itself p ps)) (each_pane P ps (λ q has. h q (ap (λ b. is_eq (pane_cmp q p) || b) has ∙ either (is_eq (pane_cmp q p)))))
   where
     either : (b : Bool) → (b || true) ≡ true
     either true = refl

@@ -6,11 +6,11 @@ use Rattle.plan_model.specs.declared.spec.WindowSpec.{WindowSpec}
 use Rattle.plan_model.specs.declared.spec.Pane.{Pane}
 use Rattle.plan_model.specs.declared.spec.Row.{Row}
 use Rattle.plan_model.specs.Rows.{is_due, keeps, row_at}
-use Rattle.aggregates.specs.Kinds.{AccData}
+use Rattle.plan_model.specs.Aggregates.{Aggregated}
 
 -- the rows of the entries that fire by a watermark, in order
-abbrev pub rows_due : WindowSpec → ℤ → List (Pane × AccData) → List Row
-rows_due w watermark entries = map (λ e. row_at w e.0 e.1.total) (filter (λ e. is_due w watermark e.0.start) entries)
+abbrev pub rows_due : WindowSpec → ℤ → List (Pane × Aggregated) → List Row
+rows_due w watermark entries = map (λ e. row_at w e.0 e.1) (filter (λ e. is_due w watermark e.0.start) entries)
 
 -- each window of the panes fires by a watermark
 abbrev pub AllDue : WindowSpec → ℤ → List Pane → Type 0

@@ -9,3 +9,5 @@ pub mod Hashing
 pub mod Words
 pub mod Places
 pub mod PlacesView
+pub mod Slices
+pub mod Spans

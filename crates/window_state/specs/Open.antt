@@ -1,11 +1,10 @@
 -- The panes of open windows, by the start of their window.
-use Rattle.std.specs.Prelude.{◌≡◌, ℤ, map, Bool, ◌&&◌, List, is_some}
+use Rattle.std.specs.Prelude.{◌≡◌, ℤ, true, map, Bool, ◌&&◌, ◌++◌, List, [], ◌∷◌, Option, is_some}
 use Rattle.std.specs.List.{list_any}
 use Rattle.std.specs.Ordering.{int_eq}
 use Rattle.std.specs.Global.{Vec}
 use Rattle.plan_model.specs.declared.spec.Pane.{Pane}
-use Rattle.aggregates.specs.Kinds.{AccData}
-use Rattle.window_state.specs.Windows.{acc_at}
+use Rattle.plan_model.specs.Aggregates.{Aggregated}
 
 -- whether a key is one of some
 abbrev pub has_key : ℤ → List ℤ → Bool
@@ -19,6 +18,11 @@ has_open opened q = list_any (λ e. int_eq q.start e.0 && has_key q.key e.1.item
 abbrev pub panes_from : ℤ → List ℤ → List Pane
 panes_from start keys = map (λ k. record { start = start; key = k }) keys
 
--- the open panes are just those of the windows
-abbrev pub AreOpen : List (ℤ × Vec ℤ) → List (Pane × AccData) → Type 0
-AreOpen opened es = (q : Pane) → has_open opened q ≡ is_some (acc_at es q)
+-- the open panes one by one
+abbrev pub open_panes : List (ℤ × Vec ℤ) → List Pane
+open_panes [] = []
+open_panes (e ∷ es) = panes_from e.0 e.1.items ++ open_panes es
+
+-- each pane where something stands is open
+abbrev pub AreOpen : List (ℤ × Vec ℤ) → (Pane → Option Aggregated) → Type 0
+AreOpen opened f = (q : Pane) → is_some (f q) ≡ true → has_open opened q ≡ true

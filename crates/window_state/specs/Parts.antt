@@ -3,25 +3,27 @@ use Rattle.std.specs.Prelude.{◌≡◌, map, List, [], ◌∷◌, Option, Some,
 use Rattle.plan_model.specs.declared.spec.WindowSpec.{WindowSpec}
 use Rattle.plan_model.specs.declared.spec.Pane.{Pane}
 use Rattle.plan_model.specs.Aggregates.{Aggregated}
+use Rattle.aggregates.specs.declared.kind.Kind.{Kind}
 use Rattle.aggregates.specs.Kinds.{AccData, kind_of}
 use Rattle.window_state.specs.declared.parts.Part.{Part}
-use Rattle.window_state.specs.Windows.{IsStart, acc_at}
+use Rattle.window_state.specs.Windows.{IsStart}
 
-abbrev pub part_of : Pane × AccData → Part
-part_of e = record { pane = e.0; acc = e.1 }
+-- the part of what stands in a pane, by the operator's kinds
+abbrev pub part_of : List Kind → Pane × Aggregated → Part
+part_of kinds e = record { pane = e.0; acc = record { kinds = kinds; total = e.1 } }
 
--- the entries of some panes, where they have one, in the order of the panes
-abbrev pub with_entry : Pane → Option AccData → List (Pane × AccData) → List (Pane × AccData)
+-- what stands in some panes, where anything does, in the order of the panes
+abbrev pub with_entry : Pane → Option Aggregated → List (Pane × Aggregated) → List (Pane × Aggregated)
 with_entry p None rest = rest
 with_entry p (Some a) rest = (p, a) ∷ rest
 
-abbrev pub entries_at : List (Pane × AccData) → List Pane → List (Pane × AccData)
-entries_at es [] = []
-entries_at es (p ∷ ps) = with_entry p (acc_at es p) (entries_at es ps)
+abbrev pub entries_at : (Pane → Option Aggregated) → List Pane → List (Pane × Aggregated)
+entries_at f [] = []
+entries_at f (p ∷ ps) = with_entry p (f p) (entries_at f ps)
 
 -- a part for each entry
-abbrev pub parts_in : List (Pane × AccData) → List Part
-parts_in entries = map part_of entries
+abbrev pub parts_in : List Kind → List (Pane × Aggregated) → List Part
+parts_in kinds entries = map (part_of kinds) entries
 
 -- the panes of parts, and what stands in each
 abbrev pub panes_in : List Part → List Pane

@@ -1,5 +1,5 @@
 -- A window state as contracts see it.
-use Rattle.std.specs.Prelude.{◌≡◌, ℤ, ◌+◌, ◌^◌, ◌≤◌, map, Bool, List, Option, Some, None, option_map, if◌then◌else◌}
+use Rattle.std.specs.Prelude.{◌≡◌, true, int_lt, ℤ, ◌+◌, ◌^◌, ◌≤◌, Bool, List, Option, Some, None, option_map, if◌then◌else◌}
 use Rattle.std.specs.FinMap.{FinMap, get}
 use Rattle.plain_data.specs.Record.{Record}
 use Rattle.plan_model.specs.declared.spec.WindowSpec.{WindowSpec}
@@ -7,11 +7,11 @@ use Rattle.plan_model.specs.declared.spec.Pane.{Pane}
 use Rattle.plan_model.specs.declared.spec.Row.{Row}
 use Rattle.plan_model.specs.Aggregates.{Aggregated, merge}
 use Rattle.plan_model.specs.Rows.{pane_cmp, aggregate_at, is_due, row_at}
-use Rattle.aggregates.specs.Kinds.{AccData}
 
--- a window operator, and what stands in each pane of its open windows
+-- a window operator, from where on its windows are made of slices, and what stands in each pane of its open windows
 pub record OpenWindows : Type 0 where
   pub window : WindowSpec
+  pub from : ℤ
   pub totals : FinMap pane_cmp Aggregated
 
 -- the window operator, what stands in its open windows, and whether an `add` found no memory
@@ -20,13 +20,14 @@ pub record StateData : Type 0 where
   pub windows : FinMap pane_cmp Aggregated
   pub has_failed : Bool
 
--- what stands in the panes of entries
-abbrev pub totals : List (Pane × AccData) → List (Pane × Aggregated)
-totals entries = map (λ e. (e.0, e.1.total)) entries
-
 -- each window that some of the records reach can take those that reach it
 abbrev pub HasRoomFor : WindowSpec → List Record → FinMap pane_cmp Aggregated → Type 0
 HasRoomFor w records m = (q : Pane) (a b : Aggregated) → get m q ≡ Some a → aggregate_at w records q ≡ Some b → a.count + b.count ≤ 2 ^ 41
+
+-- the same of the windows that begin before a number
+abbrev pub HasRoomBefore : WindowSpec → ℤ → List Record → FinMap pane_cmp Aggregated → Type 0
+HasRoomBefore w from records m =
+    (q : Pane) → int_lt q.start from ≡ true → (a b : Aggregated) → get m q ≡ Some a → aggregate_at w records q ≡ Some b → a.count + b.count ≤ 2 ^ 41
 
 -- the row of each pane whose window fires by a watermark
 abbrev pub fired : WindowSpec → ℤ → (Pane → Option Aggregated) → Pane → Option Row

@@ -1,6 +1,6 @@
 //! Records brought into windows.
 
-ghost use Rattle.std.specs.Prelude.{◌≡◌, pos, ◌-ℤ◌, ◌^◌, ◌<◌, [], ◌∷◌, length, slice_index_or, Some, OnOk, if◌then◌else◌};
+ghost use Rattle.std.specs.Prelude.{◌≡◌, pos, int_lt, ◌<ℤ◌, ◌-ℤ◌, ◌^◌, ◌<◌, [], ◌∷◌, length, slice_index_or, Some, OnOk, if◌then◌else◌};
 ghost use Rattle.std.specs.FinMap as map;
 ghost use Rattle.std.specs.Int.{int_rem_euclid};
 ghost use Rattle.std.specs.List.{All};
@@ -8,7 +8,8 @@ ghost use Rattle.plain_data.specs.Record.{at};
 ghost use Rattle.plan_model.specs.declared.spec.Pane.{Pane as PaneValue};
 ghost use Rattle.plan_model.specs.Windows.{IsTime};
 ghost use Rattle.plan_model.specs.Aggregates.{Aggregated, aggregate_of, merge};
-ghost use Rattle.window_state.specs.State.{HasRoomFor, TakesIn};
+ghost use Rattle.plan_model.specs.Rows.{aggregate_at};
+ghost use Rattle.window_state.specs.State.{HasRoomBefore, HasRoomFor, TakesIn};
 ghost use Rattle.window_state.specs.Windows.{CanAggregate, IsStart, is_pane};
 
 use crate::windows::Windows;
@@ -21,8 +22,10 @@ fn add_at(windows: &mut Windows, pane: Pane, batch: &Batch, row: usize) -> Resul
     requires row_in { row < length batch.now.rows }
     requires window { CanAggregate batch.now.width windows.old.window }
     requires start { IsStart pane.start }
+    requires before { pane.start <ℤ windows.old.from }
     requires room { (a : Aggregated) → map.get windows.old.totals pane ≡ Some a → a.count < 2 ^ 41 }
     ensures window_stays { windows.new.window ≡ windows.old.window }
+    ensures from_stays { windows.new.from ≡ windows.old.from }
     ensures added { OnOk result ((q : PaneValue) → map.get windows.new.totals q
         ≡ (if is_pane pane q then merge windows.old.window.aggregates (map.get windows.old.totals q) (aggregate_of windows.old.window.aggregates (slice_index_or batch.now.rows row [] ∷ []))
         else map.get windows.old.totals q)) }
@@ -33,15 +36,19 @@ fn add_at(windows: &mut Windows, pane: Pane, batch: &Batch, row: usize) -> Resul
     windows.put_first(pane, batch, row)
 }
 
-/// Brings a record in at the windows of its time that begin `first`, and whole slides more, before it.
+/// Brings a record in at the windows of its time that begin before `from`: of those that begin `first`, and whole slides more,
+/// before its time.
 fn add_from(windows: &mut Windows, batch: &Batch, row: usize, first: u64) -> Result<(), AllocError>
     requires row_in { row < length batch.now.rows }
     requires window { CanAggregate batch.now.width windows.old.window }
     requires time { IsTime (at windows.old.window.time (slice_index_or batch.now.rows row [])) }
     requires rest { int_rem_euclid (at windows.old.window.time (slice_index_or batch.now.rows row []) -ℤ windows.old.window.offset) windows.old.window.slide ≡ pos first }
-    requires room { HasRoomFor windows.old.window (slice_index_or batch.now.rows row [] ∷ []) windows.old.totals }
+    requires room { HasRoomBefore windows.old.window windows.old.from (slice_index_or batch.now.rows row [] ∷ []) windows.old.totals }
     ensures window_stays { windows.new.window ≡ windows.old.window }
-    ensures added { OnOk result (TakesIn (slice_index_or batch.now.rows row [] ∷ []) windows.old windows.new) }
+    ensures from_stays { windows.new.from ≡ windows.old.from }
+    ensures added { OnOk result ((q : PaneValue) → map.get windows.new.totals q
+        ≡ (if int_lt q.start windows.old.from then merge windows.old.window.aggregates (map.get windows.old.totals q) (aggregate_at windows.old.window (slice_index_or batch.now.rows row [] ∷ []) q)
+        else map.get windows.old.totals q)) }
 {
     let w = windows.window();
     let time = batch.value(row, w.time as usize);
@@ -51,7 +58,9 @@ fn add_from(windows: &mut Windows, batch: &Batch, row: usize, first: u64) -> Res
     let mut back = first;
     while back < size {
         let start = time - back as i64;
-        add_at(windows, Pane { start, key }, batch, row)?;
+        if (start as i128) < windows.from {
+            add_at(windows, Pane { start, key }, batch, row)?;
+        }
         back += slide;
     }
     Ok(())
@@ -69,7 +78,12 @@ fn add_record(windows: &mut Windows, batch: &Batch, row: usize) -> Result<(), Al
     let w = windows.window();
     let time = batch.value(row, w.time as usize);
     let first = (time - w.offset).rem_euclid(w.slide) as u64;
-    add_from(windows, batch, row, first)
+    let oldest = time - w.size + 1;
+    windows.add_to_slice(batch, row, first)?;
+    if (oldest as i128) < windows.from {
+        add_from(windows, batch, row, first)?;
+    }
+    Ok(())
 }
 
 /// Brings each record of a batch in at each window of its time.

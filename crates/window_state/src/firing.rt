@@ -1,13 +1,16 @@
 //! Windows that fire.
 
-ghost use Rattle.std.specs.Prelude.{◌≡◌, ℕ, not, IfOk};
+ghost use Rattle.std.specs.Prelude.{◌≡◌, ℕ, ℤ, true, not, int_lt, IfOk};
 ghost use Rattle.std.specs.FinMap as map;
 ghost use Rattle.std.specs.List.Sorted.{IsSortedByKey};
+ghost use Rattle.plan_model.specs.PlanData.{IsWindow};
+ghost use Rattle.plan_model.specs.Windows.{is_start};
 ghost use Rattle.plan_model.specs.Rows.{is_due as due, pane_cmp, pane_of, row_at, AreRowsOf};
 ghost use Rattle.window_state.specs.Windows.{IsOperator, IsStart};
 ghost use Rattle.window_state.specs.State.{fired};
 
 use crate::opened::{are_all_due, due_panes, pop_due};
+use crate::spans::drop_spans;
 use crate::windows::Windows;
 use plan_model::{Numbers, Pane, Row, WindowSpec};
 use std::alloc::{AllocError, Global};
@@ -46,29 +49,46 @@ pub(crate) fn rows_of(
     let panes = due_panes(alloc, &windows.opened, windows.window(), watermark)?;
     let mut rows = Vec::new(alloc);
     for pane in &panes {
-        if let Some(numbers) = windows.places.numbers(alloc, pane)? {
+        if let Some(numbers) = windows.numbers(alloc, pane)? {
             rows.push(row_of(windows.window(), *pane, numbers))?;
         }
     }
     Ok(rows)
 }
 
+/// The first start of a window that does not fire by the watermark.
+fn first_undue(w: &WindowSpec, watermark: i64) -> i128
+    requires { IsWindow w.now }
+    ensures due { (s : ℤ) → due w.now watermark s ≡ true → int_lt s result ≡ true }
+    ensures starts { (s : ℤ) → is_start w.now s ≡ true → int_lt s result ≡ true → due w.now watermark s ≡ true }
+{
+    let last = watermark as i128 - w.size as i128 + 1;
+    last - (last - w.offset as i128).rem_euclid(w.slide as i128) + w.slide as i128
+}
+
 /// Takes the windows out that fire by the watermark.
 pub(crate) fn remove_due(windows: &mut Windows, watermark: i64)
-    ensures { windows.new ≡ record windows.old { totals = map.retain_keys windows.old.totals (λ q. not (due windows.old.window watermark q.start)) } }
+    ensures window_stays { windows.new.window ≡ windows.old.window }
+    ensures left { windows.new.totals ≡ map.retain_keys windows.old.totals (λ q. not (due windows.old.window watermark q.start)) }
 {
+    let from = windows.from;
+    windows.from = from.max(first_undue(windows.places.window(), watermark));
+    drop_spans(&mut windows.spans, windows.places.window(), windows.from);
     // Clearing takes time for each pane that the map has memory for.
     let is_filled = windows.places.capacity() / 4 <= windows.places.len();
     if is_filled && are_all_due(&windows.opened, windows.places.window(), watermark) {
         windows.opened.clear();
         windows.places.clear();
+        windows.spans.clear();
     } else {
         while let Some((start, keys)) = pop_due(
             &mut windows.opened,
             windows.places.window(),
             watermark,
         ) {
-            windows.places.remove_keys(start, keys.as_slice());
+            if (start as i128) < from {
+                windows.places.remove_keys(start, keys.as_slice());
+            }
         }
     }
 }

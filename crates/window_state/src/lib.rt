@@ -9,6 +9,8 @@ mod having;
 mod opened;
 mod parts;
 mod places;
+mod slices;
+mod spans;
 mod state;
 mod windows;
 mod words;

@@ -1,19 +1,25 @@
 //! The panes of open windows, by the start of their window.
 
-ghost use Rattle.std.specs.Prelude.{◌≡◌, ◌++◌, ◌&&◌, ◌↔◌, ◌<◌, length, true, false, IfOk, IfSome, IfNone, OnOk, OnErr, if◌then◌else◌};
+ghost use Rattle.std.specs.Prelude.{◌≡◌, pos, int_lt, ◌-ℤ◌, ◌++◌, ◌&&◌, ◌||◌, ◌↔◌, ◌<◌, length, true, false, IfOk, IfSome, IfNone, OnOk, OnErr, if◌then◌else◌};
 ghost use Rattle.std.specs.BTreeSet.{IsFromIterResult};
 ghost use Rattle.std.specs.List.{All};
 ghost use Rattle.std.specs.List.Sorted.{IsStrictlySortedBy};
 ghost use Rattle.std.specs.Ordering.{int_eq};
 ghost use Rattle.plan_model.specs.declared.spec.Pane.{Pane as PaneValue};
+ghost use Rattle.std.specs.Int.{int_rem_euclid};
+ghost use Rattle.plan_model.specs.PlanData.{IsWindow};
 ghost use Rattle.plan_model.specs.Rows.{is_due as due, pane_cmp};
+ghost use Rattle.plan_model.specs.Windows.{IsTime, is_window_of};
+ghost use Rattle.window_state.specs.Slices.{has_slice};
 ghost use Rattle.window_state.specs.Windows.{has_pane, is_pane};
 ghost use Rattle.window_state.specs.Open.{has_open, has_key, panes_from};
 
 use crate::firing::is_due;
+use crate::slices::{Slice, start_above, start_below, starts_at};
 use plan_model::{Pane, WindowSpec};
 use std::alloc::{AllocError, Global};
 use std::collections::{BTreeMap, BTreeSet};
+use window_slices::slice_of;
 
 /// For each start of an open window the keys that have a pane there, in the order in which they came. They are put in order
 /// only when their window fires, which costs less than to keep all panes in order.
@@ -38,6 +44,55 @@ pub(crate) fn open_pane(alloc: Global, opened: &mut OpenPanes, pane: Pane) -> Re
     }
 }
 
+/// Opens the panes of a key at the windows of a time that begin at `from` or later and have none of the key's slices yet. The
+/// last window of the time begins `first` before it.
+pub(crate) fn open_new(
+    alloc: Global,
+    opened: &mut OpenPanes,
+    w: &WindowSpec,
+    from: i128,
+    record: Pane,
+    first: u64,
+    slices: &[Slice],
+) -> Result<(), AllocError>
+    requires window { IsWindow w.now }
+    requires time { IsTime record.start }
+    requires rest { int_rem_euclid (record.start -ℤ w.now.offset) w.now.slide ≡ pos first }
+    ensures opened { OnOk result ((q : PaneValue) → int_eq record.key q.key ≡ true → is_window_of w.now record.start q.start ≡ true → int_lt q.start from ≡ false
+        → (has_open opened.new.entries q || has_slice w.now q.start slices.now) ≡ true) }
+    ensures still { (q : PaneValue) → has_open opened.old.entries q ≡ true → has_open opened.new.entries q ≡ true }
+{
+    let slice = slice_of(w, record.start);
+    if starts_at(slices, slice) {
+        return Ok(());
+    }
+    let below = start_below(slices, slice);
+    let above = start_above(slices, slice);
+    let size = w.size as u64;
+    let slide = w.slide as u64;
+    let mut back = first;
+    while back < size {
+        let start = record.start - back as i64;
+        // The windows before this one have the slice before.
+        if (start as i128) < from || below.is_some_and(|b| start <= b) {
+            break;
+        }
+        let end = start + w.size;
+        if above.is_none_or(|b| end <= b) {
+            open_pane(
+                alloc,
+                opened,
+                Pane {
+                    start,
+                    key: record.key,
+                },
+            )?;
+        }
+        back += slide;
+    }
+    Ok(())
+}
+
 /// Puts the panes of a start behind others.
 fn push_panes(panes: &mut Vec<Pane>, start: i64, keys: &[i64]) -> Result<(), AllocError>
     ensures { OnOk result (panes.new.items ≡ panes.old.items ++ panes_from start keys.now) }
@@ -48,10 +103,13 @@ fn push_panes(panes: &mut Vec<Pane>, start: i64, keys: &[i64]) -> Result<(), All
     Ok(())
 }
 
-/// Panes in order.
+/// Panes in order. Mostly there are none, at a watermark by which no window fires.
 fn sorted(alloc: Global, panes: &[Pane]) -> Result<BTreeSet<Pane>, AllocError>
     ensures { IfOk result (IsFromIterResult pane_cmp panes.now) }
 {
+    if panes.is_empty() {
+        return Ok(BTreeSet::new(alloc));
+    }
     panes.iter().map(|pane| *pane).collect(alloc)
 }
 

@@ -28,7 +28,7 @@ pub(crate) fn parts_of(alloc: Global, windows: &Windows) -> Result<Vec<Part>, Al
     let mut parts = Vec::with_capacity(alloc, windows.places.len())?;
     let kinds = kinds_of(alloc, windows.window().aggregates.as_slice())?;
     for pane in &panes {
-        if let Some(acc) = windows.places.acc(alloc, kinds.as_slice(), pane)? {
+        if let Some(acc) = windows.acc(alloc, kinds.as_slice(), pane)? {
             parts.push(Part { pane: *pane, acc })?;
         }
     }

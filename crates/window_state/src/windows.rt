@@ -1,29 +1,50 @@
 //! Open windows.
 
-ghost use Rattle.std.specs.Prelude.{◌≡◌, OnOk, OnErr, IfOk, None, if◌then◌else◌, [], ◌∷◌, length, slice_index_or, ◌<◌};
-ghost use Rattle.std.specs.FinMap as map;
+ghost use Rattle.std.specs.Prelude.{◌≡◌, true, false, pos, int_lt, ◌-ℤ◌, ◌≤ℤ◌, ◌<ℤ◌, OnOk, OnErr, IfOk, IfSome, None, map, if◌then◌else◌, [], ◌∷◌, length, slice_index_or, ◌<◌};
+ghost use Rattle.std.specs.FinMap as map_of;
+ghost use Rattle.std.specs.Int.{int_rem_euclid};
 ghost use Rattle.std.specs.List.{All};
+ghost use Rattle.std.specs.Option.{option_map};
+ghost use Rattle.plain_data.specs.Record.{at};
 ghost use Rattle.plan_model.specs.declared.spec.Pane.{Pane as PaneValue};
-ghost use Rattle.plan_model.specs.Aggregates.{aggregate_of};
+ghost use Rattle.plan_model.specs.Windows.{IsTime};
+ghost use Rattle.plan_model.specs.Aggregates.{Aggregated, aggregate_of, merge};
+ghost use Rattle.plan_model.specs.Rows.{aggregate_at};
+ghost use Rattle.aggregates.specs.Kinds.{kind_of};
 ghost use Rattle.window_state.specs.Open.{has_open};
+ghost use Rattle.window_state.specs.Slices.{acc_with};
+ghost use Rattle.window_state.specs.State.{HasRoomFor};
 ghost use Rattle.window_state.specs.Windows.{IsOperator, CanAggregate, IsStart, acc_at, has_pane, is_pane};
 ghost use Rattle.window_state.specs.Parts.{accs_in, entries_of, panes_in, IsPartOf};
 
 use crate::hashing::HashKeys;
-use crate::opened::{OpenPanes, open_pane};
+use crate::opened::{OpenPanes, open_new, open_pane};
 use crate::parts::Part;
 use crate::places::Places;
+use crate::spans::{Spans, add_in_span, slices_in, span_of, total_at};
+use aggregates::{Acc, Kind};
 use columns::Batch;
-use plan_model::{Pane, WindowSpec};
+use plan_model::{Numbers, Pane, WindowSpec};
 use std::alloc::{AllocError, Global};
 use std::collections::BTreeMap;
 use std::marker::Model;
+use window_slices::slice_of;
 
-/// The open windows of a window operator: what stands in each pane, and the panes by their starts.
+/// For how many windows of a time a record goes to a slice of time instead of to each of them. With fewer there is nothing to
+/// gain. The slide has to divide the size, so that spans begin where windows do.
+const FEWEST_WINDOWS: i64 = 4;
+
+/// Behind every start of a window.
+const NOWHERE: i128 = 1 << 64;
+
+/// The open windows of a window operator, and the panes by their starts. What stands in the panes of windows that begin before
+/// `from` is in `places`, and of those that begin later it is what their slices come to.
 #[derive(Drop)]
 pub(crate) struct Windows {
     alloc: Global,
+    pub from: i128,
     pub places: Places,
+    pub spans: Spans,
     pub opened: OpenPanes,
 }
 
@@ -48,11 +69,15 @@ impl Windows {
     /// No windows of the operator. Their panes will be hashed by the keys.
     pub fn new(alloc: Global, keys: HashKeys, window: WindowSpec) -> Windows
         requires { IsOperator window }
-        ensures { result ≡ record { window = window; totals = map.empty } }
+        ensures window { result.window ≡ window }
+        ensures none { result.totals ≡ map_of.empty }
     {
+        let from = first_from(&window, &[]);
         Windows {
             alloc,
+            from,
             places: Places::new(alloc, keys, window),
+            spans: BTreeMap::new(alloc),
             opened: BTreeMap::new(alloc),
         }
     }
@@ -66,13 +91,17 @@ impl Windows {
     ) -> Result<Windows, AllocError>
         requires operator { IsOperator window }
         requires parts { All (IsPartOf window) parts.now }
-        ensures { IfOk result (λ windows. windows ≡ record { window = window; totals = map.from_entries (entries_of parts.now) }) }
+        ensures window { IfOk result (λ windows. windows.window ≡ window) }
+        ensures parts { IfOk result (λ windows. windows.totals ≡ map_of.from_entries (entries_of parts.now)) }
     {
+        let from = first_from(&window, parts);
         let places = places_of(alloc, keys, window, parts)?;
         let opened = open_of(alloc, parts)?;
         Ok(Windows {
             alloc,
+            from,
             places,
+            spans: BTreeMap::new(alloc),
             opened,
         })
     }
@@ -84,27 +113,121 @@ impl Windows {
         self.places.window()
     }
 
-    /// Brings a record in in a pane where nothing stands. Where no memory is to be had, what stands in the
-    /// panes is as it was.
+    /// The number of each aggregate in a pane, if anything stands there.
+    pub fn numbers(&self, alloc: Global, pane: &Pane) -> Result<Option<Numbers>, AllocError>
+        ensures numbers { IfOk result (λ found. found ≡ option_map (λ (a : Aggregated). a.numbers) (map_of.get self.now.totals pane.now)) }
+        ensures start { IfOk result (λ found. IfSome found (λ numbers. IsStart pane.now.start)) }
+        ensures operator { IfOk result (λ found. IsOperator self.now.window) }
+    {
+        if (pane.start as i128) < self.from {
+            return self.places.numbers(alloc, pane);
+        }
+        match total_at(&self.spans, self.places.window(), pane) {
+            Some(acc) => Ok(Some(numbers_of(alloc, acc.numbers())?)),
+            None => Ok(None),
+        }
+    }
+
+    /// The accumulator of a pane, if anything stands there.
+    pub fn acc(&self, alloc: Global, kinds: &[Kind], pane: &Pane) -> Result<Option<Acc>, AllocError>
+        requires { kinds.now ≡ map kind_of self.now.window.aggregates }
+        ensures acc { IfOk result (λ acc. acc ≡ option_map (acc_with self.now.window) (map_of.get self.now.totals pane.now)) }
+        ensures part { IfOk result (λ acc. IfSome acc (λ a. IsPartOf self.now.window (record { pane = pane.now; acc = a }))) }
+    {
+        if (pane.start as i128) < self.from {
+            return self.places.acc(alloc, kinds, pane);
+        }
+        Ok(total_at(&self.spans, self.places.window(), pane))
+    }
+
+    /// Brings a record in in a pane where nothing stands, of a window that begins before `from`. Where no memory is to be
+    /// had, what stands in the panes is as it was.
     pub fn put_first(&mut self, pane: Pane, batch: &Batch, row: usize) -> Result<(), AllocError>
         requires row_in { row < length batch.now.rows }
         requires window { CanAggregate batch.now.width self.old.window }
         requires start { IsStart pane.start }
-        requires absent { map.get self.old.totals pane ≡ None }
-        ensures put { OnOk result ((q : PaneValue) → map.get self.new.totals q
-            ≡ (if is_pane pane q then aggregate_of self.old.window.aggregates (slice_index_or batch.now.rows row [] ∷ []) else map.get self.old.totals q)) }
+        requires before { pane.start <ℤ self.old.from }
+        requires absent { map_of.get self.old.totals pane ≡ None }
+        ensures put { OnOk result ((q : PaneValue) → map_of.get self.new.totals q
+            ≡ (if is_pane pane q then aggregate_of self.old.window.aggregates (slice_index_or batch.now.rows row [] ∷ []) else map_of.get self.old.totals q)) }
         ensures err { OnErr result (self.new ≡ self.old) }
         ensures window_stays { self.new.window ≡ self.old.window }
+        ensures from_stays { self.new.from ≡ self.old.from }
     {
+        open_pane(self.alloc, &mut self.opened, pane)?;
         self.places.push_first(pane, batch, row)?;
-        match open_pane(self.alloc, &mut self.opened, pane) {
-            Ok(()) => Ok(()),
-            Err(_) => {
-                self.places.remove(&pane);
-                Err(AllocError)
-            }
-        }
+        Ok(())
     }
+
+    /// Brings a record in at the slice of its time: at each window of its time that begins at `from` or later. The last window
+    /// of its time begins `first` before it.
+    pub fn add_to_slice(&mut self, batch: &Batch, row: usize, first: u64) -> Result<(), AllocError>
+        requires row_in { row < length batch.now.rows }
+        requires window { CanAggregate batch.now.width self.old.window }
+        requires time { IsTime (at self.old.window.time (slice_index_or batch.now.rows row [])) }
+        requires rest { int_rem_euclid (at self.old.window.time (slice_index_or batch.now.rows row []) -ℤ self.old.window.offset) self.old.window.slide ≡ pos first }
+        requires room { HasRoomFor self.old.window (slice_index_or batch.now.rows row [] ∷ []) self.old.totals }
+        ensures window_stays { self.new.window ≡ self.old.window }
+        ensures from_stays { self.new.from ≡ self.old.from }
+        ensures added { OnOk result ((q : PaneValue) → map_of.get self.new.totals q
+            ≡ (if int_lt q.start self.old.from then map_of.get self.old.totals q
+            else merge self.old.window.aggregates (map_of.get self.old.totals q) (aggregate_at self.old.window (slice_index_or batch.now.rows row [] ∷ []) q))) }
+    {
+        let w = self.places.window();
+        let time = batch.value(row, w.time as usize);
+        let key = batch.value(row, w.key as usize);
+        let last = time - first as i64;
+        if (last as i128) < self.from || w.size <= time - last {
+            return Ok(());
+        }
+        let start = slice_of(w, time);
+        let slices = slices_in(&self.spans, span_of(w, start), key);
+        open_new(
+            self.alloc,
+            &mut self.opened,
+            w,
+            self.from,
+            Pane { start: time, key },
+            first,
+            slices,
+        )?;
+        add_in_span(
+            self.alloc,
+            &mut self.spans,
+            w,
+            Pane { start, key },
+            batch,
+            row,
+        )?;
+        Ok(())
+    }
+}
+
+/// From where on the windows of an operator are made of slices, where parts stand in others already.
+fn first_from(w: &WindowSpec, parts: &[Part]) -> i128
+    requires operator { IsOperator w.now }
+    ensures { All (λ part. part.pane.start <ℤ result) parts.now }
+{
+    let mut from = if w.size % w.slide != 0 || w.size / w.slide < FEWEST_WINDOWS {
+        NOWHERE
+    } else {
+        i64::MIN as i128
+    };
+    for part in parts {
+        from = from.max(part.pane.start as i128 + 1);
+    }
+    from
+}
+
+/// Numbers as those of a row.
+fn numbers_of(alloc: Global, numbers: &[i128]) -> Result<Numbers, AllocError>
+    ensures { IfOk result (λ made. made ≡ numbers.now) }
+{
+    let mut made = Numbers::new();
+    for number in numbers {
+        made.push(alloc, *number)?;
+    }
+    Ok(made)
 }
 
 /// What stands in the panes of the parts. Room is made for all of them first.

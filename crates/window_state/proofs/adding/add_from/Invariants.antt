@@ -1,4 +1,5 @@
-use Rattle.std.proofs.Common.{◌≡◌, ◌-◌, ◌≤◌, ◌%◌, ◌^◌, slice_index_or, []}
+use Rattle.std.proofs.Common.{◌≡◌, ◌-◌, ◌≤◌, ◌%◌, ◌^◌, cond, slice_index_or, []}
+use Rattle.std.specs.Prelude.{int_lt}
 use Rattle.std.specs.FinMap.{get}
 use Rattle.plan_model.specs.declared.spec.Pane.{Pane}
 use Rattle.window_state.proofs.Slides.{slid}
@@ -9,7 +10,9 @@ invariant-loop-back l = record {
   high : l.back ≤ 2 ^ 41;
   rem : l.back % l.slide ≡ l.fn.first;
   window : l.windows.window ≡ l.fn.windows.window;
-  added : (q : Pane) → get l.windows.totals q ≡ slid l.fn.windows.window (slice_index_or l.batch.rows l.row []) (get l.fn.windows.totals q) q l.back;
+  from : l.windows.from ≡ l.fn.windows.from;
+  added : (q : Pane) → get l.windows.totals q
+      ≡ cond (int_lt q.start l.fn.windows.from) (slid l.fn.windows.window (slice_index_or l.batch.rows l.row []) (get l.fn.windows.totals q) q l.back) (get l.fn.windows.totals q);
 }
 
 abbrev pub decreases-loop-back : goal.decreases-loop-back

@@ -1,101 +1,101 @@
 use Rattle.std.proofs.Common.{◌≡◌, ℤ, ◌&&◌, ◌++◌, true, None, rules, ap, sym, subst, ◌∙◌, to_z, of_z}
-use Rattle.std.specs.FinMap.{get, from_entries}
+use Rattle.std.specs.FinMap.{get}
 use Rattle.std.specs.Int.{w64}
 use Rattle.std.specs.List.Sorted.{IsSortedByKey}
+use Rattle.std.specs.Option.{is_some}
 use Rattle.std.proofs.lemmas.Int.{to_z-of_z}
 use Rattle.std.proofs.lemmas.List.{append-nil}
 use Rattle.std.proofs.lemmas.List.Elements.{All-head, All-tail}
 use Rattle.plan_model.specs.declared.spec.Pane.{Pane}
 use Rattle.plan_model.specs.Rows.{pane_cmp, pane_of, row_at, is_due, AreRowsOf}
-use Rattle.window_state.specs.State.{OpenWindows, fired, totals}
-use Rattle.window_state.specs.Windows.{acc_at, has_pane, IsOperator}
+use Rattle.window_state.specs.State.{OpenWindows, fired}
+use Rattle.window_state.specs.Windows.{has_pane, IsOperator}
 use Rattle.window_state.specs.Firing.{rows_due, AllDue}
 use Rattle.window_state.specs.Open.{has_open}
 use Rattle.window_state.specs.Parts.{entries_at}
 use Rattle.window_state.proofs.Entries.{fires_next, some_next, none_next, with_numbers, without_numbers}
-use Rattle.window_state.proofs.Starts.{each_due, both_first, found_due}
+use Rattle.window_state.proofs.Starts.{each_pane, both_first, found_due}
+use Rattle.window_state.proofs.Standing.{get-view}
 use Rattle.window_state.proofs.Rows.{rows_fired, rows_ordered}
 use Rattle.window_state.proofs.Sorted.{entries_strict, found_at}
 use Rattle.window_state.proofs.firing.rows_of.Goals as goal
 
 pub row_of-requires-clause-operator : goal.row_of-requires-clause-operator
-row_of-requires-clause-operator c =
-    subst IsOperator (sym (c.window-in-Some-2.ensures ∙ ap (λ (v : OpenWindows). v.window) (sym c.windows.view_is))) c.in_ok-numbers.ensures.operator
+row_of-requires-clause-operator c = subst IsOperator (sym c.window-in-Some-2.ensures) c.in_ok-numbers.ensures.operator
 
 pub loop-pane-init : goal.loop-pane-init
 loop-pane-init c =
-    let s = c.windows.inside in
-    let w = s.places.window in
+    let v = c.args.windows.now in
+    let w = v.window in
     let t = to_z w64 (of_z w64 c.args.watermark) in
     let ps = c.in_ok-panes.panes.keys in
-    let window : c.window.result.now ≡ w = c.window.ensures ∙ ap (λ (v : OpenWindows). v.window) (sym c.windows.view_is) in
-    let due = each_due w t ps (λ q has. both_first (is_due w t q.start) (has_open s.opened.entries q) (has_pane ps q) (c.in_ok-panes.ensures.those q ∙ (λ i. is_due (window i) t q.start && has_open s.opened.entries q)) has) in
+    let opened = c.windows.inside.opened.entries in
+    let due = each_pane (λ (p : Pane). is_due w t p.start ≡ true) ps (λ q has. both_first (is_due w t q.start) (has_open opened q) (has_pane ps q) (c.in_ok-panes.ensures.those q ∙ (λ i. is_due (c.window.ensures i) t q.start && has_open opened q)) has) in
     let gives : c.into_iter-pane-iterator.result ≡ ps = search rules in
     record {
-      rows = ap (λ l. l ++ rows_due w t (entries_at s.places.entries c.into_iter-pane-iterator.result)) c.new-rows.ensures.items;
+      rows = ap (λ l. l ++ rows_due w t (entries_at (get v.totals) c.into_iter-pane-iterator.result)) c.new-rows.ensures.items;
       due = subst (AllDue w t) (sym gives) due;
     }
 
 pub loop-pane-preserved-in-Continue-branch-4 : goal.loop-pane-preserved-in-Continue-branch-4
 loop-pane-preserved-in-Continue-branch-4 c =
-    let s = c.windows.inside in
-    let es = s.places.entries in
-    let w = s.places.window in
+    let v = c.args.windows.now in
+    let f = get v.totals in
+    let w = v.window in
     let t = to_z w64 (of_z w64 c.args.watermark) in
     let p = c.in-Some.pane.now in
-    let there = with_numbers (acc_at es p) c.in-Some-2.numbers (sym c.in-Some-2.is ∙ c.in_ok-numbers.ensures.numbers) in
+    let there = with_numbers (f p) c.in-Some-2.numbers (sym c.in-Some-2.is ∙ c.in_ok-numbers.ensures.numbers) in
     let a = there.0 in
     let left = c.loop-pane.pane-iterator in
     let rest = c.next.new.self in
-    let window = ap (λ (v : OpenWindows). v.window) (sym c.windows.view_is) in
     let all = subst (AllDue w t) c.in-Some.ensures.steps c.loop-pane.invariant.due in
     let due : is_due w t p.start ≡ true = All-head (λ (x : Pane). is_due w t x.start ≡ true) p rest all in
-    let row : c.row_of.result ≡ row_at w p a.total = c.row_of.ensures a.total.count ∙ (λ i. row_at ((c.window-in-Some-2.ensures ∙ window) i) p (record { count = a.total.count; numbers = there.2 i })) in
+    let row : c.row_of.result ≡ row_at w p a = c.row_of.ensures a.count ∙ (λ i. row_at (c.window-in-Some-2.ensures i) p (record { count = a.count; numbers = there.2 i })) in
     record {
       rows =
-          ap (λ l. l ++ rows_due w t (entries_at es rest)) c.in_ok-push.ensures.items
-          ∙ fires_next w t c.loop-pane.rows.items c.row_of.result (p, a) (entries_at es left) (entries_at es rest) (entries_at es c.into_iter-pane-iterator.result)
-          c.loop-pane.invariant.rows (some_next es p a left rest c.in-Some.ensures.steps there.1) due row;
+          ap (λ l. l ++ rows_due w t (entries_at f rest)) c.in_ok-push.ensures.items
+          ∙ fires_next w t c.loop-pane.rows.items c.row_of.result (p, a) (entries_at f left) (entries_at f rest) (entries_at f c.into_iter-pane-iterator.result)
+          c.loop-pane.invariant.rows (some_next f p a left rest c.in-Some.ensures.steps there.1) due row;
       due = All-tail (λ (x : Pane). is_due w t x.start ≡ true) p rest all;
     }
 
 pub loop-pane-preserved : goal.loop-pane-preserved
 loop-pane-preserved c =
-    let s = c.windows.inside in
-    let es = s.places.entries in
-    let w = s.places.window in
+    let v = c.args.windows.now in
+    let f = get v.totals in
+    let w = v.window in
     let t = to_z w64 (of_z w64 c.args.watermark) in
     let p = c.in-Some.pane.now in
     let left = c.loop-pane.pane-iterator in
     let rest = c.next.new.self in
-    let none : acc_at es p ≡ None = without_numbers (acc_at es p) (sym c.in_default.is ∙ c.in_ok-numbers.ensures.numbers) in
+    let none : f p ≡ None = without_numbers (f p) (sym c.in_default.is ∙ c.in_ok-numbers.ensures.numbers) in
     let all = subst (AllDue w t) c.in-Some.ensures.steps c.loop-pane.invariant.due in
     record {
-      rows = ap (λ l. c.loop-pane.rows.items ++ rows_due w t l) (sym (none_next es p left rest c.in-Some.ensures.steps none)) ∙ c.loop-pane.invariant.rows;
+      rows = ap (λ l. c.loop-pane.rows.items ++ rows_due w t l) (sym (none_next f p left rest c.in-Some.ensures.steps none)) ∙ c.loop-pane.invariant.rows;
       due = All-tail (λ (x : Pane). is_due w t x.start ≡ true) p rest all;
     }
 
 pub returns : goal.returns
 returns c =
     let s = c.windows.inside in
-    let es = s.places.entries in
-    let w = s.places.window in
+    let v = c.args.windows.now in
+    let f = get v.totals in
+    let w = v.window in
     let opened = s.opened.entries in
     let t = c.args.watermark in
     let ps = c.in_ok-panes.panes.keys in
     let rows = c.loop-pane.rows.items in
-    let sorted = entries_at es ps in
-    let strict = entries_strict es ps c.in_ok-panes.ensures.ordered in
+    let sorted = entries_at f ps in
+    let strict = entries_strict f ps c.in_ok-panes.ensures.ordered in
     let gives : c.into_iter-pane-iterator.result ≡ ps = search rules in
     let held : ℤ = to_z w64 (of_z w64 t) in
     let same : held ≡ t = to_z-of_z w64 t c.ranges.watermark in
-    let is : rows ≡ rows_due w held sorted = sym (append-nil rows) ∙ ap (λ l. rows ++ rows_due w held (entries_at es l)) (sym c.in-None.ensures.steps.0) ∙ c.loop-pane.invariant.rows ∙ ap (λ l. rows_due w held (entries_at es l)) gives in
+    let is : rows ≡ rows_due w held sorted = sym (append-nil rows) ∙ ap (λ l. rows ++ rows_due w held (entries_at f l)) (sym c.in-None.ensures.steps.0) ∙ c.loop-pane.invariant.rows ∙ ap (λ l. rows_due w held (entries_at f l)) gives in
     let are : rows ≡ rows_due w t sorted = is ∙ ap (λ x. rows_due w x sorted) same in
-    let window : c.window.result.now ≡ w = c.window.ensures ∙ ap (λ (v : OpenWindows). v.window) (sym c.windows.view_is) in
-    let those = λ (q : Pane). c.in_ok-panes.ensures.those q ∙ (λ i. is_due (window i) (same i) q.start && has_open opened q) in
-    let found = λ (q : Pane) (due : is_due w t q.start ≡ true). found_at es ps q (found_due (is_due w t q.start) (has_open opened q) (has_pane ps q) (those q) due ∙ c.windows.invariant q) in
+    let those = λ (q : Pane). c.in_ok-panes.ensures.those q ∙ (λ i. is_due (c.window.ensures i) (same i) q.start && has_open opened q) in
+    let there = λ (q : Pane) (some : is_some (f q) ≡ true). c.windows.invariant.opened q (ap is_some (sym (get-view s c.windows.invariant q) ∙ ap (λ (x : OpenWindows). get x.totals q) c.windows.view_is) ∙ some) in
+    let found = λ (q : Pane) (due : is_due w t q.start ≡ true). found_at f ps q (λ some. found_due (is_due w t q.start) (has_open opened q) (has_pane ps q) (those q) due ∙ there q some) in
     record {
-      rows = subst (λ (v : OpenWindows). AreRowsOf (fired v.window t (get v.totals)) rows) c.windows.view_is
-          (subst (AreRowsOf (fired w t (get (from_entries {R = pane_cmp} (totals es))))) (sym are) (rows_fired w t es sorted strict found));
+      rows = subst (AreRowsOf (fired w t f)) (sym are) (rows_fired w t f sorted strict found);
       ordered = subst (IsSortedByKey pane_of pane_cmp) (sym are) (rows_ordered w t sorted strict);
     }

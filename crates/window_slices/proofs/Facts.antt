@@ -1,0 +1,3 @@
+-- PUBLIC: the lemmas that crates above cite. Nothing else of proofs/ is theirs to import.
+pub use Rattle.window_slices.proofs.Boundaries.{slices_start_at_boundaries, windows_have_whole_slices}
+pub use Rattle.window_slices.proofs.Starts.{Reached, last_start, next_start}

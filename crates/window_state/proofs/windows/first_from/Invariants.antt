@@ -1,0 +1,6 @@
+use Rattle.std.proofs.Common.{◌<ℤ◌, take}
+use Rattle.std.specs.List.{All}
+use Rattle.window_state.proofs.windows.first_from.Given as goal
+
+abbrev pub invariant-loop-part : goal.invariant-loop-part
+invariant-loop-part l = All (λ part. part.pane.start <ℤ l.from) (take l.part-index l.parts)
