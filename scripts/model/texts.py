@@ -77,6 +77,10 @@ def times(chance):
     size = chance.choice([1, 3, 8, 10, chance.randint(1, 20), chance.choice([100, 256, 257, 2**40])])
     slide = chance.choice([size, size, chance.randint(max(1, -(-size // 256)), 2 * size)])
     slide = min(slide, 2**40)
+    if chance.random() < 0.25:
+        # windows that are made of slices: the slide divides the size, into 4 to 256
+        slide = chance.choice([1, 1, 2, 3, 7])
+        size = slide * chance.choice([4, 5, 8, 16, 64, 256])
     made = {"size": size}
     if slide != size or chance.random() < 0.3:
         made["slide"] = slide
