@@ -1,7 +1,6 @@
 pub mod Fault
 pub mod FaultText
 pub mod Text
-pub mod ThreeDigits
 pub mod Group
 pub mod Cut
 pub mod LayoutText

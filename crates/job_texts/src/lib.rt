@@ -2,7 +2,6 @@
 #![tactic(auto)]
 
 mod cut;
-mod digits;
 mod fault;
 mod group;
 pub mod laws;

@@ -1,4 +1,4 @@
-//! Lines of rows whose numbers have 64 bits, from the last number to the first.
+//! Lines of rows whose numbers have 64 bits, digit by digit from the last to the first.
 
 ghost use Rattle.std.specs.Prelude.{◌≡◌, ◌++◌, ◌∷◌, ◌*◌, ◌+◌, ◌≤◌, ◌<◌, length, drop, IsAscii};
 ghost use Rattle.std.specs.Fmt.{signed_decimal};
@@ -6,7 +6,7 @@ ghost use Rattle.std.specs.List.{flat_map};
 ghost use Rattle.plan_model.specs.declared.limits.TheConstants.{MOST_AGGREGATES};
 ghost use Rattle.job_texts.specs.Text.{line_of, spaced};
 
-use crate::digits::write_digits;
+use itoa::write_digits;
 use plan_model::Row;
 
 /// Room for the longest line: eleven numbers, each at most 20 bytes behind a space, and a line feed.

@@ -46,6 +46,9 @@ put (negsuc m) line rest n before signs e some within written =
     let one : n - 1 - signs ≡ n - 1 - 1 = omega (arith, e) in
     ap (λ k. drop k (set (set line (n - 1) 45) k before)) one ∙ ahead line n before some within ∙ ap (λ l. before ∷ 45 ∷ l) written
 
+pub write_digits-digits-requires : goal.write_digits-digits-requires
+write_digits-digits-requires c = (omega (arith, length-decimal-le 19 c.unsigned_abs.result (omega arith) (omega arith) (omega arith)), search rules)
+
 pub overflow_sub-line : goal.overflow_sub-line
 overflow_sub-line c = omega (arith, length-decimal-le 19 c.unsigned_abs.result (omega arith) (omega arith) (omega arith))
 
@@ -63,11 +66,11 @@ returns-clause-written c =
     let w = c.write_digits-digits in
     let z = c.args.number in
     let long = length-decimal-le 19 c.unsigned_abs.result (omega arith) (omega arith) (omega arith) in
-    let same : length w.new.line ≡ length c.args.line.now = search rules in
+    let same : length w.new.buf ≡ length c.args.line.now = search rules in
     let back = to_z-of_z c.ranges.number in
-    let written : drop w.result w.new.line ≡ decimal (unsigned_abs z) ++ drop c.args.end c.args.line.now =
+    let written : drop w.result w.new.buf ≡ decimal (unsigned_abs z) ++ drop c.args.end c.args.line.now =
     w.ensures.written ∙ (λ i. decimal (c.unsigned_abs.ensures.value i) ++ drop c.args.end c.args.line.now) ∙ (λ i. decimal (unsigned_abs (back i)) ++ drop c.args.end c.args.line.now) in
-    put z w.new.line (drop c.args.end c.args.line.now) w.result c.args.before c.from.result (c.from.ensures ∙ (λ i. bool_byte (lt_z (back i) (pos 0)))) (omega arith) (omega arith) written
+    put z w.new.buf (drop c.args.end c.args.line.now) w.result c.args.before c.from.result (c.from.ensures ∙ (λ i. bool_byte (lt_z (back i) (pos 0)))) (omega arith) (omega arith) written
 
 pub returns-clause-ascii : goal.returns-clause-ascii
 returns-clause-ascii c = ascii_behind c.args.before c.args.number c.requires.ascii c.ranges.number
