@@ -3,3 +3,9 @@ mod Starts
 mod Boundaries
 mod Totals
 mod Fits
+mod SliceAdds
+mod SliceTotals
+mod SpanFits
+mod SpanAdds
+mod SpanDrops
+mod SpanTotals

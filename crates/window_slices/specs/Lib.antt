@@ -1,2 +1,4 @@
 pub mod Slices
 pub mod Laws
+pub mod KeySlices
+pub mod Spans

@@ -19,7 +19,7 @@ use Rattle.plan_model.proofs.Facts.{pane_cmp_total, pane_cmp-IsAntisymmetric}
 use Rattle.aggregates.specs.Kinds.{AccData, kind_of}
 use Rattle.window_state.specs.Windows.{is_pane, acc_at, AreWindows}
 use Rattle.window_state.specs.Places.{AreSound}
-use Rattle.window_state.specs.Slices.{acc_with}
+use Rattle.window_slices.specs.KeySlices.{acc_with}
 use Rattle.window_state.specs.Firing.{rows_due}
 use Rattle.window_state.specs.Parts.{with_entry, entries_at}
 

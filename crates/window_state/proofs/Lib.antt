@@ -10,13 +10,7 @@ mod PartMaps
 mod Placed
 pub mod Facts
 mod Standing
-mod SliceAdds
-mod SliceTotals
 mod Openings
 mod Apart
 mod Removals
 mod SliceFits
-mod SpanAdds
-mod SpanFits
-mod SpanDrops
-mod SpanTotals

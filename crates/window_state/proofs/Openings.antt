@@ -17,9 +17,9 @@ use Rattle.plan_model.specs.Rows.{is_due}
 use Rattle.plan_model.proofs.Facts.{is_reached, reached_more, reached_none, reached_all, remainder, pos_same}
 use Rattle.window_slices.specs.Slices.{last_start_by, slice_start}
 use Rattle.window_state.specs.declared.parts.Part.{Part}
-use Rattle.window_state.specs.declared.slices.Slice.{Slice}
+use Rattle.window_slices.specs.declared.key_slices.Slice.{Slice}
 use Rattle.window_state.specs.Open.{has_open}
-use Rattle.window_state.specs.Slices.{has_start, has_slice}
+use Rattle.window_slices.specs.KeySlices.{has_start, has_slice}
 use Rattle.window_state.specs.Windows.{is_pane}
 use Rattle.window_state.proofs.Slides.{held, positive_is, at_least_one, at_most, fits_window, fits_start}
 use Rattle.window_slices.proofs.Facts.{last_start, next_start, slices_start_at_boundaries, windows_have_whole_slices}

@@ -17,9 +17,9 @@ use Rattle.plan_model.specs.Windows.{is_start}
 use Rattle.aggregates.specs.Kinds.{AccData}
 use Rattle.window_state.specs.declared.windows.Windows.TheInside.{Inside}
 use Rattle.window_state.specs.Open.{has_key, has_open}
-use Rattle.window_state.specs.declared.slices.Slice.{Slice}
-use Rattle.window_state.specs.Slices.{sliced, slices_total, slices_of, IsCounted}
-use Rattle.window_state.specs.Spans.{in_spans, keyed_at, span_start, AreInSpans}
+use Rattle.window_slices.specs.declared.key_slices.Slice.{Slice}
+use Rattle.window_slices.specs.KeySlices.{sliced, slices_total, slices_of, IsCounted}
+use Rattle.window_slices.specs.Spans.{in_spans, keyed_at, span_start, AreInSpans}
 use Rattle.window_state.specs.State.{OpenWindows}
 use Rattle.window_state.specs.StateView.{standing, windows_view, IsWindowsInside}
 use Rattle.window_state.specs.Windows.{acc_at, total_at, IsOperator}

@@ -21,16 +21,16 @@ use Rattle.plan_model.specs.Windows.{IsTime, is_start, is_within, is_window_of}
 use Rattle.plan_model.proofs.Facts.{count_or, count_at, count_merge, merge-one, reached_none}
 use Rattle.window_slices.specs.Slices.{slice_start}
 use Rattle.window_slices.proofs.Facts.{last_start, windows_have_whole_slices}
-use Rattle.window_state.specs.declared.slices.Slice.{Slice}
+use Rattle.window_slices.specs.declared.key_slices.Slice.{Slice}
 use Rattle.window_state.specs.declared.windows.Windows.TheInside.{Inside}
 use Rattle.window_state.specs.Open.{has_open}
-use Rattle.window_state.specs.Slices.{CanTakeOne, IsCounted, has_slice, sliced, slices_of, slices_total}
-use Rattle.window_state.specs.Spans.{AreInSpans, in_spans, keyed_at, span_start}
+use Rattle.window_slices.specs.KeySlices.{CanTakeOne, IsCounted, has_slice, sliced, slices_of, slices_total}
+use Rattle.window_slices.specs.Spans.{AreInSpans, in_spans, keyed_at, span_start}
 use Rattle.window_state.specs.State.{OpenWindows, HasRoomFor}
 use Rattle.window_state.specs.StateView.{standing, windows_view, IsWindowsInside}
 use Rattle.window_state.specs.Windows.{IsOperator, IsStart, acc_at, total_at}
 use Rattle.window_state.proofs.Slides.{sliding_by, held, start_is, fits_start, fits_window}
-use Rattle.window_state.proofs.SpanFits.{some_in_span, count_in_span}
+use Rattle.window_slices.proofs.Facts.{some_in_span, count_in_span}
 use Rattle.window_state.proofs.Standing.{get-view, standing_before, standing_later}
 
 abbrev narrow : ℤ → ℤ
@@ -63,7 +63,7 @@ size_test w v t x b test same range fits is time small le =
     sym (λ i. int_le ((ap (λ (y : WindowSpec). narrow y.size) same ∙ to_z-of_z w64 w.size (fits_window w.size range.sized range.size_small)) i)
     ((ap narrow (back_is t x b fits is time small) ∙ to_z-of_z w64 (pos b) (fits_back b small)) i)) ∙ le
 
-wide_is : (z : ℤ) → FitsSigned w64 z → to_z w128 (of_z w128 z) ≡ z
+pub wide_is : (z : ℤ) → FitsSigned w64 z → to_z w128 (of_z w128 z) ≡ z
 wide_is z fits =
     let wider : FitsSigned w128 z = grind (arith, ints) in
     to_z-of_z w128 z wider

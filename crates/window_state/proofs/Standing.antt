@@ -18,8 +18,8 @@ use Rattle.window_state.specs.State.{OpenWindows}
 use Rattle.std.proofs.lemmas.Int.{ints, to_z-of_z}
 use Rattle.std.proofs.lemmas.List.Elements.{All-nil}
 use Rattle.plan_model.specs.Windows.{is_start}
-use Rattle.window_state.specs.Slices.{acc_with, IsSliceOf, IsCounted}
-use Rattle.window_state.specs.Spans.{AreInSpans, in_spans}
+use Rattle.window_slices.specs.KeySlices.{acc_with, IsSliceOf, IsCounted}
+use Rattle.window_slices.specs.Spans.{AreInSpans, in_spans}
 use Rattle.window_state.specs.Windows.{acc_at, total_at, has_pane, is_pane, IsOperator}
 use Rattle.window_state.proofs.Entries.{get-entries, same_map_of, no_total}
 use Rattle.window_state.proofs.Sorted.{found_at}

@@ -9,5 +9,3 @@ pub mod Hashing
 pub mod Words
 pub mod Places
 pub mod PlacesView
-pub mod Slices
-pub mod Spans

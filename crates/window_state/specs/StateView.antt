@@ -8,8 +8,8 @@ use Rattle.window_state.specs.State.{OpenWindows}
 use Rattle.window_state.specs.Windows.{acc_at, total_at, IsOperator, IsStart}
 use Rattle.window_state.specs.Open.{AreOpen, open_panes}
 use Rattle.window_state.specs.Parts.{entries_at}
-use Rattle.window_state.specs.Slices.{IsCounted}
-use Rattle.window_state.specs.Spans.{AreInSpans, in_spans}
+use Rattle.window_slices.specs.KeySlices.{IsCounted}
+use Rattle.window_slices.specs.Spans.{AreInSpans, in_spans}
 
 -- what stands in a pane: what is in its place where its window begins before `from`, and elsewhere what its slices come to
 abbrev pub standing : WindowsInside → Pane → Option Aggregated

@@ -66,6 +66,27 @@ fn add_from(windows: &mut Windows, batch: &Batch, row: usize, first: u64) -> Res
     Ok(())
 }
 
+/// Brings a record in at the windows of its time that begin at `from` or later. There are none of a time before it.
+#[inline(always)]
+fn add_later(windows: &mut Windows, batch: &Batch, row: usize, first: u64) -> Result<(), AllocError>
+    requires row_in { row < length batch.now.rows }
+    requires window { CanAggregate batch.now.width windows.old.window }
+    requires time { IsTime (at windows.old.window.time (slice_index_or batch.now.rows row [])) }
+    requires rest { int_rem_euclid (at windows.old.window.time (slice_index_or batch.now.rows row []) -ℤ windows.old.window.offset) windows.old.window.slide ≡ pos first }
+    requires room { HasRoomFor windows.old.window (slice_index_or batch.now.rows row [] ∷ []) windows.old.totals }
+    ensures window_stays { windows.new.window ≡ windows.old.window }
+    ensures from_stays { windows.new.from ≡ windows.old.from }
+    ensures added { OnOk result ((q : PaneValue) → map.get windows.new.totals q
+        ≡ (if int_lt q.start windows.old.from then map.get windows.old.totals q
+        else merge windows.old.window.aggregates (map.get windows.old.totals q) (aggregate_at windows.old.window (slice_index_or batch.now.rows row [] ∷ []) q))) }
+{
+    let time = batch.value(row, windows.window().time as usize);
+    if (time as i128) < windows.from {
+        return Ok(());
+    }
+    windows.add_to_slice(batch, row, first)
+}
+
 /// Brings a record in at each window of its time.
 fn add_record(windows: &mut Windows, batch: &Batch, row: usize) -> Result<(), AllocError>
     requires row_in { row < length batch.now.rows }
@@ -79,7 +100,7 @@ fn add_record(windows: &mut Windows, batch: &Batch, row: usize) -> Result<(), Al
     let time = batch.value(row, w.time as usize);
     let first = (time - w.offset).rem_euclid(w.slide) as u64;
     let oldest = time - w.size + 1;
-    windows.add_to_slice(batch, row, first)?;
+    add_later(windows, batch, row, first)?;
     if (oldest as i128) < windows.from {
         add_from(windows, batch, row, first)?;
     }

@@ -10,10 +10,10 @@ ghost use Rattle.window_state.specs.Windows.{IsOperator, IsStart};
 ghost use Rattle.window_state.specs.State.{fired};
 
 use crate::opened::{are_all_due, due_panes, pop_due};
-use crate::spans::drop_spans;
 use crate::windows::Windows;
 use plan_model::{Numbers, Pane, Row, WindowSpec};
 use std::alloc::{AllocError, Global};
+use window_slices::drop_spans;
 
 /// Whether the window that begins at `start` fires by the watermark: its greatest time, its end less 1,
 /// is at most that.

@@ -9,8 +9,6 @@ mod having;
 mod opened;
 mod parts;
 mod places;
-mod slices;
-mod spans;
 mod state;
 mod windows;
 mod words;

@@ -10,16 +10,15 @@ ghost use Rattle.std.specs.Int.{int_rem_euclid};
 ghost use Rattle.plan_model.specs.PlanData.{IsWindow};
 ghost use Rattle.plan_model.specs.Rows.{is_due as due, pane_cmp};
 ghost use Rattle.plan_model.specs.Windows.{IsTime, is_window_of};
-ghost use Rattle.window_state.specs.Slices.{has_slice};
+ghost use Rattle.window_slices.specs.KeySlices.{has_slice};
 ghost use Rattle.window_state.specs.Windows.{has_pane, is_pane};
 ghost use Rattle.window_state.specs.Open.{has_open, has_key, panes_from};
 
 use crate::firing::is_due;
-use crate::slices::{Slice, start_above, start_below, starts_at};
 use plan_model::{Pane, WindowSpec};
 use std::alloc::{AllocError, Global};
 use std::collections::{BTreeMap, BTreeSet};
-use window_slices::slice_of;
+use window_slices::{Slice, slice_of, start_above, start_below, starts_at};
 
 /// For each start of an open window the keys that have a pane there, in the order in which they came. They are put in order
 /// only when their window fires, which costs less than to keep all panes in order.

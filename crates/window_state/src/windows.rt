@@ -12,7 +12,7 @@ ghost use Rattle.plan_model.specs.Aggregates.{Aggregated, aggregate_of, merge};
 ghost use Rattle.plan_model.specs.Rows.{aggregate_at};
 ghost use Rattle.aggregates.specs.Kinds.{kind_of};
 ghost use Rattle.window_state.specs.Open.{has_open};
-ghost use Rattle.window_state.specs.Slices.{acc_with};
+ghost use Rattle.window_slices.specs.KeySlices.{acc_with};
 ghost use Rattle.window_state.specs.State.{HasRoomFor};
 ghost use Rattle.window_state.specs.Windows.{IsOperator, CanAggregate, IsStart, acc_at, has_pane, is_pane};
 ghost use Rattle.window_state.specs.Parts.{accs_in, entries_of, panes_in, IsPartOf};
@@ -21,14 +21,13 @@ use crate::hashing::HashKeys;
 use crate::opened::{OpenPanes, open_new, open_pane};
 use crate::parts::Part;
 use crate::places::Places;
-use crate::spans::{Spans, add_in_span, slices_in, span_of, total_at};
 use aggregates::{Acc, Kind};
 use columns::Batch;
 use plan_model::{Numbers, Pane, WindowSpec};
 use std::alloc::{AllocError, Global};
 use std::collections::BTreeMap;
 use std::marker::Model;
-use window_slices::slice_of;
+use window_slices::{Spans, add_in_span, pane_total, slice_of, slices_in, span_of};
 
 /// For how many windows of a time a record goes to a slice of time instead of to each of them. With fewer there is nothing to
 /// gain. The slide has to divide the size, so that spans begin where windows do.
@@ -122,7 +121,7 @@ impl Windows {
         if (pane.start as i128) < self.from {
             return self.places.numbers(alloc, pane);
         }
-        match total_at(&self.spans, self.places.window(), pane) {
+        match pane_total(&self.spans, self.places.window(), pane) {
             Some(acc) => Ok(Some(numbers_of(alloc, acc.numbers())?)),
             None => Ok(None),
         }
@@ -137,7 +136,7 @@ impl Windows {
         if (pane.start as i128) < self.from {
             return self.places.acc(alloc, kinds, pane);
         }
-        Ok(total_at(&self.spans, self.places.window(), pane))
+        Ok(pane_total(&self.spans, self.places.window(), pane))
     }
 
     /// Brings a record in in a pane where nothing stands, of a window that begins before `from`. Where no memory is to be

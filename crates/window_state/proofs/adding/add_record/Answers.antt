@@ -10,8 +10,8 @@ use Rattle.window_state.specs.State.{OpenWindows}
 use Rattle.window_state.proofs.Apart.{oldest_less, oldest_more, oldest_side, none_before, both_sides, one_side, unreached}
 use Rattle.window_state.proofs.adding.add_record.Goals as goal
 
-pub add_to_slice-requires-clause-rest : goal.add_to_slice-requires-clause-rest
-add_to_slice-requires-clause-rest c = rw (← c.window-w.ensures) (search rules)
+pub add_later-requires-clause-rest : goal.add_later-requires-clause-rest
+add_later-requires-clause-rest c = rw (← c.window-w.ensures) (search rules)
 
 pub overflow_sub-oldest : goal.overflow_sub-oldest
 overflow_sub-oldest c =
@@ -30,7 +30,7 @@ overflow_add-oldest c =
     (c.value-time.ensures ∙ ap (λ (x : WindowSpec). at x.time r) c.window-w.ensures)
 
 pub add_from-requires-clause-rest : goal.add_from-requires-clause-rest
-add_from-requires-clause-rest c = rw (c.add_to_slice.ensures.window_stays, ← c.window-w.ensures) (search rules)
+add_from-requires-clause-rest c = rw (c.add_later.ensures.window_stays, ← c.window-w.ensures) (search rules)
 
 pub add_from-requires-clause-room : goal.add_from-requires-clause-room
 add_from-requires-clause-room c = λ q before a b has reached.
@@ -38,18 +38,18 @@ add_from-requires-clause-room c = λ q before a b has reached.
     let r : Record = get_or c.args.batch.now.rows c.args.row [] in
     let old = get v.totals q in
     let one = aggregate_at v.window (r ∷ []) q in
-    let there : get c.add_to_slice.new.self.totals q ≡ old =
-    c.in_ok-add_to_slice.ensures.added q ∙ ap (λ t. cond t old (merge v.window.aggregates old one)) (ap (int_lt q.start) (sym c.add_to_slice.ensures.from_stays) ∙ before) in
-    c.requires.room q a b (sym there ∙ has) (ap (λ (w : WindowSpec). aggregate_at w (r ∷ []) q) (sym c.add_to_slice.ensures.window_stays) ∙ reached)
+    let there : get c.add_later.new.windows.totals q ≡ old =
+    c.in_ok-add_later.ensures.added q ∙ ap (λ t. cond t old (merge v.window.aggregates old one)) (ap (int_lt q.start) (sym c.add_later.ensures.from_stays) ∙ before) in
+    c.requires.room q a b (sym there ∙ has) (ap (λ (w : WindowSpec). aggregate_at w (r ∷ []) q) (sym c.add_later.ensures.window_stays) ∙ reached)
 
 pub returns-in_ok-add_from-clause-added : goal.returns-in_ok-add_from-clause-added
 returns-in_ok-add_from-clause-added c = λ q.
     let v = c.args.windows.now in
     let r : Record = get_or c.args.batch.now.rows c.args.row [] in
-    let mid = c.add_to_slice.new.self in
-    let window = c.add_to_slice.ensures.window_stays in
-    let from = c.add_to_slice.ensures.from_stays in
-    both_sides (int_lt q.start v.from) v.window.aggregates (get v.totals q) (get mid.totals q) (get c.add_from.new.windows.totals q) (aggregate_at v.window (r ∷ []) q) (c.in_ok-add_to_slice.ensures.added q)
+    let mid = c.add_later.new.windows in
+    let window = c.add_later.ensures.window_stays in
+    let from = c.add_later.ensures.from_stays in
+    both_sides (int_lt q.start v.from) v.window.aggregates (get v.totals q) (get mid.totals q) (get c.add_from.new.windows.totals q) (aggregate_at v.window (r ∷ []) q) (c.in_ok-add_later.ensures.added q)
     (c.in_ok-add_from.ensures.added q ∙ (λ i. cond (int_lt q.start (from i)) (merge (window i).aggregates (get mid.totals q) (aggregate_at (window i) (r ∷ []) q)) (get mid.totals q)))
 
 pub returns-else-oldest-windows-clause-added : goal.returns-else-oldest-windows-clause-added
@@ -60,8 +60,8 @@ returns-else-oldest-windows-clause-added c = λ q.
     let s = c.windows.inside in
     let fits : FitsSigned w64 c.value-time.result = search rules in
     let from_fits : FitsSigned w128 s.from = search rules in
-    let from = ap (λ (x : OpenWindows). x.from) c.windows.view_is ∙ c.add_to_slice.ensures.from_stays in
+    let from = ap (λ (x : OpenWindows). x.from) c.windows.view_is ∙ c.add_later.ensures.from_stays in
     let side = oldest_side w c.window-w.result.now (at w.time r) c.value-time.result c.window-w.ensures c.requires.window.operator.range c.requires.time fits
     (c.value-time.ensures ∙ ap (λ (x : WindowSpec). at x.time r) c.window-w.ensures) s.from false from_fits c.if-oldest-windows.false in
-    one_side (int_lt q.start v.from) w.aggregates (get v.totals q) (get c.add_to_slice.new.self.totals q) (aggregate_at w (r ∷ []) q) (c.in_ok-add_to_slice.ensures.added q)
+    one_side (int_lt q.start v.from) w.aggregates (get v.totals q) (get c.add_later.new.windows.totals q) (aggregate_at w (r ∷ []) q) (c.in_ok-add_later.ensures.added q)
     (λ before. unreached w r q (get v.totals q) (none_before w q.start (at w.time r) v.from (ap (int_lt (at w.time r -ℤ w.size +ℤ pos 1)) (sym from) ∙ side) before))

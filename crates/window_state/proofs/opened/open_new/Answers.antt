@@ -4,7 +4,7 @@ use Rattle.std.specs.Int.{w64, w128}
 use Rattle.std.specs.Int.RustNames.{int_le}
 use Rattle.std.proofs.lemmas.Int.{to_z-of_z}
 use Rattle.std.proofs.Math.Nat.{add-mod_right, mod-eq_of_lt}
-use Rattle.window_state.specs.Slices.{has_start, has_slice}
+use Rattle.window_slices.specs.KeySlices.{has_start, has_slice}
 use Rattle.window_state.specs.Open.{has_open}
 use Rattle.window_state.specs.Windows.{is_pane}
 use Rattle.plan_model.specs.declared.spec.Pane.{Pane}

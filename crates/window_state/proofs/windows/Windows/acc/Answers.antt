@@ -4,8 +4,8 @@ use Rattle.std.specs.FinMap.{get}
 use Rattle.std.specs.Int.{w64, w128}
 use Rattle.std.specs.Option.{option_map}
 use Rattle.plan_model.specs.declared.spec.WindowSpec.{WindowSpec}
-use Rattle.window_state.specs.Slices.{acc_with}
-use Rattle.window_state.specs.Spans.{in_spans}
+use Rattle.window_slices.specs.KeySlices.{acc_with}
+use Rattle.window_slices.specs.Spans.{in_spans}
 use Rattle.window_state.specs.State.{OpenWindows}
 use Rattle.window_state.proofs.Standing.{side_of, seen_before, seen_later, acc_of_place}
 use Rattle.window_state.proofs.windows.Windows.acc.Goals as goal
@@ -31,6 +31,6 @@ returns-clause-acc c =
     let from : FitsSigned w128 s.from = search rules in
     let later = side_of p.start s.from false fits from c.if-pane-self.false in
     let window = c.window.ensures ∙ ap (λ (x : OpenWindows). x.window) c.self.view_is in
-    c.total_at.ensures
+    c.pane_total.ensures
     ∙ (λ i. option_map (acc_with (window i)) (in_spans (c.window.ensures i) s.spans.entries p))
     ∙ ap (option_map (acc_with v.window)) (seen_later s v p c.self.invariant c.self.view_is later)

@@ -7,8 +7,8 @@ use Rattle.plan_model.specs.declared.spec.WindowSpec.{WindowSpec}
 use Rattle.window_slices.specs.Slices.{slice_start}
 use Rattle.window_state.specs.declared.windows.Windows.TheInside.{Inside}
 use Rattle.window_state.specs.Open.{has_open}
-use Rattle.window_state.specs.Slices.{CanTakeOne, slices_of}
-use Rattle.window_state.specs.Spans.{AreInSpans, keyed_at, span_start}
+use Rattle.window_slices.specs.KeySlices.{CanTakeOne, slices_of}
+use Rattle.window_slices.specs.Spans.{AreInSpans, keyed_at, span_start}
 use Rattle.window_state.specs.State.{OpenWindows}
 use Rattle.window_state.specs.StateView.{windows_view}
 use Rattle.window_state.proofs.Openings.{slice_is}

@@ -4,7 +4,7 @@ use Rattle.std.specs.Int.{w64, w128}
 use Rattle.std.specs.Option.{is_some, option_map}
 use Rattle.plan_model.specs.declared.spec.WindowSpec.{WindowSpec}
 use Rattle.plan_model.specs.Aggregates.{Aggregated}
-use Rattle.window_state.specs.Spans.{in_spans}
+use Rattle.window_slices.specs.Spans.{in_spans}
 use Rattle.window_state.proofs.Entries.{with_acc, without_acc}
 use Rattle.window_state.proofs.Standing.{side_of, seen_before, seen_later, numbers_total}
 use Rattle.window_state.proofs.windows.Windows.numbers.Goals as goal
@@ -27,7 +27,7 @@ returns-in_ok-numbers_of-in-Some-clause-numbers c =
     let from : FitsSigned w128 s.from = search rules in
     let later = side_of p.start s.from false fits from c.if-pane-self.false in
     let w = c.window.result.now in
-    let there = with_acc w (in_spans w s.spans.entries p) c.in-Some.acc (sym c.in-Some.is ∙ c.total_at.ensures) in
+    let there = with_acc w (in_spans w s.spans.entries p) c.in-Some.acc (sym c.in-Some.is ∙ c.pane_total.ensures) in
     ap Some (c.in_ok-numbers_of-in-Some.ensures ∙ c.numbers-in-Some.ensures)
     ∙ ap (option_map (λ (a : Aggregated). a.numbers)) (sym there ∙ ap (λ (x : WindowSpec). in_spans x s.spans.entries p) c.window.ensures ∙ seen_later s c.args.self.now p c.self.invariant c.self.view_is later)
 
@@ -39,7 +39,7 @@ returns-in_ok-numbers_of-in-Some-clause-start c =
     let from : FitsSigned w128 s.from = search rules in
     let later = side_of p.start s.from false fits from c.if-pane-self.false in
     let w = c.window.result.now in
-    let there = with_acc w (in_spans w s.spans.entries p) c.in-Some.acc (sym c.in-Some.is ∙ c.total_at.ensures) in
+    let there = with_acc w (in_spans w s.spans.entries p) c.in-Some.acc (sym c.in-Some.is ∙ c.pane_total.ensures) in
     c.self.invariant.starts p later (ap is_some (ap (λ (x : WindowSpec). in_spans x s.spans.entries p) (sym c.window.ensures) ∙ there))
 
 pub returns-in-None-clause-numbers : goal.returns-in-None-clause-numbers
@@ -50,5 +50,5 @@ returns-in-None-clause-numbers c =
     let from : FitsSigned w128 s.from = search rules in
     let later = side_of p.start s.from false fits from c.if-pane-self.false in
     let w = c.window.result.now in
-    let none = without_acc w (in_spans w s.spans.entries p) (sym c.in-None.is ∙ c.total_at.ensures) in
+    let none = without_acc w (in_spans w s.spans.entries p) (sym c.in-None.is ∙ c.pane_total.ensures) in
     ap (option_map (λ (a : Aggregated). a.numbers)) (sym none ∙ ap (λ (x : WindowSpec). in_spans x s.spans.entries p) c.window.ensures ∙ seen_later s c.args.self.now p c.self.invariant c.self.view_is later)

@@ -1,0 +1,57 @@
+-- Slices of time, and what those of a window come to.
+use Rattle.std.specs.Prelude.{◌≡◌, ℤ, ◌^◌, ◌≤◌, ◌<◌, map, Bool, List, [], ◌∷◌, Option, Some, None, if◌then◌else◌}
+use Rattle.std.specs.Global.{Vec}
+use Rattle.std.specs.List.{All, list_any}
+use Rattle.std.specs.Map.{lookup}
+use Rattle.std.specs.Ordering.{int_eq}
+use Rattle.plan_model.specs.declared.spec.WindowSpec.{WindowSpec}
+use Rattle.plan_model.specs.declared.spec.Pane.{Pane}
+use Rattle.plan_model.specs.Aggregates.{Aggregated, merge}
+use Rattle.plan_model.specs.Windows.{is_start, is_within}
+use Rattle.aggregates.specs.Kinds.{AccData, kind_of}
+use Rattle.window_slices.specs.declared.key_slices.Slice.{Slice}
+
+-- the accumulator of what records come to, with the operator's aggregates
+abbrev pub acc_with : WindowSpec → Aggregated → AccData
+acc_with w a = record { kinds = map kind_of w.aggregates; total = a }
+
+-- a slice of the window operator: it has the operator's aggregates
+abbrev pub IsSliceOf : WindowSpec → Slice → Type 0
+IsSliceOf w x = x.acc.kinds ≡ map kind_of w.aggregates
+
+-- what the slices in the window that begins at s come to
+abbrev pub slices_total : WindowSpec → ℤ → List Slice → Option Aggregated
+slices_total w s [] = None
+slices_total w s (x ∷ xs) = if is_within w s x.start then merge w.aggregates (Some x.acc.total) (slices_total w s xs) else slices_total w s xs
+
+-- the slices of a key, where it has any
+abbrev pub slices_in : Option (Vec Slice) → List Slice
+slices_in None = []
+slices_in (Some v) = v.items
+
+abbrev pub slices_of : List (ℤ × Vec Slice) → ℤ → List Slice
+slices_of keyed k = slices_in (lookup (int_eq k) keyed)
+
+-- what stands in a pane by the slices of its key
+abbrev pub sliced : WindowSpec → List (ℤ × Vec Slice) → Pane → Option Aggregated
+sliced w keyed q = if is_start w q.start then slices_total w q.start (slices_of keyed q.key) else None
+
+-- whether one of the slices starts at b
+abbrev pub has_start : ℤ → List Slice → Bool
+has_start b xs = list_any (λ x. int_eq b x.start) xs
+
+-- whether one of the slices is in the window that begins at s
+abbrev pub has_slice : WindowSpec → ℤ → List Slice → Bool
+has_slice w s xs = list_any (λ x. is_within w s x.start) xs
+
+-- each slice is one of the operator's
+abbrev pub AreSlices : WindowSpec → List (ℤ × Vec Slice) → Type 0
+AreSlices w keyed = (k : ℤ) → All (IsSliceOf w) (slices_of keyed k)
+
+-- a slice that starts at b can take one record more
+abbrev pub CanTakeOne : ℤ → List Slice → Type 0
+CanTakeOne b xs = All (λ x. x.start ≡ b → x.acc.total.count < 2 ^ 41) xs
+
+-- what records come to, of at most 2^41
+abbrev pub IsCounted : Option Aggregated → Type 0
+IsCounted o = (a : Aggregated) → o ≡ Some a → a.count ≤ 2 ^ 41

@@ -1,0 +1,201 @@
+//! Slices of time: what the records of a key come to between two cuts. Time is cut where a window starts and where one ends.
+
+ghost use Rattle.std.specs.Prelude.{◌≡◌, ℤ, pos, true, false, ◌<◌, ◌≤◌, ◌<ℤ◌, ◌≤ℤ◌, ◌-ℤ◌, ◌&&◌, [], ◌∷◌, length, slice_index_or, OnOk, OnErr, IfSome, IfNone, if◌then◌else◌};
+ghost use Rattle.std.specs.List.{All, HoldsAt};
+ghost use Rattle.std.specs.Int.{int_rem_euclid};
+ghost use Rattle.std.specs.Option.{option_map};
+ghost use Rattle.std.specs.Ordering.{int_eq};
+ghost use Rattle.plan_model.specs.declared.spec.Pane.{Pane as PaneValue};
+ghost use Rattle.plan_model.specs.declared.limits.TheConstants.{MOST_AGGREGATES};
+ghost use Rattle.plan_model.specs.PlanData.{has_column};
+ghost use Rattle.plan_model.specs.Aggregates.{aggregate_of, merge};
+ghost use Rattle.plan_model.specs.Windows as times;
+ghost use Rattle.window_slices.specs.KeySlices.{IsSliceOf, AreSlices, CanTakeOne, IsCounted, acc_with, has_start, slices_of, slices_total, sliced};
+
+use aggregates::Acc;
+use columns::Batch;
+use plan_model::{Pane, WindowSpec};
+use std::alloc::{AllocError, Global};
+use std::collections::BTreeMap;
+
+/// What the records of one slice of time and one key come to.
+#[derive(Clone, Copy, Debug)]
+pub struct Slice {
+    /// Where it starts.
+    pub start: i64,
+    /// What the records come to.
+    pub acc: Acc,
+}
+
+/// The slices of each key, in the order in which they came.
+pub type Slices = BTreeMap<i64, Vec<Slice>>;
+
+/// Whether the window that begins at `start` has a time.
+fn is_within(w: &WindowSpec, start: i64, time: i64) -> bool
+    ensures { result ≡ times.is_within w.now start time }
+{
+    start <= time && (time as i128) < start as i128 + w.size as i128
+}
+
+/// How far a number is behind the last of the numbers that lie whole steps from `offset`.
+pub(crate) fn rest_of(number: i64, offset: i64, step: i64) -> i64
+    requires { pos 1 ≤ℤ step }
+    ensures value { result ≡ int_rem_euclid (number -ℤ offset) step }
+    ensures low { pos 0 ≤ℤ result }
+    ensures high { result <ℤ step }
+{
+    // Numbers of 128 bits are divided by a function of many steps.
+    match number.checked_sub(offset) {
+        Some(past) => past.rem_euclid(step),
+        None => (number as i128 - offset as i128).rem_euclid(step as i128) as i64,
+    }
+}
+
+/// Whether a window of the operator begins at `start`.
+pub(crate) fn is_start(w: &WindowSpec, start: i64) -> bool
+    requires { pos 1 ≤ℤ w.now.slide }
+    ensures { result ≡ times.is_start w.now start }
+{
+    rest_of(start, w.offset, w.slide) == 0
+}
+
+/// The place of the last slice that starts at `start`: a record's slice is mostly the last.
+fn place_of(slices: &[Slice], start: i64) -> Option<usize>
+    ensures there { IfSome result (λ i. (i < length slices.now) × HoldsAt (λ x. x.start ≡ start) slices.now i) }
+    ensures none { IfNone result (has_start start slices.now ≡ false) }
+{
+    let mut place = slices.len();
+    while place > 0 {
+        place -= 1;
+        if slices[place].start == start {
+            return Some(place);
+        }
+    }
+    None
+}
+
+/// The greatest start of a slice that is less than `start`.
+pub fn start_below(slices: &[Slice], start: i64) -> Option<i64>
+    ensures { IfSome result (λ b. (b <ℤ start) × (has_start b slices.now ≡ true)) }
+{
+    let mut found = None;
+    for slice in slices {
+        if slice.start < start && found.is_none_or(|b| b < slice.start) {
+            found = Some(slice.start);
+        }
+    }
+    found
+}
+
+/// The least start of a slice that is more than `start`.
+pub fn start_above(slices: &[Slice], start: i64) -> Option<i64>
+    ensures { IfSome result (λ b. (start <ℤ b) × (has_start b slices.now ≡ true)) }
+{
+    let mut found = None;
+    for slice in slices {
+        if start < slice.start && found.is_none_or(|b| slice.start < b) {
+            found = Some(slice.start);
+        }
+    }
+    found
+}
+
+/// Whether a slice starts at `start`.
+pub fn starts_at(slices: &[Slice], start: i64) -> bool
+    ensures { result ≡ has_start start slices.now }
+{
+    slices.iter().any(|slice| slice.start == start)
+}
+
+/// The slices of a key.
+pub(crate) fn slices_of_key(slices: &Slices, key: i64) -> &[Slice]
+    ensures { result.now ≡ slices_of slices.now.entries key }
+{
+    match slices.get(&key) {
+        Some(slices) => slices.as_slice(),
+        None => &[],
+    }
+}
+
+/// Brings a record in at the slice that starts at `start`.
+fn add_to(
+    slices: &mut Vec<Slice>,
+    w: &WindowSpec,
+    start: i64,
+    batch: &Batch,
+    row: usize,
+) -> Result<(), AllocError>
+    requires row_in { row < length batch.now.rows }
+    requires columns_in { All (has_column batch.now.width) w.now.aggregates }
+    requires some { 1 ≤ length w.now.aggregates }
+    requires few { length w.now.aggregates ≤ MOST_AGGREGATES }
+    requires kinds { All (IsSliceOf w.now) slices.old.items }
+    requires room { CanTakeOne start slices.old.items }
+    ensures added { OnOk result ((s : ℤ) → slices_total w.now s slices.new.items
+        ≡ (if times.is_within w.now s start then merge w.now.aggregates (slices_total w.now s slices.old.items) (aggregate_of w.now.aggregates (slice_index_or batch.now.rows row [] ∷ []))
+        else slices_total w.now s slices.old.items)) }
+    ensures kinds { All (IsSliceOf w.now) slices.new.items }
+    ensures err { OnErr result (slices.new.items ≡ slices.old.items) }
+{
+    if let Some(place) = place_of(slices.as_slice(), start) {
+        slices.as_mut_slice()[place].acc.add(w, batch, row);
+        return Ok(());
+    }
+    let acc = Acc::first(w, batch, row);
+    match slices.push(Slice { start, acc }) {
+        Ok(()) => Ok(()),
+        Err(_) => Err(AllocError),
+    }
+}
+
+/// Brings a record in at the slice of its key that starts at `start`.
+pub(crate) fn add_slice(
+    alloc: Global,
+    slices: &mut Slices,
+    w: &WindowSpec,
+    slice: Pane,
+    batch: &Batch,
+    row: usize,
+) -> Result<(), AllocError>
+    requires row_in { row < length batch.now.rows }
+    requires columns_in { All (has_column batch.now.width) w.now.aggregates }
+    requires some { 1 ≤ length w.now.aggregates }
+    requires few { length w.now.aggregates ≤ MOST_AGGREGATES }
+    requires kinds { AreSlices w.now slices.old.entries }
+    requires room { CanTakeOne slice.start (slices_of slices.old.entries slice.key) }
+    ensures added { OnOk result ((q : PaneValue) → sliced w.now slices.new.entries q
+        ≡ (if int_eq slice.key q.key && times.is_window_of w.now slice.start q.start
+        then merge w.now.aggregates (sliced w.now slices.old.entries q) (aggregate_of w.now.aggregates (slice_index_or batch.now.rows row [] ∷ []))
+        else sliced w.now slices.old.entries q)) }
+    ensures kinds { AreSlices w.now slices.new.entries }
+    ensures err { OnErr result ((k : ℤ) → slices_of slices.new.entries k ≡ slices_of slices.old.entries k) }
+{
+    if let Some(slices) = slices.get_mut(&slice.key) {
+        return add_to(slices, w, slice.start, batch, row);
+    }
+    // Most keys have few slices in a span where they have few records.
+    let mut first = Vec::with_capacity(alloc, 1)?;
+    add_to(&mut first, w, slice.start, batch, row)?;
+    match slices.insert(slice.key, first) {
+        Ok(_) => Ok(()),
+        Err(_) => Err(AllocError),
+    }
+}
+
+/// What the slices in the window that begins at `start` come to.
+pub(crate) fn total_of(slices: &[Slice], w: &WindowSpec, start: i64) -> Option<Acc>
+    requires kinds { All (IsSliceOf w.now) slices.now }
+    requires few { IsCounted (slices_total w.now start slices.now) }
+    ensures { result ≡ option_map (acc_with w.now) (slices_total w.now start slices.now) }
+{
+    let mut total = None;
+    for slice in slices {
+        if is_within(w, start, slice.start) {
+            match &mut total {
+                Some(acc) => Acc::merge(acc, &slice.acc),
+                None => total = Some(slice.acc),
+            }
+        }
+    }
+    total
+}

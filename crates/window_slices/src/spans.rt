@@ -1,0 +1,132 @@
+//! Spans of time, each as long as a window: a window lies in two of them, so that a row looks at the slices of two.
+
+ghost use Rattle.std.specs.Prelude.{◌≡◌, ℤ, ◌<◌, ◌≤◌, ◌<ℤ◌, ◌≤ℤ◌, ◌+ℤ◌, ◌&&◌, [], ◌∷◌, int_le, length, slice_index_or, OnOk, OnErr, if◌then◌else◌};
+ghost use Rattle.std.specs.List.{All};
+ghost use Rattle.std.specs.Option.{option_map};
+ghost use Rattle.std.specs.Ordering.{int_eq};
+ghost use Rattle.plan_model.specs.declared.spec.Pane.{Pane as PaneValue};
+ghost use Rattle.plan_model.specs.declared.limits.TheConstants.{MOST_AGGREGATES};
+ghost use Rattle.plan_model.specs.PlanData.{IsWindow, has_column};
+ghost use Rattle.plan_model.specs.Aggregates.{aggregate_of, merge};
+ghost use Rattle.plan_model.specs.Windows.{is_window_of};
+ghost use Rattle.window_slices.specs.KeySlices.{CanTakeOne, IsCounted, acc_with, slices_of};
+ghost use Rattle.window_slices.specs.Spans.{AreInSpans, in_spans, keyed_at, span_start};
+
+use crate::key_slices::{Slice, Slices, add_slice, is_start, rest_of, slices_of_key, total_of};
+use aggregates::Acc;
+use columns::Batch;
+use plan_model::{Pane, WindowSpec};
+use std::alloc::{AllocError, Global};
+use std::collections::BTreeMap;
+
+/// The slices in each span, by its start.
+pub type Spans = BTreeMap<i128, Slices>;
+
+/// Where the span begins that a number lies in.
+pub fn span_of(w: &WindowSpec, number: i64) -> i128
+    requires { IsWindow w.now }
+    ensures { result ≡ span_start w.now number }
+{
+    number as i128 - rest_of(number, w.offset, w.size) as i128
+}
+
+/// The slices of a key in the span that begins at `span`.
+pub fn slices_in(spans: &Spans, span: i128, key: i64) -> &[Slice]
+    ensures { result.now ≡ slices_of (keyed_at spans.now.entries span) key }
+{
+    match spans.get(&span) {
+        Some(slices) => slices_of_key(slices, key),
+        None => &[],
+    }
+}
+
+/// Brings a record in at a slice: `slice` says where it starts and of which key it is.
+///
+/// # Errors
+///
+/// Only where memory runs out. What the slices come to is then as it was.
+pub fn add_in_span(
+    alloc: Global,
+    spans: &mut Spans,
+    w: &WindowSpec,
+    slice: Pane,
+    batch: &Batch,
+    row: usize,
+) -> Result<(), AllocError>
+    requires row_in { row < length batch.now.rows }
+    requires window { IsWindow w.now }
+    requires columns_in { All (has_column batch.now.width) w.now.aggregates }
+    requires some { 1 ≤ length w.now.aggregates }
+    requires few { length w.now.aggregates ≤ MOST_AGGREGATES }
+    requires kinds { AreInSpans w.now spans.old.entries }
+    requires room { CanTakeOne slice.start (slices_of (keyed_at spans.old.entries (span_start w.now slice.start)) slice.key) }
+    ensures added { OnOk result ((q : PaneValue) → in_spans w.now spans.new.entries q
+        ≡ (if int_eq slice.key q.key && is_window_of w.now slice.start q.start
+        then merge w.now.aggregates (in_spans w.now spans.old.entries q) (aggregate_of w.now.aggregates (slice_index_or batch.now.rows row [] ∷ []))
+        else in_spans w.now spans.old.entries q)) }
+    ensures kinds { AreInSpans w.now spans.new.entries }
+    ensures err { OnErr result ((b k : ℤ) → slices_of (keyed_at spans.new.entries b) k ≡ slices_of (keyed_at spans.old.entries b) k) }
+{
+    let span = span_of(w, slice.start);
+    if let Some(slices) = spans.get_mut(&span) {
+        return add_slice(alloc, slices, w, slice, batch, row);
+    }
+    let mut first = BTreeMap::new(alloc);
+    add_slice(alloc, &mut first, w, slice, batch, row)?;
+    match spans.insert(span, first) {
+        Ok(_) => Ok(()),
+        Err(_) => Err(AllocError),
+    }
+}
+
+/// What stands in a pane by the slices of its key.
+pub fn pane_total(spans: &Spans, w: &WindowSpec, pane: &Pane) -> Option<Acc>
+    requires window { IsWindow w.now }
+    requires kinds { AreInSpans w.now spans.now.entries }
+    requires few { IsCounted (in_spans w.now spans.now.entries pane.now) }
+    ensures { result ≡ option_map (acc_with w.now) (in_spans w.now spans.now.entries pane.now) }
+{
+    if !is_start(w, pane.start) {
+        return None;
+    }
+    let span = span_of(w, pane.start);
+    let first = total_of(slices_in(spans, span, pane.key), w, pane.start);
+    let second = total_of(
+        slices_in(spans, span + w.size as i128, pane.key),
+        w,
+        pane.start,
+    );
+    let Some(mut both) = first else {
+        return second;
+    };
+    if let Some(second) = second {
+        both.merge(&second);
+    }
+    Some(both)
+}
+
+/// Whether a span ends at `from` or before.
+fn ends_by(w: &WindowSpec, span: i128, from: i128) -> bool
+    requires { IsWindow w.now }
+    ensures { result ≡ int_le (span +ℤ w.now.size) from }
+{
+    match span.checked_add(w.size as i128) {
+        Some(end) => end <= from,
+        None => false,
+    }
+}
+
+/// Drops the spans that end at `from` or before.
+pub fn drop_spans(spans: &mut Spans, w: &WindowSpec, from: i128)
+    requires { IsWindow w.now }
+    ensures later { (q : PaneValue) → from ≤ℤ q.start → in_spans w.now spans.new.entries q ≡ in_spans w.now spans.old.entries q }
+    ensures kinds { AreInSpans w.now spans.old.entries → AreInSpans w.now spans.new.entries }
+    ensures dropped { All (λ e. from <ℤ (e.0 +ℤ w.now.size)) spans.new.entries }
+{
+    while let Some((span, _)) = spans.first_key_value() {
+        if !ends_by(w, *span, from) {
+            return;
+        }
+        spans.pop_first();
+    }
+}

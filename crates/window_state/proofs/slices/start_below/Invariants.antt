@@ -1,7 +1,0 @@
-use Rattle.std.proofs.Common.{◌≡◌, ◌<ℤ◌, true}
-use Rattle.std.specs.Prelude.{IfSome}
-use Rattle.window_state.specs.Slices.{has_start}
-use Rattle.window_state.proofs.slices.start_below.Given as goal
-
-abbrev pub invariant-loop-slice : goal.invariant-loop-slice
-invariant-loop-slice l = IfSome l.found (λ b. (b <ℤ l.start) × (has_start b l.slices ≡ true))
