@@ -3,6 +3,8 @@ mod Starts
 mod Boundaries
 mod Totals
 mod Fits
+mod Wide
+mod KeyStarts
 mod SliceAdds
 mod SliceTotals
 mod SpanFits

@@ -1,9 +1,8 @@
 -- A record brought in at a slice of its span: what the two spans of a window come to with it.
-use Rattle.std.proofs.Common.{◌≡◌, ℤ, pos, ◌+ℤ◌, ◌-ℤ◌, ◌<ℤ◌, ◌≤ℤ◌, Bool, true, false, true≢false, cond, ◌&&◌, List, refl, sym, ap, subst, ◌∙◌, arith, Option, Some, FitsSigned, inl, inr}
+use Rattle.std.proofs.Common.{◌≡◌, ℤ, pos, ◌+ℤ◌, ◌≤ℤ◌, Bool, true, false, true≢false, cond, ◌&&◌, List, refl, sym, ap, subst, ◌∙◌, arith, Option, Some, inl, inr}
 use Rattle.std.specs.Prelude.{not}
 use Rattle.std.specs.BTreeMap.{BTreeMap}
 use Rattle.std.specs.Global.{Vec}
-use Rattle.std.specs.Int.{w64, w128, int_rem_euclid}
 use Rattle.std.specs.Map.{lookup}
 use Rattle.std.specs.Ordering.{int_eq}
 use Rattle.std.proofs.lemmas.Bool.{and_parts}
@@ -14,7 +13,6 @@ use Rattle.plan_model.specs.declared.spec.WindowSpec.{WindowSpec}
 use Rattle.plan_model.specs.Aggregates.{Aggregated, merge}
 use Rattle.plan_model.specs.Windows.{is_start, is_within, is_window_of}
 use Rattle.plan_model.proofs.Facts.{merge_assoc}
-use Rattle.window_slices.proofs.Facts.{last_start}
 use Rattle.window_slices.specs.declared.key_slices.Slice.{Slice}
 use Rattle.window_slices.specs.KeySlices.{AreSlices, slices_of, sliced}
 use Rattle.window_slices.specs.Spans.{AreInSpans, span_start, keyed_in, keyed_at, in_spans}
@@ -22,37 +20,6 @@ use Rattle.window_slices.proofs.SpanFits.{in_either}
 use Rattle.window_slices.proofs.SliceAdds.{merge_first, same_key}
 
 -- ---- the span of a number in a window
-
-abbrev spanned : WindowSpec → WindowSpec
-spanned w = record w { slide = w.size }
-
--- how far a number is from the start of its span
-abbrev rest_of : WindowSpec → ℤ → ℤ
-rest_of w x = int_rem_euclid (x -ℤ w.offset) w.size
-
-near_fits : (r n : ℤ) → FitsSigned w64 n → pos 0 ≤ℤ r → r <ℤ n → FitsSigned w128 r
-near_fits r n h low high = grind (arith, ints)
-
-before_fits : (x r n : ℤ) → FitsSigned w64 x → FitsSigned w64 n → pos 0 ≤ℤ r → r <ℤ n → FitsSigned w128 (x -ℤ r)
-before_fits x r n h k low high = grind (arith, ints)
-
-rest_low : (w : WindowSpec) (x : ℤ) → pos 1 ≤ℤ w.size → pos 0 ≤ℤ rest_of w x
-rest_low w x sized =
-    let from = last_start (spanned w) x sized in
-    let before = from.before in
-    omega (arith, ints, before)
-
-rest_high : (w : WindowSpec) (x : ℤ) → pos 1 ≤ℤ w.size → rest_of w x <ℤ w.size
-rest_high w x sized =
-    let from = last_start (spanned w) x sized in
-    let near = from.near in
-    omega (arith, ints, near)
-
-pub rest_fits : (w : WindowSpec) (x : ℤ) → pos 1 ≤ℤ w.size → FitsSigned w64 w.size → FitsSigned w128 (rest_of w x)
-rest_fits w x sized h = near_fits (rest_of w x) w.size h (rest_low w x sized) (rest_high w x sized)
-
-pub start_fits : (w : WindowSpec) (x : ℤ) → pos 1 ≤ℤ w.size → FitsSigned w64 x → FitsSigned w64 w.size → FitsSigned w128 (x -ℤ rest_of w x)
-start_fits w x sized h k = before_fits x (rest_of w x) w.size h k (rest_low w x sized) (rest_high w x sized)
 
 -- a number in a window lies in the span of its start or in the next, and in one of them only
 one_span : (w : WindowSpec) (s b : ℤ) → pos 1 ≤ℤ w.size → is_within w s b ≡ true

@@ -1,5 +1,5 @@
 -- Slices of time, and what those of a window come to.
-use Rattle.std.specs.Prelude.{◌≡◌, ℤ, ◌^◌, ◌≤◌, ◌<◌, map, Bool, List, [], ◌∷◌, Option, Some, None, if◌then◌else◌}
+use Rattle.std.specs.Prelude.{◌≡◌, ℤ, ◌^◌, ◌≤◌, ◌<◌, ◌≤ℤ◌, map, Bool, List, [], ◌∷◌, Option, Some, None, if◌then◌else◌}
 use Rattle.std.specs.Global.{Vec}
 use Rattle.std.specs.List.{All, list_any}
 use Rattle.std.specs.Map.{lookup}
@@ -39,6 +39,15 @@ sliced w keyed q = if is_start w q.start then slices_total w q.start (slices_of 
 -- whether one of the slices starts at b
 abbrev pub has_start : ℤ → List Slice → Bool
 has_start b xs = list_any (λ x. int_eq b x.start) xs
+
+-- a number was found that another one is at most, or at least
+abbrev pub IsUpTo : Option ℤ → ℤ → Type 0
+IsUpTo None z = ⊥
+IsUpTo (Some b) z = z ≤ℤ b
+
+abbrev pub IsFrom : Option ℤ → ℤ → Type 0
+IsFrom None z = ⊥
+IsFrom (Some b) z = b ≤ℤ z
 
 -- whether one of the slices is in the window that begins at s
 abbrev pub has_slice : WindowSpec → ℤ → List Slice → Bool

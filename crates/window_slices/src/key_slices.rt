@@ -1,6 +1,6 @@
 //! Slices of time: what the records of a key come to between two cuts. Time is cut where a window starts and where one ends.
 
-ghost use Rattle.std.specs.Prelude.{◌≡◌, ℤ, pos, true, false, ◌<◌, ◌≤◌, ◌<ℤ◌, ◌≤ℤ◌, ◌-ℤ◌, ◌&&◌, [], ◌∷◌, length, slice_index_or, OnOk, OnErr, IfSome, IfNone, if◌then◌else◌};
+ghost use Rattle.std.specs.Prelude.{◌≡◌, ◌⊎◌, ℤ, pos, true, false, ◌<◌, ◌≤◌, ◌<ℤ◌, ◌≤ℤ◌, ◌-ℤ◌, ◌&&◌, [], ◌∷◌, length, slice_index_or, Some, OnOk, OnErr, IfSome, IfNone, if◌then◌else◌};
 ghost use Rattle.std.specs.List.{All, HoldsAt};
 ghost use Rattle.std.specs.Int.{int_rem_euclid};
 ghost use Rattle.std.specs.Option.{option_map};
@@ -10,7 +10,7 @@ ghost use Rattle.plan_model.specs.declared.limits.TheConstants.{MOST_AGGREGATES}
 ghost use Rattle.plan_model.specs.PlanData.{has_column};
 ghost use Rattle.plan_model.specs.Aggregates.{aggregate_of, merge};
 ghost use Rattle.plan_model.specs.Windows as times;
-ghost use Rattle.window_slices.specs.KeySlices.{IsSliceOf, AreSlices, CanTakeOne, IsCounted, acc_with, has_start, slices_of, slices_total, sliced};
+ghost use Rattle.window_slices.specs.KeySlices.{IsSliceOf, AreSlices, CanTakeOne, IsCounted, IsUpTo, IsFrom, acc_with, has_start, slices_of, slices_total, sliced};
 
 use aggregates::Acc;
 use columns::Batch;
@@ -74,28 +74,56 @@ fn place_of(slices: &[Slice], start: i64) -> Option<usize>
     None
 }
 
+/// The greater of a number and one that was found, of those that are less than `start`.
+fn below(found: Option<i64>, number: i64, start: i64) -> Option<i64>
+    ensures kept { IfSome found (λ other. IsUpTo result other) }
+    ensures reached { number <ℤ start → IsUpTo result number }
+    ensures one { IfSome result (λ b. (found ≡ Some b) ⊎ ((b ≡ number) × (b <ℤ start))) }
+{
+    if start <= number {
+        return found;
+    }
+    match found {
+        Some(other) if number <= other => found,
+        _ => Some(number),
+    }
+}
+
 /// The greatest start of a slice that is less than `start`.
 pub fn start_below(slices: &[Slice], start: i64) -> Option<i64>
-    ensures { IfSome result (λ b. (b <ℤ start) × (has_start b slices.now ≡ true)) }
+    ensures there { IfSome result (λ b. (b <ℤ start) × (has_start b slices.now ≡ true)) }
+    ensures greatest { All (λ x. x.start <ℤ start → IsUpTo result x.start) slices.now }
 {
     let mut found = None;
     for slice in slices {
-        if slice.start < start && found.is_none_or(|b| b < slice.start) {
-            found = Some(slice.start);
-        }
+        found = below(found, slice.start, start);
     }
     found
 }
 
+/// The lesser of a number and one that was found, of those that are more than `start`.
+fn above(found: Option<i64>, number: i64, start: i64) -> Option<i64>
+    ensures kept { IfSome found (λ other. IsFrom result other) }
+    ensures reached { start <ℤ number → IsFrom result number }
+    ensures one { IfSome result (λ b. (found ≡ Some b) ⊎ ((b ≡ number) × (start <ℤ b))) }
+{
+    if number <= start {
+        return found;
+    }
+    match found {
+        Some(other) if other <= number => found,
+        _ => Some(number),
+    }
+}
+
 /// The least start of a slice that is more than `start`.
 pub fn start_above(slices: &[Slice], start: i64) -> Option<i64>
-    ensures { IfSome result (λ b. (start <ℤ b) × (has_start b slices.now ≡ true)) }
+    ensures there { IfSome result (λ b. (start <ℤ b) × (has_start b slices.now ≡ true)) }
+    ensures least { All (λ x. start <ℤ x.start → IsFrom result x.start) slices.now }
 {
     let mut found = None;
     for slice in slices {
-        if start < slice.start && found.is_none_or(|b| slice.start < b) {
-            found = Some(slice.start);
-        }
+        found = above(found, slice.start, start);
     }
     found
 }

@@ -18,7 +18,7 @@ use Rattle.plan_model.proofs.Facts.{is_reached, reached_more, reached_none, reac
 use Rattle.window_slices.specs.Slices.{last_start_by, slice_start}
 use Rattle.window_state.specs.declared.parts.Part.{Part}
 use Rattle.window_slices.specs.declared.key_slices.Slice.{Slice}
-use Rattle.window_state.specs.Open.{has_open}
+use Rattle.window_state.specs.Open.{has_open, OpensOnly}
 use Rattle.window_slices.specs.KeySlices.{has_start, has_slice}
 use Rattle.window_state.specs.Windows.{is_pane}
 use Rattle.window_state.proofs.Slides.{held, positive_is, at_least_one, at_most, fits_window, fits_start}
@@ -313,6 +313,20 @@ more_open a b s f h = elim (or_cases a s h) [ inl x ↦ or_left b s (f x) | inr 
 pub put_kept : (o a b : Bool) → b ≡ (if o then true else a) → a ≡ true → b ≡ true
 put_kept true a b is h = is
 put_kept false a b is h = is ∙ h
+
+-- where a pane of the key at a window of the time is opened, no other is
+pub only_opened : (w : WindowSpec) (t key : ℤ) (n m rest : ℕ) (k : Walk w t n m rest) (old mid new : List (ℤ × Vec ℤ)) (p : Pane) (b : ℕ) → b % n ≡ rest → b < m → OpensOnly w key t old mid → p.start ≡ t -ℤ pos b → p.key ≡ key
+    → ((q : Pane) → has_open new q ≡ (if is_pane p q then true else has_open mid q)) → OpensOnly w key t old new
+only_opened w t key n m rest k old mid new p b e low only start key_is put q h = side (is_pane p q) refl
+  where
+    side : (o : Bool) → is_pane p q ≡ o → (has_open old q || (int_eq key q.key && is_window_of w t q.start)) ≡ true
+    side true same =
+        let at : (int_eq (t -ℤ pos b) q.start && int_eq key q.key) ≡ true = (λ i. int_eq (sym start i) q.start && int_eq (sym key_is i) q.key) ∙ same in
+        let both = both_hold (int_eq (t -ℤ pos b) q.start) (int_eq key q.key) at in
+        let reached = reached_more w t q.start b n m rest k.some k.slide k.size k.rem e low ∙ or_right (is_reached w t b q.start) (int_eq (t -ℤ pos b) q.start) both.0 in
+        let window = (both_hold (is_window_of w t q.start) (int_lt (t -ℤ pos (b + n)) q.start) reached).0 in
+        or_right (has_open old q) (int_eq key q.key && is_window_of w t q.start) (λ i. both.1 i && window i)
+    side false other = only q (ap (λ o. if o then true else has_open mid q) (sym other) ∙ sym (put q) ∙ h)
 
 module _ (w : WindowSpec) (t key from : ℤ) (xs : List Slice) (n m rest : ℕ) (k : Walk w t n m rest) where
   -- at first

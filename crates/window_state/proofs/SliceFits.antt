@@ -20,7 +20,7 @@ use Rattle.plan_model.specs.declared.limits.TheConstants.{TIME_LIMIT}
 use Rattle.plan_model.specs.Windows.{IsTime, is_start, is_within, is_window_of}
 use Rattle.plan_model.proofs.Facts.{count_or, count_at, count_merge, merge-one, reached_none}
 use Rattle.window_slices.specs.Slices.{slice_start}
-use Rattle.window_slices.proofs.Facts.{last_start, windows_have_whole_slices}
+use Rattle.window_slices.proofs.Facts.{last_start, windows_have_whole_slices, wider}
 use Rattle.window_slices.specs.declared.key_slices.Slice.{Slice}
 use Rattle.window_state.specs.declared.windows.Windows.TheInside.{Inside}
 use Rattle.window_state.specs.Open.{has_open}
@@ -63,16 +63,11 @@ size_test w v t x b test same range fits is time small le =
     sym (λ i. int_le ((ap (λ (y : WindowSpec). narrow y.size) same ∙ to_z-of_z w64 w.size (fits_window w.size range.sized range.size_small)) i)
     ((ap narrow (back_is t x b fits is time small) ∙ to_z-of_z w64 (pos b) (fits_back b small)) i)) ∙ le
 
-pub wide_is : (z : ℤ) → FitsSigned w64 z → to_z w128 (of_z w128 z) ≡ z
-wide_is z fits =
-    let wider : FitsSigned w128 z = grind (arith, ints) in
-    to_z-of_z w128 z wider
-
 -- and where the last window begins beside `from`
 pub from_test : (t x from : ℤ) (b : ℕ) (test : Bool) → FitsSigned w64 x → x ≡ t → IsTime t → b ≤ 2 ^ 40 → FitsSigned w128 from
     → int_lt (to_z w128 (of_z w128 (narrow (narrow x -ℤ to_z w64 b)))) (to_z w128 (of_z w128 from)) ≡ test → int_lt (t -ℤ pos b) from ≡ test
 from_test t x from b test fits is time small from_fits lt =
-    sym (λ i. int_lt ((ap (λ z. to_z w128 (of_z w128 z)) (start_is t x b fits is time small) ∙ wide_is (t -ℤ pos b) (fits_start t b time small)) i) (to_z-of_z w128 from from_fits i)) ∙ lt
+    sym (λ i. int_lt ((ap (λ z. to_z w128 (of_z w128 z)) (start_is t x b fits is time small) ∙ to_z-of_z w128 (t -ℤ pos b) (wider (t -ℤ pos b) (fits_start t b time small))) i) (to_z-of_z w128 from from_fits i)) ∙ lt
 
 -- ---- at which windows a record comes in
 

@@ -9,6 +9,7 @@ use Rattle.plan_model.specs.declared.spec.Pane.{Pane}
 use Rattle.plan_model.specs.declared.spec.WindowSpec.{WindowSpec}
 use Rattle.plan_model.specs.Aggregates.{Aggregated, merge}
 use Rattle.plan_model.specs.Rows.{pane_cmp}
+use Rattle.window_slices.proofs.Facts.{widened}
 use Rattle.window_state.specs.declared.windows.Windows.TheInside.{Inside}
 use Rattle.window_state.specs.Open.{has_open, open_panes, panes_from, AreOpen}
 use Rattle.window_state.specs.Parts.{entries_at, IsPartOf}
@@ -139,14 +140,9 @@ opens false c h = h
 
 -- ---- a pane that is asked for, by the side on which its window begins
 
-wide : (z : ℤ) → FitsSigned w64 z → to_z w128 (of_z w128 (to_z w64 (of_z w64 z))) ≡ z
-wide z h =
-    let wider : FitsSigned w128 z = grind (arith, ints) in
-    ap (λ y. to_z w128 (of_z w128 y)) (to_z-of_z w64 z h) ∙ to_z-of_z w128 z wider
-
 -- a start beside `from`, as the code compares them
 pub side_of : (z f : ℤ) (b : Bool) → FitsSigned w64 z → FitsSigned w128 f → int_lt (to_z w128 (of_z w128 (to_z w64 (of_z w64 z)))) (to_z w128 (of_z w128 f)) ≡ b → int_lt z f ≡ b
-side_of z f b hz hf is = sym (λ i. int_lt (wide z hz i) (to_z-of_z w128 f hf i)) ∙ is
+side_of z f b hz hf is = sym (λ i. int_lt (widened z hz i) (to_z-of_z w128 f hf i)) ∙ is
 
 -- what the view has in a pane of a window that begins before `from`
 pub seen_before : (s : Inside) (v : OpenWindows) (q : Pane) → IsWindowsInside s → windows_view s ≡ v → int_lt q.start s.from ≡ true → total_at s.places.entries q ≡ get v.totals q

@@ -16,8 +16,8 @@ use Rattle.std.proofs.lemmas.Option.{get_or_from_slice_get}
 use Rattle.plan_model.specs.declared.spec.WindowSpec.{WindowSpec}
 use Rattle.plan_model.specs.declared.spec.Pane.{Pane}
 use Rattle.aggregates.specs.Kinds.{AccData}
-use Rattle.plan_model.specs.Rows.{is_due}
-use Rattle.plan_model.specs.Rows.{pane_cmp}
+use Rattle.plan_model.specs.Rows.{is_due, pane_cmp}
+use Rattle.plan_model.proofs.Facts.{and_false, or_false}
 use Rattle.window_state.specs.Windows.{has_pane, is_pane}
 use Rattle.window_state.specs.Open.{has_key, has_open, panes_from}
 use Rattle.window_state.proofs.Entries.{tied}
@@ -92,10 +92,6 @@ or_if : (a b : Bool) → (a || b) ≡ cond a true b
 or_if true b = refl
 or_if false b = refl
 
-and_false : (a : Bool) → (a && false) ≡ false
-and_false true = refl
-and_false false = refl
-
 pub opened_in : (es : List (ℤ × Vec ℤ)) (p q : Pane) (old new : Vec ℤ) → lookup (int_eq p.start) es ≡ Some old → new.items ≡ old.items ++ p.key ∷ []
     → has_open (set_value (int_eq p.start) es new) q ≡ cond (is_pane p q) true (has_open es q)
 opened_in es p q old new there is =
@@ -104,10 +100,6 @@ opened_in es p q old new there is =
 
 pub opened_same : (es : List (ℤ × Vec ℤ)) (s : ℤ) (q : Pane) (old new : Vec ℤ) → lookup (int_eq s) es ≡ Some old → new.items ≡ old.items → has_open (set_value (int_eq s) es new) q ≡ has_open es q
 opened_same es s q old new there is = has_set es s old new q false there (ap (has_key q.key) is) ∙ ap (λ t. t || has_open es q) (and_false (int_eq q.start s))
-
-pub or_false : (a : Bool) → (a || false) ≡ a
-or_false true = refl
-or_false false = refl
 
 pub opened_new : (es : List (ℤ × Vec ℤ)) (p q : Pane) (new : Vec ℤ) → lookup (int_eq p.start) es ≡ None → new.items ≡ p.key ∷ []
     → has_open (insert_entry int_cmp es p.start new) q ≡ cond (is_pane p q) true (has_open es q)

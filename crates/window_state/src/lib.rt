@@ -4,7 +4,6 @@
 mod adding;
 mod fault;
 mod firing;
-mod hashing;
 mod having;
 mod opened;
 mod parts;
@@ -14,8 +13,8 @@ mod windows;
 mod words;
 
 pub use fault::StateFault;
-pub use hashing::HashKeys;
 pub use having::keep_rows;
+pub use pane_hashes::HashKeys;
 pub use parts::Part;
 pub use plan_model::Row;
 pub use state::WindowState;

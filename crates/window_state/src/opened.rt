@@ -12,7 +12,7 @@ ghost use Rattle.plan_model.specs.Rows.{is_due as due, pane_cmp};
 ghost use Rattle.plan_model.specs.Windows.{IsTime, is_window_of};
 ghost use Rattle.window_slices.specs.KeySlices.{has_slice};
 ghost use Rattle.window_state.specs.Windows.{has_pane, is_pane};
-ghost use Rattle.window_state.specs.Open.{has_open, has_key, panes_from};
+ghost use Rattle.window_state.specs.Open.{has_open, has_key, panes_from, OpensOnly};
 
 use crate::firing::is_due;
 use plan_model::{Pane, WindowSpec};
@@ -35,7 +35,8 @@ pub(crate) fn open_pane(alloc: Global, opened: &mut OpenPanes, pane: Pane) -> Re
             Err(_) => Err(AllocError),
         };
     }
-    let mut keys = Vec::new(alloc);
+    // Where keys are sparse most starts have one.
+    let mut keys = Vec::with_capacity(alloc, 1)?;
     keys.push(pane.key)?;
     match opened.insert(pane.start, keys) {
         Ok(_) => Ok(()),
@@ -60,6 +61,7 @@ pub(crate) fn open_new(
     ensures opened { OnOk result ((q : PaneValue) → int_eq record.key q.key ≡ true → is_window_of w.now record.start q.start ≡ true → int_lt q.start from ≡ false
         → (has_open opened.new.entries q || has_slice w.now q.start slices.now) ≡ true) }
     ensures still { (q : PaneValue) → has_open opened.old.entries q ≡ true → has_open opened.new.entries q ≡ true }
+    ensures only { OpensOnly w.now record.key record.start opened.old.entries opened.new.entries }
 {
     let slice = slice_of(w, record.start);
     if starts_at(slices, slice) {
@@ -129,6 +131,7 @@ pub(crate) fn due_panes(
         }
         push_panes(&mut panes, *start, keys.as_slice())?;
     }
+    // Not handed on as it is: the proof needs the set itself.
     let panes = sorted(alloc, panes.as_slice())?;
     Ok(panes)
 }
@@ -142,6 +145,7 @@ pub(crate) fn all_panes(alloc: Global, opened: &OpenPanes) -> Result<BTreeSet<Pa
     for (start, keys) in opened {
         push_panes(&mut panes, *start, keys.as_slice())?;
     }
+    // Not handed on as it is: the proof needs the set itself.
     let panes = sorted(alloc, panes.as_slice())?;
     Ok(panes)
 }

@@ -11,11 +11,11 @@ ghost use Rattle.window_state.specs.Windows.{acc_at, is_pane, total_at, CanAggre
 ghost use Rattle.window_state.specs.Open.{has_key};
 ghost use Rattle.window_state.specs.Parts.{IsPartOf};
 
-use crate::hashing::HashKeys;
 use crate::words::{add_record, numbers_at, row_numbers_at, stride_of, write_acc, write_first};
 use aggregates::{Acc, Kind};
 use columns::Batch;
 use indexmap::IndexSet;
+use pane_hashes::HashKeys;
 use plan_model::{Numbers, Pane, WindowSpec};
 use std::alloc::{AllocError, Global};
 use std::marker::Model;

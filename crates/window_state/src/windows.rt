@@ -17,12 +17,12 @@ ghost use Rattle.window_state.specs.State.{HasRoomFor};
 ghost use Rattle.window_state.specs.Windows.{IsOperator, CanAggregate, IsStart, acc_at, has_pane, is_pane};
 ghost use Rattle.window_state.specs.Parts.{accs_in, entries_of, panes_in, IsPartOf};
 
-use crate::hashing::HashKeys;
 use crate::opened::{OpenPanes, open_new, open_pane};
 use crate::parts::Part;
 use crate::places::Places;
 use aggregates::{Acc, Kind};
 use columns::Batch;
+use pane_hashes::HashKeys;
 use plan_model::{Numbers, Pane, WindowSpec};
 use std::alloc::{AllocError, Global};
 use std::collections::BTreeMap;

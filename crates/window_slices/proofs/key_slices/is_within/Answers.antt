@@ -2,10 +2,8 @@ use Rattle.std.proofs.Common.{◌≡◌, ℤ, ◌+ℤ◌, ◌≤ℤ◌, ◌&&◌
 use Rattle.std.specs.Prelude.{int_le, int_lt}
 use Rattle.std.specs.Int.{w64, w128}
 use Rattle.std.proofs.lemmas.Int.{to_z-of_z, ints}
+use Rattle.window_slices.proofs.Wide.{wider}
 use Rattle.window_slices.proofs.key_slices.is_within.Goals as goal
-
-wider : (z : ℤ) → FitsSigned w64 z → FitsSigned w128 z
-wider z h = grind (arith, ints)
 
 sum_fits : (a b : ℤ) → FitsSigned w64 a → FitsSigned w64 b → FitsSigned w128 (a +ℤ b)
 sum_fits a b h k = grind (arith, ints)

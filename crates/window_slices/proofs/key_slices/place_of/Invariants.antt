@@ -1,4 +1,4 @@
-use Rattle.std.proofs.Common.{◌≡◌, ℕ, false, ◌≤◌, length, drop}
+use Rattle.std.proofs.Common.{◌≡◌, false, ◌≤◌, length, drop}
 use Rattle.window_slices.specs.KeySlices.{has_start}
 use Rattle.window_slices.proofs.key_slices.place_of.Given as goal
 

@@ -1,11 +1,9 @@
-use Rattle.std.proofs.Common.{◌≡◌, ℤ, pos, negsuc, ◌<◌, ◌-ℤ◌, ◌≤ℤ◌, rules, arith, refl, ap, subst, ◌∙◌, FitsSigned, to_z, of_z}
+use Rattle.std.proofs.Common.{◌≡◌, ℤ, pos, negsuc, ◌<◌, ◌-ℤ◌, ◌≤ℤ◌, arith, refl, subst, ◌∙◌, FitsSigned}
 use Rattle.std.specs.Prelude.{unsigned_abs}
 use Rattle.std.specs.Int.{w64, w128, int_rem_euclid, IsNonNegative}
 use Rattle.std.proofs.lemmas.Int.{to_z-of_z, ints}
+use Rattle.window_slices.proofs.Wide.{wider, widened}
 use Rattle.window_slices.proofs.key_slices.rest_of.Goals as goal
-
-wider : (z : ℤ) → FitsSigned w64 z → FitsSigned w128 z
-wider z h = grind (arith, ints)
 
 less_fits : (a b : ℤ) → FitsSigned w64 a → FitsSigned w64 b → FitsSigned w128 (a -ℤ b)
 less_fits a b h k = grind (arith, ints)
@@ -30,8 +28,7 @@ returns-in-None-clause-value c =
     let wide_by : FitsSigned w128 step = wider step by in
     let less : FitsSigned w128 (x -ℤ offset) = less_fits x offset number off in
     let is : rest ≡ int_rem_euclid (x -ℤ offset) step = c.rem_euclid-in-None.ensures.value ∙ simp to_z-of_z refl in
-    let held : to_z w128 (of_z w128 (to_z w64 (of_z w64 step))) ≡ step = ap (λ (z : ℤ). to_z w128 (of_z w128 z)) (to_z-of_z w64 step by) ∙ to_z-of_z w128 step wide_by in
-    let high = subst (λ (n : ℤ). unsigned_abs rest < unsigned_abs n) held c.rem_euclid-in-None.ensures.upper_bound in
+    let high = subst (λ (n : ℤ). unsigned_abs rest < unsigned_abs n) (widened step by) c.rem_euclid-in-None.ensures.upper_bound in
     let fits : FitsSigned w64 rest = rest_fits rest step c.rem_euclid-in-None.ensures.lower_bound high c.requires by in
     let wide_fits : FitsSigned w128 rest = wider rest fits in
     simp to_z-of_z is

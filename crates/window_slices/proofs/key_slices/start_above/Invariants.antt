@@ -1,7 +1,12 @@
-use Rattle.std.proofs.Common.{◌≡◌, ◌<ℤ◌, true}
+use Rattle.std.proofs.Common.{◌≡◌, ◌<ℤ◌, true, take}
 use Rattle.std.specs.Prelude.{IfSome}
-use Rattle.window_slices.specs.KeySlices.{has_start}
+use Rattle.std.specs.List.{All}
+use Rattle.window_slices.specs.declared.key_slices.Slice.{Slice}
+use Rattle.window_slices.specs.KeySlices.{has_start, IsFrom}
 use Rattle.window_slices.proofs.key_slices.start_above.Given as goal
 
 abbrev pub invariant-loop-slice : goal.invariant-loop-slice
-invariant-loop-slice l = IfSome l.found (λ b. (l.start <ℤ b) × (has_start b l.slices ≡ true))
+invariant-loop-slice l = record {
+  there : IfSome l.found (λ b. (l.start <ℤ b) × (has_start b l.slices ≡ true));
+  least : All (λ (x : Slice). l.start <ℤ x.start → IsFrom l.found x.start) (take l.slice-index l.slices);
+}

@@ -14,6 +14,7 @@ use Rattle.window_slices.specs.declared.key_slices.Slice.{Slice}
 use Rattle.window_slices.specs.KeySlices.{IsCounted, IsSliceOf, acc_with, slices_of, slices_total}
 use Rattle.window_slices.specs.Spans.{in_spans, keyed_at, span_start}
 use Rattle.window_slices.proofs.SpanDrops.{IsInSpan, in_its_span}
+use Rattle.window_slices.proofs.Wide.{widened}
 use Rattle.window_slices.proofs.SpanTotals.{in_both, few_second, few_both, total_of, second_alone, first_alone, both_merged}
 use Rattle.window_slices.proofs.spans.pane_total.Goals as goal
 use Rattle.window_slices.proofs.spans.pane_total.Goals.{in-Some-second, in_default-second}
@@ -24,8 +25,7 @@ end_fits s size x below above sized small fits = grind (arith, ints)
 wide : (size : ℤ) → pos 1 ≤ℤ size → size ≤ℤ pos 1099511627776 → to_z w128 (of_z w128 (to_z w64 (of_z w64 size))) ≡ size
 wide size sized small =
     let fits : FitsSigned w64 size = grind (arith, ints) in
-    let more : FitsSigned w128 size = grind (arith, ints) in
-    ap (λ (x : ℤ). to_z w128 (of_z w128 x)) (to_z-of_z w64 size fits) ∙ to_z-of_z w128 size more
+    widened size fits
 
 -- the number at which the second span begins, as it is held
 abbrev held_end : ℤ → ℤ → ℤ

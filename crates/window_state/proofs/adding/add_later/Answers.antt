@@ -4,8 +4,9 @@ use Rattle.std.specs.Int.{w64, w128}
 use Rattle.std.proofs.lemmas.Int.{to_z-of_z, ints}
 use Rattle.plain_data.specs.Record.{Record, at}
 use Rattle.plan_model.specs.declared.spec.WindowSpec.{WindowSpec}
+use Rattle.window_slices.proofs.Facts.{widened}
 use Rattle.window_state.specs.State.{OpenWindows}
-use Rattle.window_state.proofs.SliceFits.{none_later, stays, wide_is}
+use Rattle.window_state.proofs.SliceFits.{none_later, stays}
 use Rattle.window_state.proofs.adding.add_later.Goals as goal
 
 -- where a time lies before a number, so does the start of each of its windows
@@ -20,8 +21,7 @@ returns-then-time-windows-clause-added c =
     let fits : FitsSigned w64 c.value-time.result = search rules in
     let from_fits : FitsSigned w128 c.windows.inside.from = search rules in
     let time = c.value-time.ensures ∙ ap (λ (x : WindowSpec). at x.time r) c.window.ensures in
-    let held : to_z w128 (of_z w128 (to_z w64 (of_z w64 c.value-time.result))) ≡ t =
-    ap (λ (z : ℤ). to_z w128 (of_z w128 z)) (to_z-of_z w64 c.value-time.result fits) ∙ wide_is c.value-time.result fits ∙ time in
+    let held : to_z w128 (of_z w128 (to_z w64 (of_z w64 c.value-time.result))) ≡ t = widened c.value-time.result fits ∙ time in
     let from = to_z-of_z w128 c.windows.inside.from from_fits ∙ ap (λ (x : OpenWindows). x.from) c.windows.view_is in
     let early : int_lt t v.from ≡ true = sym (λ i. int_lt (held i) (from i)) ∙ c.if-time-windows.true in
     stays v r (λ q late. none_later v.window r c.args.first c.requires.window.operator.range c.requires.rest v.from q.start (before t v.from c.args.first early) late)

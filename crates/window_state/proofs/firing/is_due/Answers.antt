@@ -1,10 +1,8 @@
 use Rattle.std.proofs.Common.{ℤ, pos, ◌+ℤ◌, ◌-ℤ◌, rules, arith, refl, FitsSigned}
 use Rattle.std.specs.Int.{w64, w128}
 use Rattle.std.proofs.lemmas.Int.{to_z-of_z, ints}
+use Rattle.window_slices.proofs.Facts.{wider}
 use Rattle.window_state.proofs.firing.is_due.Goals as goal
-
-wider : (z : ℤ) → FitsSigned w64 z → FitsSigned w128 z
-wider z h = grind (arith, ints)
 
 sum_fits : (a b : ℤ) → FitsSigned w64 a → FitsSigned w64 b → FitsSigned w128 (a +ℤ b)
 sum_fits a b h k = grind (arith, ints)

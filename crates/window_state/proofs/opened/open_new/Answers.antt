@@ -5,12 +5,12 @@ use Rattle.std.specs.Int.RustNames.{int_le}
 use Rattle.std.proofs.lemmas.Int.{to_z-of_z}
 use Rattle.std.proofs.Math.Nat.{add-mod_right, mod-eq_of_lt}
 use Rattle.window_slices.specs.KeySlices.{has_start, has_slice}
-use Rattle.window_state.specs.Open.{has_open}
+use Rattle.window_state.specs.Open.{has_open, OpensOnly}
 use Rattle.window_state.specs.Windows.{is_pane}
 use Rattle.plan_model.specs.declared.spec.Pane.{Pane}
-use Rattle.std.proofs.lemmas.Bool.{or_right}
+use Rattle.std.proofs.lemmas.Bool.{or_left, or_right}
 use Rattle.window_state.proofs.Slides.{held, start_is}
-use Rattle.window_state.proofs.Openings.{IsSeenTo, walk, from_is, of_some, of_none_or, at_some, put_kept, has_at, back_fits, end_fits, slice_is, before_from, at_below, above_in, seen_none, seen_opened, seen_kept, seen_all, seen_from, seen_below}
+use Rattle.window_state.proofs.Openings.{IsSeenTo, walk, from_is, of_some, of_none_or, at_some, put_kept, has_at, back_fits, end_fits, slice_is, before_from, at_below, above_in, seen_none, seen_opened, only_opened, seen_kept, seen_all, seen_from, seen_below}
 use Rattle.window_state.proofs.opened.open_new.Goals as goal
 use Rattle.window_state.proofs.opened.open_new.Goals.{then-is_none_or+in_ok-open_pane, else-is_none_or}
 use Rattle.window_state.proofs.opened.open_new.Goals.{then-start-from-via-then-start-from, then-start-from-via-else-start-from+then-is_some_and}
@@ -23,6 +23,7 @@ loop-back-init c =
       high = omega (arith, k.low, k.slide_small);
       rem = mod-eq_of_lt k.low;
       still = λ q h. h;
+      only = λ q h. or_left (has_open c.args.opened.now.entries q) _ h;
       seen = seen_none w c.args.record.start c.args.record.key _ c.args.slices.now (held w.slide) (held w.size) c.args.first k c.args.opened.now.entries;
     }
 
@@ -86,6 +87,8 @@ loop-back-preserved c =
             high = high;
             rem = rem;
             still = λ q h. put_kept _ _ _ (after q) (old.still q h);
+            only = only_opened w t key (held w.slide) (held w.size) c.args.first k c.args.opened.now.entries c.loop-back.opened.entries c.if-is_none_or.opened.entries _ b old.rem c.loop-back-test.true old.only
+                begins (to_z-of_z w64 key key_fits) after;
             seen = seen_opened w t key _ xs (held w.slide) (held w.size) c.args.first k c.loop-back.opened.entries c.if-is_none_or.opened.entries _ b old.rem c.loop-back-test.true old.seen
                 begins (to_z-of_z w64 key key_fits) after;
           }
@@ -96,7 +99,7 @@ loop-back-preserved c =
           let slice_fits : FitsSigned w64 slice = search rules in
           let all_fit : (a : ℤ) → above ≡ Some a → FitsSigned w64 a = λ a e. search rules in
           let found = of_none_or above c.is_none_or.result _ (λ a. int_le end (to_z w64 (of_z w64 a))) c.is_none_or.ensures (λ a h. search (rules, tests)) x.if-is_none_or.false in
-          let has = at_some above found.0 _ c.start_above-above.ensures found.1 in
+          let has = at_some above found.0 _ c.start_above-above.ensures.there found.1 in
           let at = slice_is w t slice fits slice_fits c.slice_of-slice.ensures.value in
           let same = x.opened-is in
           let less = above_in w t start b c.requires.window c.requires.time small begins found.0 (all_fit found.0 found.1) found.2 in
@@ -104,6 +107,7 @@ loop-back-preserved c =
             high = high;
             rem = rem;
             still = λ q h. ap (λ (m : BTreeMap ℤ (Vec ℤ)). has_open m.entries q) same ∙ old.still q h;
+            only = subst (λ (m : BTreeMap ℤ (Vec ℤ)). OpensOnly w key t c.args.opened.now.entries m.entries) (sym same) old.only;
             seen = subst (λ (m : BTreeMap ℤ (Vec ℤ)). IsSeenTo w t key (to_z w128 (of_z w128 c.args.from)) m.entries xs (b + held w.slide)) (sym same)
                 (seen_kept w t key _ xs (held w.slide) (held w.size) c.args.first k c.loop-back.opened.entries b found.0 old.rem c.loop-back-test.true old.seen
                 (subst (λ (s : ℤ). (s <ℤ found.0) × (has_start found.0 xs ≡ true)) at has) less);
@@ -134,7 +138,7 @@ returns-then-start-from-clause-opened c = λ q same window late.
           let slice_fits : FitsSigned w64 slice = search rules in
           let all_fit : (a : ℤ) → below ≡ Some a → FitsSigned w64 a = λ a e. search rules in
           let found = of_some below x.is_some_and.result _ (λ a. int_le start (to_z w64 (of_z w64 a))) x.is_some_and.ensures (λ a h. search (rules, tests)) x.if-is_some_and.true in
-          let has = at_some below found.0 _ c.start_below-below.ensures found.1 in
+          let has = at_some below found.0 _ c.start_below-below.ensures.there found.1 in
           let at = slice_is w t slice fits slice_fits c.slice_of-slice.ensures.value in
           let le = at_below w t start b c.requires.window c.requires.time small begins found.0 (all_fit found.0 found.1) found.2 in
           seen_below w t key _ xs opened b seen found.0 k.slides (subst (λ (s : ℤ). (found.0 <ℤ s) × (has_start found.0 xs ≡ true)) at has) le q same window later

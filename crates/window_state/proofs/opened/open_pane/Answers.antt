@@ -28,4 +28,4 @@ returns-in-Ok-insert-clause-opened c = λ q.
     ap (λ es. has_open es q) c.in-Ok-insert.ensures.entries
     ∙ (λ i. has_open (insert_entry int_cmp (same i).entries (to_z-of_z w64 p.start start_fits i) c.push-2.new.self) q)
     ∙ opened_new c.args.opened.now.entries p q c.push-2.new.self (sym c.in_default.ensures.value)
-    (c.in_ok-push.ensures.items ∙ (λ i. c.new-keys.ensures.items i ++ to_z-of_z w64 p.key fits i ∷ []))
+    (c.in_ok-push.ensures.items ∙ (λ i. c.in_ok-keys.ensures.items i ++ to_z-of_z w64 p.key fits i ∷ []))

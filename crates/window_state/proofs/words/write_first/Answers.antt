@@ -1,12 +1,12 @@
-use Rattle.std.proofs.Common.{◌≡◌, true, ℤ, [], ◌+◌, ◌<◌, ◌≤◌, ◌∙◌, map, drop, length, get_or, sym, ap, subst, below_more, arith, rules, FitsSigned, to_z, of_z}
-use Rattle.std.specs.Int.{w64, w128}
-use Rattle.std.proofs.lemmas.Int.{to_z-of_z, ints}
+use Rattle.std.proofs.Common.{◌≡◌, true, [], ◌+◌, ◌<◌, ◌≤◌, ◌∙◌, map, drop, length, get_or, sym, ap, subst, below_more, arith, rules, FitsSigned}
+use Rattle.std.specs.Int.{w64}
 use Rattle.std.proofs.lemmas.List.{get_or_default}
 use Rattle.byte_fields.specs.Fields.{is_i64}
 use Rattle.plan_model.specs.declared.spec.Aggregate.{Aggregate}
 use Rattle.plan_model.specs.declared.spec.Aggregate.TheVariants as aggregate
 use Rattle.plan_model.specs.Aggregates.{number_of}
 use Rattle.aggregates.specs.Kinds.{kind_of, is_number}
+use Rattle.window_slices.proofs.Facts.{widened}
 use Rattle.window_state.specs.Words as words_of
 use Rattle.window_state.specs.Words.{width_of}
 use Rattle.byte_fields.proofs.Exact.{is_i64_from}
@@ -14,17 +14,12 @@ use Rattle.aggregates.proofs.Accs.{one_number}
 use Rattle.window_state.proofs.Numbers.{AgreeBelow, kind_at, kinds_from, rest_next, kinds_next, end_next, written_next, numbers_next}
 use Rattle.window_state.proofs.words.write_first.Goals as goal
 
-wide : (z : ℤ) → FitsSigned w64 z → to_z w128 (of_z w128 (to_z w64 (of_z w64 z))) ≡ z
-wide z h =
-    let wider : FitsSigned w128 z = grind (arith, ints) in
-    ap (λ y. to_z w128 (of_z w128 y)) (to_z-of_z w64 z h) ∙ to_z-of_z w128 z wider
-
 pub write_number-requires-clause-fit : goal.write_number-requires-clause-fit
 write_number-requires-clause-fit c =
     let a = get_or c.args.aggregates.now c.loop-aggregate.aggregate-index aggregate.Count in
     let r = get_or c.args.batch.now.rows c.args.row [] in
     let fits : FitsSigned w64 c.number_of_one.result = search rules in
-    let is = wide c.number_of_one.result fits ∙ c.number_of_one.ensures in
+    let is = widened c.number_of_one.result fits ∙ c.number_of_one.ensures in
     let small : is_i64 (number_of a r []) ≡ true = subst (λ z. is_i64 z ≡ true) c.number_of_one.ensures (is_i64_from c.number_of_one.result fits) in
     (1, omega arith, ap (is_number 1 (kind_of a)) is ∙ one_number a r small)
 
@@ -42,7 +37,7 @@ loop-aggregate-preserved c =
     let inside : i < length aggregates = omega arith in
     let next = ap (map f) (rest_next aggregates i inside) in
     let fits : FitsSigned w64 c.number_of_one.result = search rules in
-    let same = wide c.number_of_one.result fits ∙ c.number_of_one.ensures in
+    let same = widened c.number_of_one.result fits ∙ c.number_of_one.ensures in
     let small : is_i64 (f a) ≡ true = subst (λ z. is_i64 z ≡ true) c.number_of_one.ensures (is_i64_from c.number_of_one.result fits) in
     let width = c.width_of-at.ensures in
     let start : c.args.at + 1 ≤ at = c.loop-aggregate.invariant.start in

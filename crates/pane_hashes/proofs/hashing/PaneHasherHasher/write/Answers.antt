@@ -1,6 +1,6 @@
 use Rattle.std.proofs.Common.{take_all, rules}
 use Rattle.std.proofs.hash.Loops.{byte_more}
-use Rattle.window_state.proofs.hashing.PaneHasherHasher.write.Goals as goal
+use Rattle.pane_hashes.proofs.hashing.PaneHasherHasher.write.Goals as goal
 
 pub loop-byte-preserved : goal.loop-byte-preserved
 loop-byte-preserved c = search (rules, byte_more)

@@ -1,7 +1,7 @@
 -- The hash of panes by secret numbers: multiply, add, and take the upper half.
 use Rattle.std.specs.Prelude.{ℕ, ◌+◌, ◌*◌, ◌/◌, ◌%◌, ◌^◌, List, fold}
-use Rattle.window_state.specs.declared.hashing.HashKeys.{HashKeys}
-use Rattle.window_state.specs.declared.hashing.PaneHasher.{PaneHasher}
+use Rattle.pane_hashes.specs.declared.hashing.HashKeys.{HashKeys}
+use Rattle.pane_hashes.specs.declared.hashing.PaneHasher.{PaneHasher}
 
 -- the number that bytes are, the highest first, without what is above 64 bits
 abbrev pub number_of : List ℕ → ℕ

@@ -1,4 +1,4 @@
-//! The hash of a pane, by numbers that whoever writes an input does not know.
+//! Secret numbers, and hashes by them.
 
 use std::hash::{BuildHasher, Hasher};
 use std::io;
@@ -39,7 +39,7 @@ fn random_number<R: RandomSource>(rt: &R) -> io::Result<u128> {
 impl BuildHasher for HashKeys {
     type Hasher = PaneHasher;
 
-    ghost use Rattle.window_state.specs.Hashing.{first_hasher};
+    ghost use Rattle.pane_hashes.specs.Hashing.{first_hasher};
 
     ghost build_hasher = { first_hasher };
 
@@ -62,7 +62,7 @@ pub struct PaneHasher {
 }
 
 impl Hasher for PaneHasher {
-    ghost use Rattle.window_state.specs.Hashing.{written, finished};
+    ghost use Rattle.pane_hashes.specs.Hashing.{written, finished};
 
     ghost write = { written };
 
