@@ -17,9 +17,9 @@ use Rattle.import_copies.specs.Asking.{asked_of, Asks}
 use Rattle.import_copies.specs.Copies.{CopiesFile, CopiesWhole}
 use Rattle.import_copies.specs.Files.{Asked, TakesOne}
 use Rattle.import_copies.specs.Rows.{rule_in, RefusesRow}
-use Rattle.import_copies.specs.Known.{columns_in}
+use Rattle.known_records.specs.Known.{columns_in}
 use Rattle.import_copies.specs.declared.files.ImportRule.{ImportRule}
-use Rattle.import_copies.specs.declared.known.KnownRecords.{KnownRecords}
+use Rattle.known_records.specs.declared.known.KnownRecords.{KnownRecords}
 use Rattle.import_copies.specs.declared.taking.Source.{Source}
 
 -- the same is asked where the same columns tell records apart

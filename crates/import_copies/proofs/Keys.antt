@@ -6,7 +6,7 @@ use Rattle.std.proofs.Math.Seq.{take-append_seam}
 use Rattle.std.proofs.lemmas.List.{append_cancel_left}
 use Rattle.std.proofs.lemmas.Nat.{from_le_bytes-to_le_bytes_8}
 use Rattle.imports.specs.Rows.{column_text}
-use Rattle.import_copies.specs.Known.{field_text}
+use Rattle.known_records.specs.Known.{field_text}
 use Rattle.import_copies.specs.Told.{AreShort, KeysTell}
 
 same_size : (m n : ℕ) → m < 2 ^ 64 → n < 2 ^ 64 → bytes_low_first 0 8 m ≡ bytes_low_first 0 8 n → m ≡ n

@@ -11,12 +11,12 @@ use Rattle.import_fates.specs.declared.fate.Fate.{Fate}
 use Rattle.import_fates.proofs.Behind.{keys_behind, rows_behind}
 use Rattle.import_copies.specs.Copies.{Takes, Sorts, CopiesAll, CopiesRows}
 use Rattle.import_copies.specs.Streams.{WritesRows, rule_of}
-use Rattle.import_copies.specs.Known.{keys_in, key_in}
+use Rattle.known_records.specs.Known.{keys_in, key_in}
 use Rattle.import_copies.specs.Outcomes.{fate_of}
 use Rattle.import_copies.specs.Rows.{said_of, good_of}
 use Rattle.import_copies.specs.declared.row.GoodRow.{GoodRow}
 use Rattle.imports.specs.declared.fault.RowFault.{RowFault}
-use Rattle.import_copies.specs.declared.known.KnownRecords.{KnownRecords}
+use Rattle.known_records.specs.declared.known.KnownRecords.{KnownRecords}
 use Rattle.import_copies.specs.declared.outcome.Outcome.{Outcome}
 
 -- one more record

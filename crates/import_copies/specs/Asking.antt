@@ -4,10 +4,10 @@ use Rattle.imports.specs.Placing.{AreFields}
 use Rattle.imports.specs.Reading.{point_in}
 use Rattle.imports.specs.declared.kinds.Records.{Records}
 use Rattle.import_copies.specs.Files.{Asked}
-use Rattle.import_copies.specs.Known.{columns_in}
+use Rattle.known_records.specs.Known.{columns_in}
 use Rattle.import_copies.specs.Rows.{rule_in}
 use Rattle.import_copies.specs.declared.files.ImportRule.{ImportRule}
-use Rattle.import_copies.specs.declared.known.KnownRecords.{KnownRecords}
+use Rattle.known_records.specs.declared.known.KnownRecords.{KnownRecords}
 use Rattle.import_copies.specs.declared.taking.Source.{Source}
 
 abbrev pub asked_of : Source → Option KnownRecords → Asked

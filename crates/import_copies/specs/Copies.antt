@@ -11,10 +11,10 @@ use Rattle.imports.specs.Reading.{Rest, StandsAt, IsBegun}
 use Rattle.imports.specs.declared.kinds.Records.{Records}
 use Rattle.import_copies.specs.Asking.{Asks}
 use Rattle.import_copies.specs.Files.{Asked, TakesRecord, TakesAll, AreOfFile, HasNone}
-use Rattle.import_copies.specs.Known.{keys_in}
+use Rattle.known_records.specs.Known.{keys_in}
 use Rattle.import_copies.specs.Outcomes.{fate_of}
 use Rattle.import_copies.specs.declared.files.ImportRule.{ImportRule}
-use Rattle.import_copies.specs.declared.known.KnownRecords.{KnownRecords}
+use Rattle.known_records.specs.declared.known.KnownRecords.{KnownRecords}
 use Rattle.import_copies.specs.declared.outcome.Outcome.{Outcome}
 use Rattle.import_copies.specs.declared.row_texts.RowTexts.{RowTexts}
 use Rattle.import_copies.specs.Streams.{WritesRows, WritesAll, rule_of}

@@ -9,7 +9,7 @@ use Rattle.imports.specs.declared.fault.RowFault.{RowFault}
 use Rattle.imports.specs.declared.kinds.Records.{Records}
 use Rattle.imports.specs.declared.picking.Pick.{Pick}
 use Rattle.imports.specs.declared.row.RowRule.{RowRule}
-use Rattle.import_copies.specs.Known.{key_by}
+use Rattle.known_records.specs.Known.{key_by}
 use Rattle.import_copies.specs.Rows.{said_of, rule_in, HasRow, RefusesRow}
 use Rattle.import_copies.specs.declared.row.GoodRow.{GoodRow}
 use Rattle.import_copies.specs.declared.taking.Source.{Source}

@@ -8,8 +8,8 @@ use Rattle.imports.specs.declared.fault.RowFault.{RowFault}
 use Rattle.imports.specs.declared.fault.RowFault.TheVariants.{Place}
 use Rattle.imports.specs.declared.row.RowRule.{RowRule}
 use Rattle.plan_model.specs.Windows.{is_time}
-use Rattle.import_copies.specs.Known.{key_in}
-use Rattle.import_copies.specs.declared.known.KnownRecords.{KnownRecords}
+use Rattle.known_records.specs.Known.{key_in}
+use Rattle.known_records.specs.declared.known.KnownRecords.{KnownRecords}
 use Rattle.import_copies.specs.declared.row.GoodRow.{GoodRow}
 use Rattle.import_copies.specs.declared.taking.Source.{Source}
 

@@ -2,7 +2,7 @@
 use Rattle.std.specs.Prelude.{◌≡◌, ◌<◌, ◌^◌, ◌↔◌, ℕ, List, length, map}
 use Rattle.std.specs.List.{All}
 use Rattle.imports.specs.Rows.{column_text}
-use Rattle.import_copies.specs.Known.{key_said}
+use Rattle.known_records.specs.Known.{key_said}
 
 -- the texts of columns in a record whose fields stand at these places
 abbrev pub texts_said : List ℕ → List ℕ → List (List ℕ) → List (List ℕ)

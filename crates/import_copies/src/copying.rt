@@ -5,9 +5,8 @@ ghost use Rattle.entry_texts.specs.Partitions.{Row};
 ghost use Rattle.import_copies.specs.Copies.{CopiesFile};
 ghost use Rattle.import_copies.specs.Streams.{WritesRows, rule_of, dealing_of};
 ghost use Rattle.import_copies.specs.Asking.{asked_of};
-ghost use Rattle.import_copies.specs.Known.{keys_in};
+ghost use Rattle.known_records.specs.Known.{keys_in};
 
-use crate::known::KnownRecords;
 use crate::ledger::Ledger;
 use crate::outcome::fate_of;
 use crate::partition::write_much;
@@ -15,6 +14,7 @@ use crate::row_texts::RowTexts;
 use crate::taking::{Source, take_record};
 use import_fates::FateCounts;
 use imports::{Records, RowFault, RowNumbers};
+use known_records::KnownRecords;
 use name_table::NameTable;
 use std::alloc::Global;
 use std::io::{Read, Write};

@@ -3,11 +3,10 @@
 ghost use Rattle.std.specs.Prelude.{◌≡◌, ◌<◌, ℕ, List, Option, [], IfOk, OnOk, map};
 ghost use Rattle.entry_texts.specs.Partitions.{Row};
 ghost use Rattle.import_copies.specs.Copies.{CopiesAll, CopiesWhole, WritesSorted};
-ghost use Rattle.import_copies.specs.Known.{keys_in, columns_in};
+ghost use Rattle.known_records.specs.Known.{keys_in, columns_in};
 ghost use Rattle.import_copies.specs.Streams.{WritesRows, rule_of, dealing_of};
 
 use crate::copying::copy_records;
-use crate::known::KnownRecords;
 use crate::ledger::Ledger;
 use crate::partition::write_end;
 use crate::row_texts::RowTexts;
@@ -20,6 +19,7 @@ use import_fates::FateCounts;
 use import_tellings::{refused_file, refused_row};
 use import_words::{ImportFault, files_of};
 use imports::{FirstHeader, Records, RowFault, Separator, fields_of};
+use known_records::KnownRecords;
 use name_table::NameTable;
 use plan_model::SourceSpec;
 use std::alloc::Global;

@@ -7,7 +7,6 @@ mod comparisons;
 mod copying;
 mod files;
 mod firsts;
-mod known;
 pub mod laws;
 mod ledger;
 mod outcome;
@@ -18,5 +17,5 @@ mod row_texts;
 mod taking;
 
 pub use files::{ImportRule, OnceRule, import_files, import_partition};
-pub use known::KnownRecords;
+pub use known_records::KnownRecords;
 pub use ledger::{Ledger, LedgerWants, Places};

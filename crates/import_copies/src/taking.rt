@@ -6,12 +6,11 @@ ghost use Rattle.import_copies.specs.Copies.{Takes, TakesNext};
 ghost use Rattle.imports.specs.Reading.{Rest, StandsAt};
 ghost use Rattle.import_copies.specs.Asking.{asked_of};
 ghost use Rattle.import_copies.specs.Files.{ReadsRow};
-ghost use Rattle.import_copies.specs.Known.{keys_in, columns_in};
+ghost use Rattle.known_records.specs.Known.{keys_in, columns_in};
 ghost use Rattle.csv.specs.Records.{fields_of};
 ghost use Rattle.import_copies.specs.Rows.{good_of, rule_in, MakesRow};
 ghost use Rattle.import_copies.specs.Streams.{WritesRows, rule_of, dealing_of};
 
-use crate::known::{KnownRecords, known_before};
 use crate::outcome::{Outcome, is_final};
 use crate::partition::put;
 use crate::row::{GoodRow, good_row};
@@ -21,6 +20,7 @@ use csv::ByteRecord;
 use decimal_texts::DecimalPoint;
 use import_columns::Column;
 use imports::{Pick, Records, RowFault, RowNumbers, RowRule, fill_row};
+use known_records::{KnownRecords, known_before};
 use name_table::NameTable;
 use std::io::Read;
 

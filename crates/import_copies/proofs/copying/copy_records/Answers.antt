@@ -7,7 +7,7 @@ use Rattle.import_copies.specs.Copies.{TakesNext}
 use Rattle.import_copies.specs.Files.{Asked, TakesRecord}
 use Rattle.import_copies.specs.Streams.{rule_of}
 use Rattle.import_copies.proofs.Each.{same_asked}
-use Rattle.import_copies.specs.Known.{keys_in}
+use Rattle.known_records.specs.Known.{keys_in}
 use Rattle.import_copies.specs.declared.outcome.Outcome.{Outcome}
 use Rattle.import_copies.proofs.Sorting.{one_more, written_on, no_more}
 use Rattle.import_copies.proofs.copying.copy_records.Goals as goal

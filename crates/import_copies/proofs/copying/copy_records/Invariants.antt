@@ -6,7 +6,7 @@ use Rattle.import_copies.specs.Asking.{asked_of}
 use Rattle.import_copies.specs.Copies.{Sorts}
 use Rattle.import_copies.specs.Streams.{WritesRows}
 use Rattle.import_copies.specs.Files.{TakesEach}
-use Rattle.import_copies.specs.Known.{keys_in, columns_in}
+use Rattle.known_records.specs.Known.{keys_in, columns_in}
 use Rattle.import_copies.specs.Streams.{rule_of, dealing_of}
 use Rattle.import_copies.proofs.copying.copy_records.Given as goal
 

@@ -1,7 +1,7 @@
 use Rattle.std.proofs.Common.{refl, subst, sym, ◌∙◌}
 use Rattle.imports.specs.Placing.{AreFields, IsPlaced}
 use Rattle.imports.specs.Reading.{Rest, StandsAt}
-use Rattle.import_copies.specs.Known.{keys_in, columns_in}
+use Rattle.known_records.specs.Known.{keys_in, columns_in}
 use Rattle.import_copies.specs.Streams.{rule_of}
 use Rattle.import_copies.proofs.Each.{same_placed, whole}
 use Rattle.import_copies.proofs.files.copy_rows.Goals as goal

@@ -1,5 +1,5 @@
 use Rattle.std.proofs.Common.{refl, [], ◌∙◌, map}
-use Rattle.import_copies.specs.Known.{keys_in}
+use Rattle.known_records.specs.Known.{keys_in}
 use Rattle.import_copies.proofs.Sorting.{one_more_file}
 use Rattle.import_copies.proofs.files.import_partition.Goals as goal
 

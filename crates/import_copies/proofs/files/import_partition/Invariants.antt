@@ -1,6 +1,6 @@
 use Rattle.std.proofs.Common.{◌≡◌, map}
 use Rattle.import_copies.specs.Copies.{CopiesRows}
-use Rattle.import_copies.specs.Known.{keys_in}
+use Rattle.known_records.specs.Known.{keys_in}
 use Rattle.import_copies.specs.Streams.{rule_of, dealing_of}
 use Rattle.import_copies.proofs.files.import_partition.Given as goal
 

@@ -3,7 +3,7 @@ use Rattle.std.specs.Prelude.{ℕ, List, [], ◌++◌, length, Option, Some, Non
 use Rattle.std.specs.Int.{bytes_low_first}
 use Rattle.std.specs.List.{flat_map}
 use Rattle.imports.specs.Rows.{column_text}
-use Rattle.import_copies.specs.declared.known.KnownRecords.{KnownRecords}
+use Rattle.known_records.specs.declared.known.KnownRecords.{KnownRecords}
 
 -- the text of a field behind its length
 abbrev pub field_text : List ℕ → List ℕ

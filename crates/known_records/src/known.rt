@@ -5,7 +5,7 @@ ghost use Rattle.csv.specs.Records.{fields_of};
 ghost use Rattle.import_fates.specs.Fates.{is_known, keys_seen};
 ghost use Rattle.imports.specs.Picks.{text_at};
 ghost use Rattle.imports.specs.Rows.{place_said};
-ghost use Rattle.import_copies.specs.Known.{field_text, key_said, keys_in, key_in, columns_in};
+ghost use Rattle.known_records.specs.Known.{field_text, key_said, keys_in, key_in, columns_in};
 
 use csv::ByteRecord;
 use imports::RowFault;
@@ -83,7 +83,7 @@ impl KnownRecords {
 /// # Errors
 ///
 /// `Memory`.
-pub(crate) fn known_before(
+pub fn known_before(
     known: &mut Option<KnownRecords>,
     places: &[usize],
     fields: &ByteRecord,
