@@ -1,5 +1,5 @@
 -- Lines of rows in a text.
-use Rattle.std.proofs.Common.{◌≡◌, ◌≢◌, ℕ, suc, ℤ, pos, negsuc, ◌+◌, ◌*◌, ◌^◌, ◌<◌, ◌≤◌, true, false, List, [], ◌∷◌, ◌++◌, length, get_or, take, drop, Option, Some, None, IfSome, Result, Ok, Err, FitsSigned, rules, arith, refl, sym, ap, subst, ◌∙◌, append_assoc, length-append}
+use Rattle.std.proofs.Common.{◌≡◌, ◌≢◌, ℕ, suc, ℤ, pos, negsuc, ◌+◌, ◌-◌, ◌*◌, ◌^◌, ◌<◌, ◌≤◌, true, false, List, [], ◌∷◌, ◌++◌, length, get_or, take, drop, Option, Some, None, IfSome, Result, Ok, Err, FitsSigned, rules, arith, refl, sym, ap, subst, ◌∙◌, append_assoc, length-append, take-take}
 use Rattle.std.specs.Prelude.{IsErr, IsErrAnd}
 use mir.Syntax.{w64, w128}
 use Rattle.std.specs.Fmt.{decimal, signed_decimal}
@@ -9,6 +9,7 @@ use Rattle.std.specs.Io.KnownBytes.{Consumes}
 use Rattle.std.specs.Str.Parse.{AllDigits}
 use Rattle.std.proofs.lemmas.Bool.{false≢true}
 use Rattle.std.proofs.lemmas.Fmt.{decimal_is_IsNumeral_wide, length_signed_le}
+use Rattle.std.proofs.Math.Seq.{take-append_seam}
 use Rattle.std.proofs.lemmas.List.{get_or-take, length-take}
 use Rattle.std.proofs.lemmas.List.Concat.{flat_map-cons}
 use Rattle.std.proofs.lemmas.List.Elements.{All-nil, All-cons, All-head, All-tail, All-append, All-get_or}
@@ -19,8 +20,8 @@ use Rattle.plan_model.specs.declared.spec.Row.{Row}
 use Rattle.plan_model.specs.Rows.{pane_of}
 use Rattle.row_lines.specs.Text.{spaced, text_of_row}
 use Rattle.row_lines.specs.Numbers.{text_of_numbers}
-use Rattle.row_lines.specs.Rows.{IsRow, numbers_in, place_of}
-use Rattle.row_lines.specs.Lines.{IsOneLine, line_in}
+use Rattle.row_lines.specs.Rows.{IsRow, IsPlaceOf, IsLineFront, numbers_in, place_of}
+use Rattle.row_lines.specs.Lines.{IsOneLine, IsPlace, line_in}
 use Rattle.row_lines.specs.Sequences.{has_width, is_after, rows_left, width_of, last_of, lines_of, HasNoRow, HasEarlyRow, IsLine, MayTake, Takes, IsNext}
 use Rattle.row_lines.specs.declared.place.RowPlace.{RowPlace}
 use Rattle.row_lines.specs.declared.rows.RowLines.{RowLines}
@@ -103,6 +104,21 @@ first_line (x ∷ a) (y ∷ b) r s a_one b_one e =
 behind : (t rest : List ℕ) → get_or (t ++ rest) (length t) 0 ≡ get_or rest 0 0
 behind [] rest = refl
 behind (x ∷ t) rest = behind t rest
+
+-- the place of the line feed behind a row's line in front of a text, and the text before it
+pub feed_behind : (text rest : List ℕ) (place : RowPlace) → IsLineFront text place rest
+    → IsPlace (take 391 text) (Some (length text - length rest - 1)) × IsPlaceOf (take (length text - length rest - 1) text) place
+feed_behind text rest place h =
+    let line = h.0 in
+    let long : length text ≡ length line + suc (length rest) = ap length h.2 ∙ length-append line (10 ∷ rest) in
+    let count : length text - length rest - 1 ≡ length line = omega arith in
+    let short : length line ≤ 390 = subst (λ (l : List ℕ). length l ≤ 390) (sym h.1.line_is) (row_length h.1.row h.1.is) in
+    let front : take (length line) text ≡ line = ap (λ l. take (length line) l) h.2 ∙ take-append_seam line (10 ∷ rest) in
+    let within = length-take 391 text in
+    let before : take (length line) (take 391 text) ≡ line = take-take (length line) 391 text (omega arith) ∙ front in
+    let one : IsOneLine line = subst IsOneLine (sym h.1.line_is) (row_no_feed h.1.row h.1.is) in
+    let at : get_or (take 391 text) (length line) 0 ≡ 10 = get_or-take 391 text (length line) 0 (omega arith) ∙ ap (λ l. get_or l (length line) 0) h.2 ∙ behind line (10 ∷ rest) in
+    subst (λ n. IsPlace (take 391 text) (Some n) × IsPlaceOf (take n text) place) (sym count) ((omega arith, subst IsOneLine (sym before) one, at), subst (λ l. IsPlaceOf l place) (sym front) h.1)
 
 -- no line, no row
 no_row_soon : (width : Option ℕ) (text : List ℕ) → HasNoLine text → HasNoRow width text

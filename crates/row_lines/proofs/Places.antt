@@ -48,6 +48,12 @@ consumed_front : (rem : Option (List ℕ)) (x line rest : List ℕ) → x ≡ li
 consumed_front None x line rest e = tt
 consumed_front (Some xs) x line rest e = ap (λ l. l ++ xs) e ∙ append_assoc line rest xs
 
+-- the line in front of a place
+pub line_before : (held : List ℕ) (end place : ℕ) → slice_range held end (end + (place + 1) - 1) ≡ take place (drop end held)
+line_before held end place =
+    let count : end + (place + 1) - 1 - end ≡ place = omega arith in
+    ap (λ n. take n (drop end held)) count
+
 -- a line is taken
 pub took_line : (rem : Option (List ℕ)) (held : List ℕ) (end place : ℕ) → IsPlace (take 391 (drop end held)) (Some place)
     → Consumes (option_map (λ xs. drop end held ++ xs) rem) (option_map (λ xs. drop (end + (place + 1)) held ++ xs) rem) (slice_range held end (end + (place + 1) - 1) ++ 10 ∷ [])
@@ -58,8 +64,7 @@ took_line rem held end place h =
     let lt : place < length x = omega (arith, h.0) in
     let low : place < 391 = omega (arith, h.0) in
     let at : get_or x place 0 ≡ 10 = sym (get_or-take 391 x place 0 low) ∙ h.2 in
-    let count : end + (place + 1) - 1 - end ≡ place = omega arith in
-    let line : slice_range held end (end + (place + 1) - 1) ≡ take place x = ap (λ n. take n x) count in
+    let line : slice_range held end (end + (place + 1) - 1) ≡ take place x = line_before held end place in
     let front : take place (take 391 x) ≡ take place x = take-take place 391 x (omega arith) in
     let behind : drop (suc place) x ≡ drop (end + (place + 1)) held = drop_behind end place held in
     let parts : x ≡ (take place x ++ 10 ∷ []) ++ drop (end + (place + 1)) held =

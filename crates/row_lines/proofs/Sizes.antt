@@ -11,17 +11,17 @@ use Rattle.row_lines.specs.Numbers.{IsSizeOf}
 use Rattle.row_lines.proofs.Parses.{own}
 
 -- digits without a zero before others are how their number is printed
-pub printed_size : (ds : List ℕ) (n : ℕ) → 0 < length ds → (get_or ds 0 0 ≡ 48 → length ds ≡ 1) → AllDigits 10 ds → n ≡ digits_value 10 ds → n < 2 ^ 64 → ds ≡ decimal n
+pub printed_size : (ds : List ℕ) (n : ℕ) → 0 < length ds → (get_or ds 0 0 ≡ 48 → length ds ≡ 1) → AllDigits 10 ds → n ≡ digits_value 10 ds → n < 2 ^ 63 → ds ≡ decimal n
 printed_size ds n some zero digits is small = sym (decimal-digits_value own ds digits some zero (omega arith)) ∙ ap decimal (sym is)
 
--- up to 19 digits in front of a text write a number of 64 bits, which is as it was read
-pub size_read : (text : List ℕ) (count size : ℕ) → count ≡ 0 + digits_len (drop 0 text) → count ≤ 19 → size ≡ (0 * 10 ^ (count - 0) + digits_value 10 (take (count - 0) (drop 0 text))) % 2 ^ 64 → IsSizeOf (take count text) size
+-- up to 18 digits in front of a text write a number of 63 bits, which is as it was read
+pub size_read : (text : List ℕ) (count size : ℕ) → count ≡ 0 + digits_len (drop 0 text) → count ≤ 18 → size ≡ (0 * 10 ^ (count - 0) + digits_value 10 (take (count - 0) (drop 0 text))) % 2 ^ 64 → IsSizeOf (take count text) size
 size_read text count size counted few read =
     let all : AllDigits 10 (take count text) = AllDigits-digits_len text count (omega (arith, counted)) in
-    let short : length (take count text) ≤ 19 = omega (arith, length-take count text) in
-    let less : digits_value 10 (take count text) < 10 ^ 19 = lt_of_lt_of_le (digits_value-lt 10 (take count text) all) (pow-le-pow_right (lit< tt) short) in
-    let small : digits_value 10 (take count text) < 2 ^ 64 = omega (arith, less) in
+    let short : length (take count text) ≤ 18 = omega (arith, length-take count text) in
+    let less : digits_value 10 (take count text) < 10 ^ 18 = lt_of_lt_of_le (digits_value-lt 10 (take count text) all) (pow-le-pow_right (lit< tt) short) in
+    let small : digits_value 10 (take count text) < 2 ^ 63 = omega (arith, less) in
     let cut : count - 0 ≡ count = omega arith in
     let sum : 0 * 10 ^ (count - 0) + digits_value 10 (take (count - 0) text) ≡ digits_value 10 (take count text) = rw cut (omega arith) in
     let is : size ≡ digits_value 10 (take count text) = read ∙ ap (λ n. n % 2 ^ 64) sum ∙ omega (arith, small) in
-    (all, is, subst (λ n. n < 2 ^ 64) (sym is) small)
+    (all, is, subst (λ n. n < 2 ^ 63) (sym is) small)

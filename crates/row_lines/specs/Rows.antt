@@ -1,5 +1,5 @@
 -- Rows, as their lines tell them.
-use Rattle.std.specs.Prelude.{◌≡◌, ◌≢◌, ℕ, ℤ, ◌<◌, ◌≤◌, List, ◌∷◌, length, Option, Some, None, FitsSigned}
+use Rattle.std.specs.Prelude.{◌≡◌, ◌≢◌, ℕ, ℤ, ◌<◌, ◌≤◌, List, ◌∷◌, ◌++◌, length, Option, Some, None, FitsSigned}
 use Rattle.std.specs.Int.{w64, w128}
 use Rattle.std.specs.List.{All}
 use Rattle.plan_model.specs.declared.limits.TheConstants.{MOST_AGGREGATES}
@@ -43,7 +43,6 @@ pub record IsPlaceOf (line : List ℕ) (place : RowPlace) : Type 0 where
   pub line_is : line ≡ text_of_row row
   pub place_is : place ≡ place_of row
 
--- the place of the row whose line this is, without its line feed, or that it is of none
-abbrev pub GivesPlace : List ℕ → Option RowPlace → Type 0
-GivesPlace line (Some place) = IsPlaceOf line place
-GivesPlace line None = GivesRow line None
+-- the line of a row at this place stands in front of a text, with its line feed, and this behind it
+abbrev pub IsLineFront : List ℕ → RowPlace → List ℕ → Type 0
+IsLineFront text place rest = (line : List ℕ) × IsPlaceOf line place × (text ≡ line ++ 10 ∷ rest)

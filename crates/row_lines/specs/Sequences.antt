@@ -6,7 +6,7 @@ use Rattle.plan_model.specs.declared.spec.Pane.{Pane}
 use Rattle.plan_model.specs.declared.spec.Row.{Row}
 use Rattle.plan_model.specs.Rows.{pane_of, pane_cmp}
 use Rattle.row_lines.specs.Text.{text_of_row, line_of}
-use Rattle.row_lines.specs.Rows.{IsRow, place_of}
+use Rattle.row_lines.specs.Rows.{IsRow, IsPlaceOf, place_of}
 use Rattle.row_lines.specs.Lines.{lines_left, line_in, IsOneLine}
 use Rattle.row_lines.specs.declared.lines.Lines.{Lines}
 use Rattle.row_lines.specs.declared.place.RowPlace.{RowPlace}
@@ -116,6 +116,25 @@ IsLineCounted old new (Ok true) = line_number new ≡ counted (line_number old)
 IsLineCounted old new (Ok false) = line_number new ≡ line_number old
 IsLineCounted old new (Err f) = IsCounted old new (Err f)
 
+-- the line of a row at this place was read
+pub record IsPlaceRead {R : Type 0} (remaining : R → Option (List ℕ)) (old new : RowLines R) (place : RowPlace) : Type 0 where
+  pub line : IsLine remaining old new
+  pub number : line_number new ≡ counted (line_number old)
+  pub place_is : IsPlaceOf (line_in (lines_of new)) place
+
+-- the place of the row of the next line, or that there is none, or why there is no row
+abbrev pub GivesPlaceRead : {R : Type 0} → (R → Option (List ℕ)) → RowLines R → RowLines R → Result (Option RowPlace) RowsFault → Type 0
+GivesPlaceRead remaining old new (Ok (Some place)) = IsPlaceRead remaining old new place
+GivesPlaceRead remaining old new (Ok None) = IsAtEnd (rows_left remaining old)
+GivesPlaceRead remaining old new (Err f) = IsNext remaining old new (Err f)
+
+-- nothing was read
+pub record IsAsBefore {R : Type 0} (old new : RowLines R) : Type 0 where
+  pub lines : lines_of new ≡ lines_of old
+  pub width : width_of new ≡ width_of old
+  pub last : last_of new ≡ last_of old
+  pub number : line_number new ≡ line_number old
+
 -- a row at a place may be the next one, or why it is refused
 abbrev pub Admits : Option ℕ → Option Pane → RowPlace → Result (Unit {0}) RowsFault → Type 0
 Admits width last place (Ok done) = (has_width width place.width ≡ true) × (is_after last place.pane ≡ true)
@@ -151,10 +170,6 @@ Takes old new (Err fault.Order) =
     (row : Row) × IsRow row × (has_width (width_of old) (length row.values) ≡ true) × (is_after (last_of old) (pane_of row) ≡ false) × (line_in (lines_of old) ≡ text_of_row row)
 Takes old new (Err fault.Read) = ⊥
 Takes old new (Err fault.Memory) = Unit {0}
-
-abbrev pub TakesPlace : {R : Type 0} → RowLines R → RowLines R → Result RowPlace RowsFault → Type 0
-TakesPlace old new (Ok place) = (row : Row) × IsTaken old new row × (place ≡ place_of row)
-TakesPlace old new (Err f) = Takes old new (Err f)
 
 -- a fault of reading
 abbrev pub IsReadFault : RowsFault → Type 0

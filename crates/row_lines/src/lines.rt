@@ -138,6 +138,13 @@ impl<R: Read + Drop> Lines<R> {
         memchr(b'\n', &held[..held.len().min(LONGEST_LINE)])
     }
 
+    /// What is held behind the line.
+    pub(crate) fn held(&self) -> &[u8]
+        ensures { result.now ≡ held_of self.now }
+    {
+        &self.held[self.end..]
+    }
+
     /// How many bytes are held behind the line.
     fn count(&self) -> usize
         ensures { result ≡ length (held_of self.now) }
@@ -161,9 +168,10 @@ impl<R: Read + Drop> Lines<R> {
     }
 
     /// Goes on to the line that ends at a place behind this one.
-    fn take_line(&mut self, place: usize)
+    pub(crate) fn take_line(&mut self, place: usize)
         requires { IsPlace (take LONGEST_LINE (held_of self.old)) (Some place) }
-        ensures { IsStep Step.Line (lines_left R.remaining self.old) (lines_left R.remaining self.new) (line_in self.new) }
+        ensures line { line_in self.new ≡ take place (held_of self.old) }
+        ensures step { IsStep Step.Line (lines_left R.remaining self.old) (lines_left R.remaining self.new) (line_in self.new) }
     {
         let start = self.end;
         self.end = start + (place + 1);

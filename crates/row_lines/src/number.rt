@@ -1,16 +1,16 @@
 //! Numbers in decimal, as rows have them.
 
-ghost use Rattle.std.specs.Prelude.{◌≡◌, ◌^◌, ◌<◌, ◌≤◌, ◌∷◌, ◌++◌, FitsSigned, IfSome, IsTrue, length, take, slice_index};
+ghost use Rattle.std.specs.Prelude.{◌≡◌, ◌≢◌, false, ◌<◌, ◌≤◌, ◌∷◌, ◌++◌, FitsSigned, IfSome, IsTrue, length, take, slice_index};
 ghost use Rattle.std.specs.Int.{w64};
-ghost use Rattle.std.specs.Fmt.{decimal, signed_decimal};
-ghost use Rattle.row_lines.specs.Numbers.{GivesNumber, IsSizeOf};
+ghost use Rattle.std.specs.Fmt.{signed_decimal};
+ghost use Rattle.row_lines.specs.Numbers.{GivesNumber, IsNumberFront, IsSizeFront, IsSizeOf};
 
 use core::dec2flt::read_digits;
 use itoa::Buffer;
 use std::str;
 
-/// The most digits whose number surely fits 64 bits: those of no number of 64 bits with a sign are more.
-const MOST_DIGITS: usize = 19;
+/// The most digits that are read as a number of 64 bits: with a sign or without one, each such number fits.
+const MOST_DIGITS: usize = 18;
 
 /// Whether there are digits, and no zero stands before others.
 #[inline(always)]
@@ -23,23 +23,23 @@ fn are_plain(digits: &[u8]) -> bool
 
 /// The number of so many digits in front of a text, and what stands behind them, if no zero stands before others.
 #[inline(always)]
-fn with_rest(size: u64, text: &[u8], count: usize) -> Option<(u64, &[u8])>
+fn with_rest(size: u64, text: &[u8], count: usize) -> Option<(i64, &[u8])>
     requires within { count ≤ length text.now }
     requires size { IsSizeOf (take count text.now) size }
-    ensures { IfSome result (λ front. (front.0 < 2 ^ 64) × (text.now ≡ decimal front.0 ++ front.1.now)) }
+    ensures { IfSome result (λ front. IsSizeFront text.now front.0 front.1.now) }
 {
     let (digits, rest) = text.split_at(count);
     if are_plain(digits) {
-        Some((size, rest))
+        Some((size as i64, rest))
     } else {
         None
     }
 }
 
-/// The number of 64 bits without a sign that is printed in front of a text, and what stands behind its digits.
+/// The number without a sign that is printed in front of a text, and what stands behind its digits.
 #[inline(always)]
-fn size_front(text: &[u8]) -> Option<(u64, &[u8])>
-    ensures { IfSome result (λ front. (front.0 < 2 ^ 64) × (text.now ≡ decimal front.0 ++ front.1.now)) }
+fn size_front(text: &[u8]) -> Option<(i64, &[u8])>
+    ensures { IfSome result (λ front. IsSizeFront text.now front.0 front.1.now) }
 {
     let (count, size) = read_digits(text, 0, 0);
     if MOST_DIGITS < count {
@@ -48,47 +48,42 @@ fn size_front(text: &[u8]) -> Option<(u64, &[u8])>
     with_rest(size, text, count)
 }
 
-/// The number of 64 bits below zero that is printed as a hyphen and the digits in front of a text, and what stands behind them.
+/// Whether the first digit is a zero.
+#[inline(always)]
+fn has_zero_first(digits: &[u8]) -> bool
+    ensures { result ≡ false → slice_index digits.now 0 ≢ 48 }
+{
+    !digits.is_empty() && digits[0] == b'0'
+}
+
+/// The number below zero that is printed as a hyphen and the digits in front of a text, and what stands behind them.
 #[inline(always)]
 fn negative_front(digits: &[u8]) -> Option<(i64, &[u8])>
-    ensures { IfSome result (λ front. FitsSigned w64 front.0 × (45 ∷ digits.now ≡ signed_decimal front.0 ++ front.1.now)) }
+    ensures { IfSome result (λ front. IsNumberFront (45 ∷ digits.now) front.0 front.1.now) }
 {
+    // A zero has no hyphen. Where the number is not asked for, it need not be told from its digits.
+    if has_zero_first(digits) {
+        return None;
+    }
     match size_front(digits) {
-        None | Some((0, _)) => None,
-        Some((size, rest)) => match 0i64.checked_sub_unsigned(size) {
-            Some(number) => Some((number, rest)),
-            None => None,
-        },
-    }
-}
-
-/// The number of 64 bits from zero on that is printed in front of a text, and what stands behind it.
-#[inline(always)]
-fn positive_front(text: &[u8]) -> Option<(i64, &[u8])>
-    ensures { IfSome result (λ front. FitsSigned w64 front.0 × (text.now ≡ signed_decimal front.0 ++ front.1.now)) }
-{
-    match size_front(text) {
+        Some((size, rest)) => Some((-size, rest)),
         None => None,
-        Some((size, rest)) => match 0i64.checked_add_unsigned(size) {
-            Some(number) => Some((number, rest)),
-            None => None,
-        },
     }
 }
 
-/// The number of 64 bits that is printed in front of a text, and what stands behind its digits. Of a text of another number, or
-/// of none, there is none.
+/// The number of at most 18 digits that is printed in front of a text, and what stands behind its digits. Of a text of another
+/// number, or of none, there is none.
 #[inline(always)]
 pub(crate) fn narrow_front(text: &[u8]) -> Option<(i64, &[u8])>
-    ensures { IfSome result (λ front. FitsSigned w64 front.0 × (text.now ≡ signed_decimal front.0 ++ front.1.now)) }
+    ensures { IfSome result (λ front. IsNumberFront text.now front.0 front.1.now) }
 {
     match text.split_first() {
         Some((first, digits)) if *first == b'-' => negative_front(digits),
-        _ => positive_front(text),
+        _ => size_front(text),
     }
 }
 
-/// The number of 64 bits behind a space in front of a text, and what stands behind it.
+/// The number of at most 18 digits behind a space in front of a text, and what stands behind it.
 #[inline(always)]
 pub(crate) fn spaced_front(text: &[u8]) -> Option<(i64, &[u8])>
     ensures { IfSome result (λ front. FitsSigned w64 front.0 × (text.now ≡ 32 ∷ signed_decimal front.0 ++ front.1.now)) }

@@ -1,14 +1,12 @@
 //! Where the row of a line stands.
 
-ghost use Rattle.std.specs.Prelude.{◌≡◌, IfSome, IfOk};
+ghost use Rattle.std.specs.Prelude.{◌≡◌, IfSome};
 ghost use Rattle.row_lines.specs.Numbers.{AreSpaced};
-ghost use Rattle.row_lines.specs.Rows.{GivesPlace, IsPlaceOf, place_of};
+ghost use Rattle.row_lines.specs.Rows.{IsLineFront, place_of};
 
 use crate::front::{Front, behind_front};
 use crate::number::{narrow_front, spaced_front};
-use crate::row::read_row;
 use plan_model::{MOST_AGGREGATES, Pane, Row};
-use std::alloc::{AllocError, Global};
 
 /// Where a row stands, and how many numbers of aggregates it has.
 #[derive(Clone, Copy, Debug, PartialEq, Eq)]
@@ -17,15 +15,16 @@ pub struct RowPlace {
     pub width: usize,
 }
 
-/// How many numbers of 64 bits a text is of, each behind a space. Of other texts, and of more numbers than a row has, there is
-/// no telling.
-fn count_of(text: &[u8]) -> Option<usize>
-    ensures { IfSome result (AreSpaced text.now) }
+/// How many numbers stand in front of the first line feed of a text, each behind a space, and what stands behind the line feed.
+/// Of other texts, of numbers of more than 18 digits, and of more numbers than a row has, there is no telling.
+fn count_front(text: &[u8]) -> Option<(usize, &[u8])>
+    ensures { IfSome result (λ counted. AreSpaced text.now counted.0 counted.1.now) }
 {
     let mut rest = text;
     for count in 0..MOST_AGGREGATES + 1 {
-        if rest.is_empty() {
-            return Some(count);
+        match rest.split_first() {
+            Some((first, behind)) if *first == b'\n' => return Some((count, behind)),
+            _ => {}
         }
         let Some((_, behind)) = spaced_front(rest) else {
             return None;
@@ -35,20 +34,22 @@ fn count_of(text: &[u8]) -> Option<usize>
     None
 }
 
-/// The place of the row of a line whose numbers have 64 bits each. Of other lines there is none.
-fn narrow_place(kept: &mut Option<Front>, line: &[u8]) -> Option<RowPlace>
-    ensures { IfSome result (IsPlaceOf line.now) }
+/// The place of the row whose line stands in front of a text, with its line feed, and what stands behind it. The front of the
+/// line before is at hand. Of other texts, and where a number has more than 18 digits, there is no telling.
+pub(crate) fn front_place<'a>(
+    kept: &mut Option<Front>,
+    text: &'a [u8],
+) -> Option<(RowPlace, &'a [u8])>
+    ensures { IfSome result (λ read. IsLineFront text.now read.0 read.1.now) }
 {
-    let (start, _, behind_front) = behind_front(kept, line)?;
+    let (start, _, behind_front) = behind_front(kept, text)?;
     let (key, behind_key) = narrow_front(behind_front)?;
-    let width = count_of(behind_key)?;
+    let (width, rest) = count_front(behind_key)?;
     if width == 0 {
         return None;
     }
-    Some(RowPlace {
-        pane: Pane { start, key },
-        width,
-    })
+    let pane = Pane { start, key };
+    Some((RowPlace { pane, width }, rest))
 }
 
 /// Where a row stands, and how many numbers it has.
@@ -61,27 +62,5 @@ pub(crate) fn place_of(row: &Row) -> RowPlace
             key: row.key,
         },
         width: row.values.len(),
-    }
-}
-
-/// The place of the row whose line this is, without its line feed, or `None` where no row has this line. The front of the line
-/// before is at hand.
-///
-/// # Errors
-///
-/// Only where memory runs out.
-pub(crate) fn read_place(
-    alloc: Global,
-    kept: &mut Option<Front>,
-    line: &[u8],
-) -> Result<Option<RowPlace>, AllocError>
-    ensures { IfOk result (GivesPlace line.now) }
-{
-    if let Some(place) = narrow_place(kept, line) {
-        return Ok(Some(place));
-    }
-    match read_row(alloc, line)? {
-        Some(row) => Ok(Some(place_of(&row))),
-        None => Ok(None),
     }
 }

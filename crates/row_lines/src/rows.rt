@@ -5,7 +5,7 @@ ghost use Rattle.row_lines.specs.Sequences.{IsReadFault};
 use crate::front::Front;
 use crate::lines::{Lines, ReadFault, Step};
 use crate::order::admit;
-use crate::place::{RowPlace, place_of, read_place};
+use crate::place::{RowPlace, front_place, place_of};
 use crate::row::read_row;
 use plan_model::{Pane, Row};
 use std::alloc::{AllocError, Global};
@@ -58,9 +58,9 @@ pub struct RowLines<R> {
 }
 
 impl<R: Read + Drop> RowLines<R> {
-    ghost use Rattle.std.specs.Prelude.{◌≡◌, None, IfOk};
+    ghost use Rattle.std.specs.Prelude.{◌≡◌, None, IfOk, IfSome};
     ghost use Rattle.row_lines.specs.Lines.{line_in};
-    ghost use Rattle.row_lines.specs.Sequences.{rows_left, line_number, width_of, last_of, lines_of, IsNext, IsNextLine, IsNextPlace, IsCounted, IsLineCounted, IsPlaceCounted, MayTake, Takes, TakesPlace};
+    ghost use Rattle.row_lines.specs.Sequences.{rows_left, line_number, width_of, last_of, lines_of, IsNext, IsNextLine, IsNextPlace, IsCounted, IsLineCounted, IsPlaceCounted, IsPlaceRead, GivesPlaceRead, IsAsBefore, MayTake, Takes};
 
     /// The rows of all that a reader gives. Each has `width` numbers of aggregates, where that is told.
     ///
@@ -129,19 +129,6 @@ impl<R: Read + Drop> RowLines<R> {
         Ok(row)
     }
 
-    /// The place of the row of the line.
-    fn take_place(&mut self) -> Result<RowPlace, RowsFault>
-        ensures takes { TakesPlace self.old self.new result }
-        ensures lines { lines_of self.new ≡ lines_of self.old }
-        ensures number { line_number self.new ≡ line_number self.old }
-    {
-        let Some(place) = read_place(self.alloc, &mut self.front, self.lines.line())? else {
-            return Err(RowsFault::Line);
-        };
-        self.take(place)?;
-        Ok(place)
-    }
-
     /// Goes on to the next line, which is counted, and tells whether there is one.
     fn next_line(&mut self) -> Result<bool, RowsFault>
         ensures next { IsNextLine R.remaining self.old self.new result }
@@ -174,6 +161,45 @@ impl<R: Read + Drop> RowLines<R> {
         Ok(Some(self.take_row()?))
     }
 
+    /// Goes on to the next line, if all of it was read before, and tells where its row stands. Of other lines, and of rows with a
+    /// number of more than 18 digits, there is no telling.
+    fn next_held(&mut self) -> Option<RowPlace>
+        ensures read { IfSome result (IsPlaceRead R.remaining self.old self.new) }
+        ensures none { result ≡ None → IsAsBefore self.old self.new }
+    {
+        let held = self.lines.held();
+        let (place, rest) = front_place(&mut self.front, held)?;
+        let end = held.len() - rest.len() - 1;
+        self.lines.take_line(end);
+        self.number = self.number.saturating_add(1);
+        Some(place)
+    }
+
+    /// Goes on to the next line, if there is one, and tells where its row stands.
+    fn next_read(&mut self) -> Result<Option<RowPlace>, RowsFault>
+        ensures read { GivesPlaceRead R.remaining self.old self.new result }
+        ensures number { IsPlaceCounted self.old self.new result }
+    {
+        if !self.next_line()? {
+            return Ok(None);
+        }
+        match read_row(self.alloc, self.lines.line())? {
+            Some(row) => Ok(Some(place_of(&row))),
+            None => Err(RowsFault::Line),
+        }
+    }
+
+    /// The same of any line.
+    fn next_place(&mut self) -> Result<Option<RowPlace>, RowsFault>
+        ensures read { GivesPlaceRead R.remaining self.old self.new result }
+        ensures number { IsPlaceCounted self.old self.new result }
+    {
+        match self.next_held() {
+            Some(place) => Ok(Some(place)),
+            None => self.next_read(),
+        }
+    }
+
     /// Goes on to the next row, if there is one, and tells no more of it than its place. Its text is then the `line`.
     ///
     /// # Errors
@@ -183,9 +209,10 @@ impl<R: Read + Drop> RowLines<R> {
         ensures next { IsNextPlace R.remaining self.old self.new result }
         ensures number { IsPlaceCounted self.old self.new result }
     {
-        if !self.next_line()? {
+        let Some(place) = self.next_place()? else {
             return Ok(None);
-        }
-        Ok(Some(self.take_place()?))
+        };
+        self.take(place)?;
+        Ok(Some(place))
     }
 }

@@ -1,5 +1,0 @@
-use Rattle.row_lines.proofs.Fronts.{numbers_more}
-use Rattle.row_lines.proofs.place.count_of.Goals as goal
-
-pub loop-count-preserved : goal.loop-count-preserved
-loop-count-preserved c = numbers_more c.args.text.now c.loop-count.rest.now c.in-Some.behind.now c.loop-count.count c.in-Some.field-0-0 c.loop-count.invariant c.in-Some.ensures

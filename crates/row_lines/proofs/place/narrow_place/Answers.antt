@@ -1,8 +1,0 @@
-use Rattle.std.proofs.Common.{arith}
-use Rattle.row_lines.proofs.Fronts.{place_given}
-use Rattle.row_lines.proofs.place.narrow_place.Goals as goal
-
-pub returns : goal.returns
-returns c =
-    place_given c.args.line.now c.in_ok-start.behind_front.now c.in_ok-key.behind_key.now c.in_ok-start.start c.in_ok-start.field-0-1 c.in_ok-key.key c.in_ok-width.width
-    c.in_ok-start.ensures c.in_ok-key.ensures c.in_ok-width.ensures (omega (arith, c.if-width-eq0.false))
