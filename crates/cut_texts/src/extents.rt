@@ -5,7 +5,7 @@ ghost use Rattle.std.specs.List.{flat_map, enumerate_from};
 ghost use Rattle.cut_texts.specs.Extents.{times_words, extent_line, source_lines, extents_text};
 
 use input_cuts::{Extent, Times};
-use job_texts::push_number;
+use job_texts::push_spaced;
 use plain_data::Items;
 use plan_model::SourceSpec;
 use std::alloc::{AllocError, Global};
@@ -16,8 +16,8 @@ fn push_times(text: &mut String, times: Option<Times>) -> Result<(), AllocError>
     match times {
         None => text.push_str(" - -"),
         Some(Times { least, greatest }) => {
-            push_number(text, least)?;
-            push_number(text, greatest)
+            push_spaced(text, least)?;
+            push_spaced(text, greatest)
         }
     }
 }
@@ -32,11 +32,11 @@ fn push_extent(
 {
     text.push_str("source ")?;
     text.push_str(uid)?;
-    push_number(text, number)?;
-    push_number(text, extent.entries)?;
-    push_number(text, extent.records)?;
+    push_spaced(text, number)?;
+    push_spaced(text, extent.entries)?;
+    push_spaced(text, extent.records)?;
     push_times(text, extent.times)?;
-    push_number(text, extent.watermark)?;
+    push_spaced(text, extent.watermark)?;
     text.push_str("\n")
 }
 

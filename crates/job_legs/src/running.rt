@@ -19,7 +19,6 @@ ghost use Rattle.job_legs.specs.Ways.{AnswersLeg, CanRunLeg, GivesLegs, TakesLeg
 
 use crate::laws::{nothing_due_at_first, rows_add_up};
 use crate::ways::{ByChoices, InThreads, Way};
-use job_texts::sort_rows;
 use layout_rules::Scale;
 use leg_runs::{Finish, run_leg_by};
 use legs::{Choice, Cut, LegFault, LegSpec, Stop, are_choices, are_legs};
@@ -27,6 +26,7 @@ use plain_data::Items;
 use plan_model::{Plan, Row};
 use redistribute::Start;
 use restarts::restart;
+use row_lines::sort_rows;
 use savepoint_codec::Savepoint;
 use savepoint_index::encode;
 use std::alloc::{AllocError, Global};

@@ -1,4 +1,3 @@
-mod Sorts
 mod Unique
 mod Numerals
 mod Lines

@@ -5,9 +5,10 @@ ghost use Rattle.std.specs.List.{flat_map};
 ghost use Rattle.layout_rules.specs.Stages.{task_count};
 ghost use Rattle.job_texts.specs.LayoutText as said;
 
-use crate::number::{push_number, push_numbers};
+use crate::number::push_numbers;
 use plan_compiler::{Edge, Layout, Operator, Role};
 use plan_model::Plan;
+use row_lines::push_spaced;
 use std::alloc::{AllocError, Global};
 
 /// The uid of an operator; the sink has none.
@@ -47,8 +48,8 @@ fn write_head(text: &mut String, word: &str, first: u32, second: u32) -> Result<
     ensures { OnOk result (string_bytes text.new ≡ string_bytes text.old ++ (word.now ++ said.spaced first ++ said.spaced second)) }
 {
     text.push_str(word)?;
-    push_number(text, first)?;
-    push_number(text, second)
+    push_spaced(text, first)?;
+    push_spaced(text, second)
 }
 
 /// The line of a stage.

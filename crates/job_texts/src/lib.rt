@@ -10,7 +10,6 @@ mod line;
 mod narrow;
 mod number;
 mod show_text;
-mod sorting;
 mod text;
 mod writing;
 
@@ -20,8 +19,7 @@ pub use group::{job_group, read_count, read_group, read_key};
 pub use layout_text::text_of_layout;
 pub use line::{fault_line, status_of};
 pub use narrow::put_number;
-pub use number::{push_decimal, push_number};
+pub use row_lines::{push_decimal, push_spaced, sort_rows};
 pub use show_text::{text_of_entries, text_of_savepoint};
-pub use sorting::sort_rows;
 pub use text::text_of_rows;
 pub use writing::write_text;

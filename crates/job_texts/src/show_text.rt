@@ -5,8 +5,9 @@ ghost use Rattle.std.specs.List.{flat_map, enumerate_from};
 ghost use Rattle.savepoint_codec.specs.EntriesView.{entry_data};
 ghost use Rattle.job_texts.specs.ShowText.{partition_line, source_lines, entry_head, entry_line, entry_lines, group_lines, number_line, max_line, window_line, savepoint_text};
 
-use crate::number::{push_number, push_numbers};
+use crate::number::push_numbers;
 use plan_model::Pane;
+use row_lines::push_spaced;
 use savepoint_codec::{Contents, Entries, Entry, SavedGroup, SavedPartition, SavedSource};
 use std::alloc::{AllocError, Global};
 
@@ -20,9 +21,9 @@ fn write_partition(
 {
     text.push_str("source ")?;
     text.push_str(uid)?;
-    push_number(text, number)?;
-    push_number(text, partition.offset)?;
-    push_number(text, partition.watermark)?;
+    push_spaced(text, number)?;
+    push_spaced(text, partition.offset)?;
+    push_spaced(text, partition.watermark)?;
     text.push_str("\n")
 }
 
@@ -58,10 +59,10 @@ fn write_entry_head(text: &mut String, group: u32, pane: Pane, count: u64) -> Re
     ensures { OnOk result (string_bytes text.new ≡ string_bytes text.old ++ entry_head group pane count) }
 {
     text.push_str("entry")?;
-    push_number(text, group)?;
-    push_number(text, pane.start)?;
-    push_number(text, pane.key)?;
-    push_number(text, count)
+    push_spaced(text, group)?;
+    push_spaced(text, pane.start)?;
+    push_spaced(text, pane.key)?;
+    push_spaced(text, count)
 }
 
 fn write_entry(text: &mut String, group: u32, entry: Entry<'_>) -> Result<(), AllocError>
@@ -94,7 +95,7 @@ fn write_number(text: &mut String, number: u64) -> Result<(), AllocError>
     ensures { OnOk result (string_bytes text.new ≡ string_bytes text.old ++ number_line number) }
 {
     text.push_str("number")?;
-    push_number(text, number)?;
+    push_spaced(text, number)?;
     text.push_str("\n")
 }
 
@@ -102,7 +103,7 @@ fn write_max(text: &mut String, max: u16) -> Result<(), AllocError>
     ensures { OnOk result (string_bytes text.new ≡ string_bytes text.old ++ max_line max) }
 {
     text.push_str("max")?;
-    push_number(text, max)?;
+    push_spaced(text, max)?;
     text.push_str("\n")
 }
 

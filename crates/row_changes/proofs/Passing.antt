@@ -13,6 +13,7 @@ use Rattle.plan_model.specs.declared.spec.Row.{Row}
 use Rattle.plan_model.specs.Rows.{pane_of, pane_cmp}
 use Rattle.row_lines.specs.Sequences.{is_after, AreRows, width_of, last_of, IsNext}
 use Rattle.row_lines.specs.declared.rows.RowLines.{RowLines}
+use Rattle.row_lines.proofs.Places.{appends_more}
 use Rattle.row_changes.specs.Changes.{Change, Gone, New, change_of, lines_of, text_of_changes, AreChanges}
 use Rattle.row_changes.specs.Order.{first_by, first_of}
 use Rattle.row_changes.specs.Merging.{IsTextOf, first_width, WritesChanges, IsLeft, AreLeft, IsAtHand, IsBehind, AreBothLeft, AreBehind, Begins, PassesOld, PassesNew, PassesBoth, IsStep, Steps, NothingLeft}
@@ -192,12 +193,6 @@ goes_on r s old new start pair next out text more h steps = record {
       let one = steps.step olds news changes left just in
       h.whole one.all_olds one.all_news one.all after one.left one.just (subst (Appends out after) one.text appends);
 }
-
-appends_more : (a b c : Option (List ℕ)) (x y : List ℕ) → Appends a b x → Appends b c y → Appends a c (x ++ y)
-appends_more None b c x y h k = tt
-appends_more (Some a) None c x y h k = absurd h
-appends_more (Some a) (Some b) None x y h k = absurd k
-appends_more (Some a) (Some b) (Some c) x y h k = k ∙ ap (λ l. l ++ y) h ∙ append_assoc a x y
 
 pub flushed : {R S : Type 0} (r : R → Option (List ℕ)) (s : S → Option (List ℕ)) (old new start : Option (List ℕ)) (pair : Pair R S) (out next : Option (List ℕ)) (text empty : List ℕ) → Continues r s old new start pair out text → Appends out next text → empty ≡ []
     → Continues r s old new start pair next empty

@@ -10,14 +10,9 @@ use Rattle.row_lines.specs.Rows.{numbers_in}
 use Rattle.row_lines.specs.Sequences.{AreRows, IsRead, rows_left, width_of, last_of}
 use Rattle.row_lines.specs.Text.{line_of, text_of_rows}
 use Rattle.row_lines.specs.declared.rows.RowLines.{RowLines}
+use Rattle.row_lines.proofs.Places.{appends_more}
 use Rattle.row_tables.specs.declared.kind.CellKind.{CellKind}
 use Rattle.row_export.specs.Shown.{ShowsRow, WritesTable}
-
-pub appends_more : (a b c : Option (List ℕ)) (x y : List ℕ) → Appends a b x → Appends b c y → Appends a c (x ++ y)
-appends_more None b c x y h k = tt
-appends_more (Some a) None c x y h k = absurd h
-appends_more (Some a) (Some b) None x y h k = absurd k
-appends_more (Some a) (Some b) (Some c) x y h k = k ∙ ap (λ l. l ++ y) h ∙ append_assoc a x y
 
 pub appends_none : (a : Option (List ℕ)) → Appends a a []
 appends_none None = tt

@@ -73,7 +73,8 @@ front_kept line text rest s e has text_is =
     let is : text ≡ front = text_is ∙ (λ i. take (count i) (parts i)) ∙ take-append_seam front rest in
     behind_kept text text [] s e (record { start_fits = has.start_fits; end_fits = has.end_fits; is = is }) (sym (append-nil text))
 
-wider : (z : ℤ) → FitsSigned w64 z → FitsSigned w128 z
+-- a number of 64 bits has 128
+pub wider : (z : ℤ) → FitsSigned w64 z → FitsSigned w128 z
 wider z h = search rules
 
 -- the line of a row, by what stands in front of a text

@@ -5,3 +5,4 @@ pub mod Parts
 pub mod Texts
 pub mod Places
 pub mod Feeds
+mod Sorts

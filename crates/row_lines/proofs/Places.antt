@@ -1,6 +1,6 @@
 -- Where lines end, and what is left of a text.
 use Rattle.std.proofs.Common.{◌≡◌, ◌≢◌, ℕ, suc, ◌+◌, ◌-◌, ◌<◌, ◌≤◌, min, List, [], ◌∷◌, ◌++◌, length, get_or, take, drop, Option, Some, None, option_map, arith, refl, sym, ap, subst, ◌∙◌, append_assoc, drop-cons, eq-eqb, take_all, length-drop, length-append, slice_range, IfSome, take-take}
-use Rattle.std.specs.Io.KnownBytes.{Consumes, Keeps}
+use Rattle.std.specs.Io.KnownBytes.{Appends, Consumes, Keeps}
 use Rattle.std.proofs.lemmas.Bool.{eqb-true}
 use Rattle.std.proofs.lemmas.List.{take-append-drop, get_or-take, take_min, length-take, take-append-le, drop-drop}
 use Rattle.std.proofs.lemmas.List.Elements.{All-from_get_or}
@@ -89,3 +89,10 @@ no_line (Some text) (Some xs) held k long one =
 
 pub place_within : (held : List ℕ) (end place : ℕ) → IsPlace (take 391 (drop end held)) (Some place) → end + (place + 1) ≤ length held
 place_within held end place h = let short = length-take 391 (drop end held) in omega (arith, h.0, length-drop end held)
+
+-- what is written after what was written before
+pub appends_more : (a b c : Option (List ℕ)) (x y : List ℕ) → Appends a b x → Appends b c y → Appends a c (x ++ y)
+appends_more None b c x y h k = tt
+appends_more (Some a) None c x y h k = absurd h
+appends_more (Some a) (Some b) None x y h k = absurd k
+appends_more (Some a) (Some b) (Some c) x y h k = k ∙ ap (λ l. l ++ y) h ∙ append_assoc a x y

@@ -17,6 +17,7 @@ use Rattle.row_lines.specs.Text.{spaced, text_of_row}
 use Rattle.row_lines.specs.Numbers.{AreNumbers, text_of_numbers}
 use Rattle.row_lines.specs.Rows.{IsRow, numbers_in, GivesRowOf, GivesRow}
 use Rattle.row_lines.proofs.Parses.{own}
+use Rattle.row_lines.proofs.Fronts.{wider}
 
 -- no space stands in a number
 digit_apart : (b : ℕ) → IsInRange 48 57 b → eqb b 32 ≡ false
@@ -102,9 +103,6 @@ row_text row =
     append_assoc (s ++ spaced row.end) (spaced row.key) (flat_map spaced row.values)
     ∙ append_assoc s (spaced row.end) (spaced row.key ++ flat_map spaced row.values)
     ∙ ap (λ rest. s ++ (32 ∷ (signed_decimal row.end ++ (32 ∷ rest)))) (sym (joined (signed_decimal row.key) row.values))
-
-wider : (z : ℤ) → FitsSigned w64 z → FitsSigned w128 z
-wider z h = search rules
 
 -- and they are such as a row can have
 pub row_numbers : (row : Row) → IsRow row → AreNumbers (numbers_in row)

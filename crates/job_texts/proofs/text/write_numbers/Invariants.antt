@@ -1,7 +1,0 @@
-use Rattle.std.proofs.Common.{◌≡◌, ◌++◌, take, string_bytes}
-use Rattle.std.specs.List.{flat_map}
-use Rattle.job_texts.specs.Text.{spaced}
-use Rattle.job_texts.proofs.text.write_numbers.Given as goal
-
-abbrev pub invariant-loop-index : goal.invariant-loop-index
-invariant-loop-index l = string_bytes l.text ≡ string_bytes l.fn.text ++ flat_map spaced (take l.index l.numbers)
