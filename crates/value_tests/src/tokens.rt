@@ -33,13 +33,39 @@ fn whole_numbers(rt: HostRuntime) {
     }
 }
 
-/// The numbers of rows of two, of which there are to be no more than four.
-fn rows_of(rt: &impl AllocGlobal, text: &str, depth: usize) -> Result<Vec<i64>, Miss> {
+/// The numbers of rows of `width` numbers, of which there are to be no more than `most`.
+fn cells_of(
+    rt: &impl AllocGlobal,
+    text: &str,
+    width: usize,
+    most: usize,
+    depth: usize,
+) -> Result<Vec<i64>, Miss> {
     let mut reader = Scanner::new(text.as_bytes());
     let mut cells = Vec::new(rt.alloc());
-    scan_rows(&mut reader, &mut cells, 2, 4, depth)?;
+    scan_rows(&mut reader, &mut cells, width, most, depth)?;
     reader.end()?;
     Ok(cells)
+}
+
+/// The numbers of rows of two, of which there are to be no more than four.
+fn rows_of(rt: &impl AllocGlobal, text: &str, depth: usize) -> Result<Vec<i64>, Miss> {
+    cells_of(rt, text, 2, 4, depth)
+}
+
+#[test]
+fn one_number_more_than_there_are_to_be(rt: HostRuntime) -> Result<(), Fail> {
+    let cells = cells_of(&rt, "[[1],[2],[3]]", 1, 3, 2)?;
+    assert_eq!(rt; cells.as_slice(), [1, 2, 3].as_slice());
+    for (text, width, most) in [
+        ("[[1],[2],[3],[4]]", 1, 3),
+        ("[[1,2,3],[4,5,6]]", 3, 5),
+        ("[[1]]", 1, 0),
+    ] {
+        let refused = cells_of(&rt, text, width, most, 2).err();
+        assert_eq!(rt; refused, Some(Miss::Other), "at {text}");
+    }
+    Ok(())
 }
 
 #[test]
