@@ -29,7 +29,7 @@ use Rattle.savepoint_codec.specs.declared.savepoint.Contents.{Contents}
 use Rattle.redistribute.specs.StartData.{StartData, offsets_of}
 use Rattle.redistribute.specs.Begins.{IsFromNothing, HasSnapshot}
 use Rattle.window_state.specs.Parts.{entries_of}
-use Rattle.redistribute.specs.Parts.{part_of}
+use Rattle.packed_parts.specs.Packing.{part_of}
 use Rattle.redistribute.proofs.Facts.{tasks_have_snapshot}
 use Rattle.leg_tasks.specs.Saved.{IsSavedAt}
 use Rattle.leg_tasks.proofs.Facts.{tasks_save_the_cut}

@@ -12,7 +12,8 @@ use Rattle.std.specs.List.{All, AllByRecursion, join_with_byte, list_all, slice_
 use Rattle.std.specs.Str.Parse.{digits_value}
 use Rattle.job_texts.specs.Cut.{each_said, word_count, source_said, cut_said}
 use Rattle.job_texts.specs.Group.{are_digits}
-use Rattle.job_texts.proofs.Facts.{own, said_within}
+use Rattle.field_values.proofs.Numbers.{own}
+use Rattle.job_texts.proofs.Facts.{said_within}
 use Rattle.cut_texts.specs.Words.{before_part, source_text, cut_text}
 use Rattle.cut_texts.specs.Laws.{AreCounts, SpelledIsSaid}
 

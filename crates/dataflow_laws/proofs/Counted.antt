@@ -16,12 +16,12 @@ use Rattle.dataflow_model.specs.Steps.LocalStep.{put, opens, reads, saves, stops
 use Rattle.dataflow_model.specs.Runs.{Run}
 use Rattle.dataflow_model.specs.Runs.Run.{none, more}
 use Rattle.dataflow_model.specs.Opening.{IsOpening}
-use Rattle.dataflow_model.proofs.Facts.{no_source, stops_last}
+use Rattle.dataflow_model.proofs.Facts.{no_source, stops_last, last_is}
 use Rattle.dataflow_laws.specs.Kept.{IsCounted, KeptIsCounted}
 use Rattle.dataflow_laws.proofs.Aligning.{Ins, ins, held_left}
 use Rattle.dataflow_laws.proofs.Complete.{idle_of}
 use Rattle.dataflow_laws.proofs.Cuts.{Waits, waits_step, waits_fresh}
-use Rattle.dataflow_laws.proofs.Ends.{HasEnds, IsIdle, has_ends, not_over, aligned_by, last_is, not_last}
+use Rattle.dataflow_laws.proofs.Ends.{HasEnds, IsIdle, has_ends, not_over, aligned_by, not_last}
 use Rattle.dataflow_laws.proofs.Opened.{IsFresh, fresh}
 use Rattle.dataflow_laws.proofs.Openings.{opened_as}
 

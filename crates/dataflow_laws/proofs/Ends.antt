@@ -1,7 +1,7 @@
 -- In a complete history each ring has given all that it got.
 use Rattle.std.proofs.Common.{◌≡◌, ℕ, suc, ◌+◌, ◌<◌, List, [], ◌∷◌, ◌++◌, Bool, true, false, cond, eqb, ◌&&◌, length, get_or, set, replicate, refl, sym, ap, subst, ◌∙◌, ◌⊎◌, inl, inr, arith, length-set, get_or-set_same, get_or-set_other, ℤ, Option, Some, None, if◌then◌else◌}
 use Rattle.std.proofs.lemmas.List.{length-replicate, length-map}
-use Rattle.std.proofs.lemmas.Bool.{cases_eq, cases_Bool, eq-eqb, ne_eqb, eqb-true, false≢true, and_parts}
+use Rattle.std.proofs.lemmas.Bool.{cases_eq, cases_Bool, eq-eqb, ne_eqb, false≢true}
 use Rattle.std.specs.List.{filter}
 use Rattle.plan_model.specs.declared.spec.Row.{Row}
 use Rattle.plan_model.specs.PlanData.{PlanData}
@@ -29,7 +29,7 @@ use Rattle.dataflow_laws.proofs.Streams.{told}
 use Rattle.dataflow_laws.proofs.Logs.{only_announce, onto_append}
 use Rattle.dataflow_laws.proofs.Reader.{width_of, only_route_of}
 use Rattle.dataflow_laws.proofs.Aligning.{last_of}
-use Rattle.dataflow_model.proofs.Facts.{given_put, given_spread, only_append, free_is, get_free, no_source, released_at, all_shut_at, none_held_at, all_ended_by, stops_last}
+use Rattle.dataflow_model.proofs.Facts.{given_put, given_spread, only_append, free_is, get_free, no_source, released_at, all_shut_at, none_held_at, all_ended_by, stops_last, last_is}
 
 -- ---- the last message of a leg
 
@@ -105,9 +105,6 @@ aligned_by true false e = absurd cc
 aligned_by false h e = absurd cc
 
 -- ---- barriers
-
-pub last_is : (k : AbstractTask) (n : ℕ) → is_last k n ≡ true → n ≡ k.saves
-last_is k n e = eqb-true n k.saves (and_parts (may_stop k.ending) (eqb n k.saves) e).1
 
 pub not_last : (k : AbstractTask) (n : ℕ) → n < barriers k → is_last k n ≡ false → n ≡ k.saves → ⊥
 not_last k n l e q =

@@ -23,11 +23,11 @@ use Rattle.dataflow_model.specs.Runs.{Run, taken, sent, only, onto, given}
 use Rattle.dataflow_model.specs.Runs.Run.{none, more}
 use Rattle.dataflow_model.specs.Start.{IsLegStart}
 use Rattle.dataflow_model.specs.History.{History, IsComplete}
-use Rattle.dataflow_model.proofs.Facts.{get_free, no_source, not_a_source, source_yes, released_at, all_shut_at, none_held_at, all_ended_by, stops_last}
+use Rattle.dataflow_model.proofs.Facts.{get_free, no_source, not_a_source, source_yes, released_at, all_shut_at, none_held_at, all_ended_by, stops_last, last_is}
 use Rattle.dataflow_laws.specs.Kept.{has_barrier}
 use Rattle.dataflow_laws.specs.Stopped.{HaveClosed, SinkTellsStops, StoppedIsComplete}
 use Rattle.dataflow_laws.proofs.Aligning.{last_of}
-use Rattle.dataflow_laws.proofs.Ends.{is_final, ended, Closed, HasEnds, IsIdle, has_ends, not_over, shut_by_end, held_somewhere, shut_cases, let_go_ended, aligned_by, last_is, not_last, closes_at}
+use Rattle.dataflow_laws.proofs.Ends.{is_final, ended, Closed, HasEnds, IsIdle, has_ends, not_over, shut_by_end, held_somewhere, shut_cases, let_go_ended, aligned_by, not_last, closes_at}
 use Rattle.dataflow_laws.proofs.Openings.{opened_as}
 use Rattle.dataflow_laws.proofs.Admission.{outs_of}
 use Rattle.dataflow_laws.proofs.Complete.{ended_append, idle_of, ring_bound}

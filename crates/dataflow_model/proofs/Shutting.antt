@@ -1,14 +1,16 @@
 -- Inputs that are shut, and what they align to.
-use Rattle.std.proofs.Common.{◌≡◌, ℕ, zero, suc, List, [], ◌∷◌, Bool, true, false, refl, if◌then◌else◌}
+use Rattle.std.proofs.Common.{◌≡◌, ℕ, zero, suc, List, [], ◌∷◌, Bool, true, false, eqb, refl, if◌then◌else◌}
+use Rattle.std.proofs.lemmas.Bool.{eqb-true, and_parts}
 use Rattle.input_state.specs.declared.inputs.Shut.{Shut}
 use Rattle.input_state.specs.declared.inputs.Shut.TheVariants.{Free, Held, Ended}
 use Rattle.input_state.specs.declared.inputs.Aligned.TheVariants as aligned
 use Rattle.input_state.specs.Inputs.{shut_at, all_shut, any_held}
 use Rattle.dataflow_model.specs.declared.ending.Ending.{Ending}
 use Rattle.dataflow_model.specs.declared.ending.Ending.TheVariants.{AtEnd, AtCut, Asked}
+use Rattle.dataflow_model.specs.Ending.{may_stop}
 use Rattle.dataflow_model.specs.AbstractTask.{AbstractTask}
 use Rattle.dataflow_model.specs.State.{State}
-use Rattle.dataflow_model.specs.Steps.{MayStop}
+use Rattle.dataflow_model.specs.Steps.{MayStop, is_last}
 
 -- where all are shut none is free
 pub all_shut_at : (ss : List Shut) (i : ℕ) → all_shut ss ≡ true → shut_at ss i ≡ Free → ⊥
@@ -39,3 +41,6 @@ pub stops_last : (ending : Ending) (k : AbstractTask) (s : State) → MayStop en
 stops_last AtEnd k s may = absurd may
 stops_last AtCut k s may = may.0
 stops_last Asked k s may = may
+
+pub last_is : (k : AbstractTask) (n : ℕ) → is_last k n ≡ true → n ≡ k.saves
+last_is k n e = eqb-true n k.saves (and_parts (may_stop k.ending) (eqb n k.saves) e).1

@@ -13,7 +13,8 @@ use Rattle.aggregates.specs.Kinds.{is_number, are_numbers}
 use Rattle.window_state.specs.declared.parts.Part.{Part}
 use Rattle.savepoint_codec.specs.EntriesData.{EntryData, EntriesData}
 use Rattle.gather.specs.Saved.{is_in_group, saved_group}
-use Rattle.gather.specs.Buckets.{entry_of, no_entries, with_entry, with_part, bucket, groups_from, HaveWidth}
+use Rattle.packed_parts.specs.Packing.{entry_of}
+use Rattle.gather.specs.Buckets.{no_entries, with_entry, with_part, bucket, groups_from, HaveWidth}
 
 pub All-first : {Y : Type 0} (P : Y → Type 0) (xs ys : List Y) → All P (xs ++ ys) → All P xs
 All-first P xs ys h = λ k d l. subst P (get_or_append_left xs ys d k l) (h k d (omega (arith, l, length-append xs ys)))

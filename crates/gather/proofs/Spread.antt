@@ -26,7 +26,8 @@ use Rattle.window_state.specs.declared.parts.Part.{Part}
 use Rattle.savepoint_codec.specs.EntriesData.{EntryData}
 use Rattle.savepoint_codec.specs.declared.savepoint.SavedGroup.{SavedGroup}
 use Rattle.redistribute.specs.StartData.{StartData}
-use Rattle.redistribute.specs.Parts.{partition_start, start_of_role, part_of, is_group_of, parts_in_group, parts_within, with_windows, whole_task_start}
+use Rattle.packed_parts.specs.Packing.{part_of}
+use Rattle.redistribute.specs.Parts.{partition_start, start_of_role, is_group_of, parts_in_group, parts_within, with_windows, whole_task_start}
 use Rattle.redistribute.specs.declared.task_start.TaskStart.TheVariants.{Chain}
 use Rattle.gather.specs.Saved.{is_in_group}
 use Rattle.gather.specs.Parts.{panes_in_group, ArePanes, IsPartOf}

@@ -34,7 +34,8 @@ use Rattle.savepoint_codec.specs.declared.savepoint.SavedPartition.{SavedPartiti
 use Rattle.redistribute.specs.declared.task_start.TaskStart.{TaskStart}
 use Rattle.gather.specs.Saved.{is_in_group, entries_in_group, saved_group, source_uids, savepoint_of}
 use Rattle.gather.specs.Parts.{panes_in, panes_in_group, windows_in, source_in, sources_in, starts_of, partition_in, AreParts}
-use Rattle.gather.specs.Buckets.{entry_of, IsTyped}
+use Rattle.packed_parts.specs.Packing.{entry_of}
+use Rattle.gather.specs.Buckets.{IsTyped}
 use Rattle.gather.specs.Sources.{AreTyped}
 use Rattle.gather.proofs.Filled.{All-first, All-second}
 use Rattle.plan_record.proofs.Facts.{length-ascending}

@@ -18,7 +18,8 @@ use Rattle.window_state.proofs.Facts.{sorted}
 use Rattle.savepoint_codec.specs.EntriesData.{EntryData}
 use Rattle.gather.specs.Saved.{saved_entry, saved_group, saved_groups, is_in_group, entries_in_group}
 use Rattle.gather.specs.Parts.{panes_in_group}
-use Rattle.gather.specs.Buckets.{bucket, entry_of}
+use Rattle.packed_parts.specs.Packing.{entry_of}
+use Rattle.gather.specs.Buckets.{bucket}
 
 pub t_both : (a b : Bool) → T (a && b) → T a × T b
 t_both true b h = (tt, h)

@@ -7,11 +7,8 @@ use Rattle.aggregates.specs.Kinds.{IsAcc}
 use Rattle.window_state.specs.declared.parts.Part.{Part}
 use Rattle.savepoint_codec.specs.EntriesData.{EntryData, EntriesData}
 use Rattle.savepoint_codec.specs.declared.savepoint.SavedGroup.{SavedGroup}
+use Rattle.packed_parts.specs.Packing.{entry_of}
 use Rattle.gather.specs.Saved.{is_in_group, saved_group}
-
--- what stands in a pane of a task, as an entry
-abbrev pub entry_of : Part → EntryData
-entry_of part = record { pane = part.pane; total = part.acc.total }
 
 -- a bucket with nothing in it
 abbrev pub no_entries : ℕ → EntriesData

@@ -4,7 +4,7 @@ use Rattle.std.specs.List.{filter, list_any, range_with_len}
 use Rattle.std.proofs.lemmas.List.{get_or-map, map-append, take-map}
 use Rattle.std.proofs.lemmas.List.Elements.{filter-append}
 use Rattle.std.proofs.lemmas.Option.{get_or_from_slice_get, slice_get_within}
-use Rattle.name_table.proofs.Lists.{list_any_map}
+use Rattle.plain_data.proofs.Facts.{list_any_map}
 use Rattle.import_columns.specs.declared.column.Column.{Column}
 use Rattle.imports.proofs.Stands.{numbers_more}
 use Rattle.import_asides.specs.Apart.{field_names, is_first}

@@ -1,9 +1,10 @@
 -- Where names stand in a header, place by place.
 use Rattle.std.proofs.Common.{◌≡◌, ◌+◌, ◌<◌, ◌++◌, ◌∷◌, [], ◌∙◌, ℕ, zero, suc, Bool, cond, true, false, List, Ok, Err, Result, Some, arith, ap, length, map, refl, slice_get, sym, take, Bor, get_or, option_map, inl, inr, ◌⊎◌, subst}
 use Rattle.std.specs.List.{enumerate_from, filter, range_with_len}
-use Rattle.std.proofs.lemmas.List.{map-append, take_more}
+use Rattle.std.proofs.lemmas.List.{map-append}
 use Rattle.std.proofs.lemmas.List.Elements.{filter-append}
-use Rattle.std.proofs.lemmas.Option.{get_or_from_slice_get, slice_get-get_or, slice_get-map, slice_get_within}
+use Rattle.std.proofs.lemmas.Option.{slice_get-get_or, slice_get-map}
+use Rattle.plain_data.proofs.Facts.{taken_more}
 use Rattle.asked_fields.specs.Asked.{IsAsked}
 use Rattle.asked_fields.specs.declared.asked.AskedField.{AskedField}
 use Rattle.import_columns.specs.declared.column.Column.{Column}
@@ -48,12 +49,9 @@ pub all_right : {X : Type 0} (xs : List X) → all_ok (map Ok xs) ≡ Ok xs
 all_right [] = refl
 all_right (x ∷ xs) = ap (ok_with x) (all_right xs)
 
-taken : {X : Type 0} (xs : List X) (i : ℕ) (x : X) → slice_get xs i ≡ Some x → take (i + 1) xs ≡ take i xs ++ x ∷ []
-taken xs i x at = take_more xs i x (slice_get_within xs i x at) ∙ ap (λ y. take i xs ++ y ∷ []) (get_or_from_slice_get xs i x x at)
-
 -- one more is right
 pub right_more : {X : Type 0} (rs : List (Result X RowFault)) (xs : List X) (i : ℕ) (x : X) → take i rs ≡ map Ok xs → slice_get rs i ≡ Some (Ok x) → take (i + 1) rs ≡ map Ok (xs ++ x ∷ [])
-right_more {X} rs xs i x right at = taken rs i (Ok x) at ∙ ap (λ (front : List (Result X RowFault)). front ++ Ok x ∷ []) right ∙ sym (map-append Ok xs (x ∷ []))
+right_more {X} rs xs i x right at = taken_more rs i (Ok x) at ∙ ap (λ (front : List (Result X RowFault)). front ++ Ok x ∷ []) right ∙ sym (map-append Ok xs (x ∷ []))
 
 numbered_from : {X : Type 0} (from : ℕ) (xs : List X) (i : ℕ) (x : X) → slice_get xs i ≡ Some x → slice_get (enumerate_from from xs) i ≡ Some (from + i, x)
 numbered_from from [] i x at = cc at
@@ -92,4 +90,4 @@ fields_with (other ∷ columns) (first ∷ fields) column field are is = (are.0,
 -- one more field that a column asks for
 pub fields_more : (columns : List Column) (fields : List AskedField) (i : ℕ) (column : Column) (field : AskedField) → AreFields (take i columns) fields → slice_get columns i ≡ Some column → IsAsked column.field.now column.joint field
     → AreFields (take (i + 1) columns) (fields ++ field ∷ [])
-fields_more columns fields i column field are at is = subst (λ (some : List Column). AreFields some (fields ++ field ∷ [])) (sym (taken columns i column at)) (fields_with (take i columns) fields column field are is)
+fields_more columns fields i column field are at is = subst (λ (some : List Column). AreFields some (fields ++ field ∷ [])) (sym (taken_more columns i column at)) (fields_with (take i columns) fields column field are is)

@@ -1,3 +1,3 @@
 -- PUBLIC: the lemmas that crates above cite.
 pub use Rattle.job_texts.proofs.Lines.{item_more, numbered_at}
-pub use Rattle.job_texts.proofs.Numerals.{own, said_within}
+pub use Rattle.job_texts.proofs.Numerals.{said_within}

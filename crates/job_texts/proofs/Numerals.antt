@@ -7,14 +7,9 @@ use Rattle.std.specs.List.{list_all}
 use Rattle.std.specs.Result.{result_ok}
 use Rattle.std.specs.Str.Parse.{digits_value, starts_with_minus, ParsesUnsigned, ParsesSigned}
 use Rattle.std.proofs.lemmas.Bool.{cases_Bool}
-use Rattle.std.proofs.lemmas.Str.Parse.{IsNumeralModel, IsDigitsTest, numerals_by_value, not_in_digits, parse_digits, parse_signed_minus, parse_signed_plain}
+use Rattle.std.proofs.lemmas.Str.Parse.{not_in_digits, parse_digits, parse_signed_minus, parse_signed_plain}
+use Rattle.field_values.proofs.Numbers.{own}
 use Rattle.job_texts.specs.Group.{are_digits, number_said, without_hyphen, key_said}
-
-pub digits_tested : IsDigitsTest (λ ds. list_all is_ascii_digit ds ≡ true)
-digits_tested = search rules
-
-pub own : IsNumeralModel (λ ds. list_all is_ascii_digit ds ≡ true) (digits_value 10)
-own = numerals_by_value _ digits_tested
 
 pub all_digits : (n : ℕ) (text : List ℕ) → are_digits n text ≡ true → (0 < length text) × (list_all is_ascii_digit text ≡ true)
 unfolding are_digits

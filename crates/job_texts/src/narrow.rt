@@ -1,4 +1,4 @@
-//! Lines of rows whose numbers have 64 bits, digit by digit from the last to the first.
+//! Lines of rows whose numbers have 64 bits, number by number, from the last to the first.
 
 ghost use Rattle.std.specs.Prelude.{◌≡◌, ◌++◌, ◌∷◌, ◌*◌, ◌+◌, ◌≤◌, ◌<◌, length, drop, IsAscii};
 ghost use Rattle.std.specs.Fmt.{signed_decimal};

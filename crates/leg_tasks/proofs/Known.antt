@@ -19,7 +19,8 @@ use Rattle.redistribute.specs.declared.task_start.TaskStart.TheVariants.{Window}
 use Rattle.redistribute.specs.Parts.{start_of_role, with_windows}
 use Rattle.task_steps.specs.Keeping.{ArePartsOf}
 use Rattle.task_steps.specs.TaskData.{IsWindowOf}
-use Rattle.leg_tasks.specs.Leaving.{kinds_in, part_at, parts_left, part_left, starts_left}
+use Rattle.task_steps.specs.Keeping.{kinds_in}
+use Rattle.leg_tasks.specs.Leaving.{part_at, parts_left, part_left, starts_left}
 
 with_kinds : (w : WindowSpec) (parts : List Part) → All (IsPartOf w) parts → parts ≡ map (part_at (kinds_in (Some w))) (entries_of parts)
 with_kinds w [] h = refl

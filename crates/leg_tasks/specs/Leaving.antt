@@ -1,9 +1,8 @@
 -- What the tasks of a leg leave of it.
-use Rattle.std.specs.Prelude.{◌≡◌, ℕ, ◌<◌, ◌≤◌, ℤ, pos, List, [], length, map, slice_index, slice_index_or, Option, Some, None}
+use Rattle.std.specs.Prelude.{◌≡◌, ℕ, ◌<◌, ◌≤◌, ℤ, pos, List, length, map, slice_index, slice_index_or, Some}
 use Rattle.std.specs.FinMap.{entries, get}
 use Rattle.std.specs.List.{range_with_len}
 use Rattle.plan_model.specs.declared.spec.Pane.{Pane}
-use Rattle.plan_model.specs.declared.spec.WindowSpec.{WindowSpec}
 use Rattle.plan_model.specs.Aggregates.{Aggregated}
 use Rattle.plan_model.specs.PlanData.{PlanData}
 use Rattle.plan_model.specs.declared.limits.TheConstants.{MOST_RECORDS}
@@ -38,11 +37,6 @@ start_left partitions s k = start_of partitions s.offsets s.inputs.marks k
 
 abbrev pub starts_left : List ℕ → State → List PartitionStart
 starts_left partitions s = map (start_left partitions s) (range_with_len 0 (length partitions))
-
--- the kinds of a window operator's aggregates
-abbrev pub kinds_in : Option WindowSpec → List Kind
-kinds_in None = []
-kinds_in (Some w) = map kind_of w.aggregates
 
 -- what stands in a pane, as a part with these kinds of aggregates
 abbrev pub part_at : List Kind → Pane × Aggregated → Part

@@ -6,6 +6,7 @@ ghost use Rattle.dataflow_model.specs.State.{State};
 ghost use Rattle.dataflow_model.specs.declared.role.Role.TheVariants as role;
 ghost use Rattle.layout_rules.specs.Stages as rule;
 ghost use Rattle.plan_compiler.specs.LayoutData.{IsLayoutOf};
+ghost use Rattle.task_steps.specs.Keeping.{kinds_in};
 ghost use Rattle.leg_tasks.specs.Leaving as left;
 
 use gather::gather;
@@ -63,7 +64,7 @@ fn part_left(
     requires number { number < rule.task_count layout.now.stages }
     requires role { task.now.setup.role ≡ rule.task_role layout.now.stages number }
     requires inputs { rule.task_role layout.now.stages number ≡ role.Source → task.now.setup.inputs ≡ length (rule.partitions_of layout.now.partitions layout.now.stages number) }
-    ensures says { IfOk result (λ part. part ≡ left.part_left layout.now.partitions (left.kinds_in task.now.window) layout.now.stages number (left.state_at at task.now.state)) }
+    ensures says { IfOk result (λ part. part ≡ left.part_left layout.now.partitions (kinds_in task.now.window) layout.now.stages number (left.state_at at task.now.state)) }
     ensures operator { IfOk result (λ part. rule.task_role layout.now.stages number ≡ role.Window → (w : WindowSpec) × (task.now.window ≡ Some w)) }
 {
     let stage = layout.stage(number);

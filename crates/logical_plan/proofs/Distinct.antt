@@ -7,7 +7,8 @@ use Rattle.std.proofs.lemmas.Bool.{or_parts, not-true, not-false}
 use Rattle.std.proofs.lemmas.List.{map-append, take-append-drop}
 use Rattle.std.proofs.lemmas.List.Folds.{list_any-append}
 use Rattle.plan_model.specs.Uids.{are_distinct}
-use Rattle.plan_model.proofs.Facts.{front_more, and_false}
+use Rattle.plain_data.proofs.Facts.{front_more}
+use Rattle.plan_model.proofs.Facts.{and_false}
 
 or_true : (a b : Bool) → (a || b) ≡ true → (a ≡ true) ⊎ ((a ≡ false) × (b ≡ true))
 or_true true b h = inl refl

@@ -11,7 +11,7 @@ use indexmap::IndexSet;
 use std::alloc::{AllocError, Global};
 
 /// Adds a uid, unless it is there already.
-#[tactic(auto, using(plan_model::proofs::Facts::list_any_map))]
+#[tactic(auto, using(plain_data::proofs::Facts::list_any_map))]
 fn add(alloc: Global, places: &mut IndexSet<String>, uid: &str) -> Result<bool, AllocError>
     ensures added { IfOk result (λ r. r ≡ not (list_any (bytes_eq uid.now) (texts places.old))) }
     ensures texts { IfOk result (λ r. texts places.new

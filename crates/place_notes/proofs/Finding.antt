@@ -1,12 +1,11 @@
 -- What holds of each part holds of the one that is found by its name.
-use Rattle.std.proofs.Common.{◌≡◌, ℕ, List, [], ◌∷◌, All, Bool, true, Option, Some, None, IfSome, reverse, inl, inr, refl, subst, sym, arith}
+use Rattle.std.proofs.Common.{◌≡◌, ℕ, List, [], ◌∷◌, All, Bool, true, Option, Some, None, IfSome, reverse, inl, inr, refl, subst, sym}
 use mathlib.Core.List.{reverse-cons}
 use Rattle.std.proofs.lemmas.Bool.{cases_Bool}
-use Rattle.std.proofs.lemmas.Grind.{common_steps}
 use Rattle.std.proofs.lemmas.List.Elements.{All-nil, All-head, All-tail, All-push}
-use Rattle.std.proofs.lemmas.Slice.Eq.{bytes_eq-Decides}
 use Rattle.std.specs.List.{find}
 use Rattle.std.specs.Str.{bytes_eq}
+use Rattle.byte_fields.proofs.Exact.{same_bytes}
 use Rattle.text_places.specs.declared.part.Part.{Part}
 use Rattle.text_places.specs.declared.part.Placed.{Placed}
 use Rattle.text_places.specs.Parts.{IsPartOf}
@@ -22,9 +21,6 @@ found_in {X} P test (x ∷ xs) all = elim (cases_Bool (test x)) as (λ _. IfSome
 All-reverse : {X : Type 0} (P : X → Type 0) (xs : List X) → All P xs → All P (reverse xs)
 All-reverse P [] all = All-nil P
 All-reverse P (x ∷ xs) all = rw (reverse-cons x xs) (All-push P (reverse xs) x (All-reverse P xs (All-tail P x xs all)) (All-head P x xs all))
-
-same_bytes : (a b : List ℕ) → bytes_eq a b ≡ true → a ≡ b
-same_bytes a b h = grind (arith, common_steps, bytes_eq-Decides a b)
 
 -- a part that is found by its name among those of an object is a member of it
 pub is_member : (object : Placed) (name : List ℕ) (parts : List Part) → All (IsPartOf object.spots.now) parts → (found : Option Part) → found ≡ find (λ p. bytes_eq p.name.now name) (reverse parts) → IfSome found (λ p. IsMember object name p.value)

@@ -1,5 +1,4 @@
 pub mod Facts
-mod Lists
 mod Aggs
 mod Bags
 mod Counts

@@ -32,7 +32,7 @@ aggregate_at-same w xs ys q h =
     ap (λ o. if is_start w q.start then o else None)
     (aggregate_of-same w.aggregates (records_of w q xs) (records_of w q ys) (IsSameBag-filter (is_at w q) xs ys h))
 
-merge_None : (ks : List Aggregate) (x : Option Aggregated) → merge ks x None ≡ x
+pub merge_None : (ks : List Aggregate) (x : Option Aggregated) → merge ks x None ≡ x
 merge_None ks None = refl
 merge_None ks (Some x) = refl
 

@@ -1,11 +1,12 @@
 -- Each partition of a start stands in what one task begins with.
-use Rattle.std.proofs.Common.{leb, ◌≡◌, ℕ, zero, suc, ◌-◌, ◌<◌, ◌≤◌, Bool, true, false, List, [], ◌∷◌, length, map, get_or, slice_index, Some, refl, sym, ap, subst, ◌∙◌, inl, inr, arith}
-use Rattle.std.specs.Prelude.{slice_get, if◌then◌else◌}
+use Rattle.std.proofs.Common.{leb, ◌≡◌, ℕ, zero, suc, ◌-◌, ◌<◌, ◌≤◌, true, List, [], ◌∷◌, length, map, get_or, slice_index, Some, refl, sym, ap, subst, ◌∙◌, inl, inr, arith}
+use Rattle.std.specs.Prelude.{slice_get}
 use Rattle.std.specs.Option.{option_map}
 use Rattle.std.proofs.lemmas.Bool.{cases_lt, le-leb}
 use Rattle.std.proofs.lemmas.List.{length-map}
 use Rattle.std.proofs.lemmas.Option.{slice_get-map, slice_get-get_or}
 use Rattle.std.proofs.Math.ListN.{get_or-map}
+use Rattle.plain_data.proofs.Facts.{first_where}
 use Rattle.plain_data.specs.Times.{lowest}
 use Rattle.plan_model.specs.PlanData.{PlanData, IsPlan}
 use Rattle.dataflow_model.specs.declared.message.Message.TheVariants.{End}
@@ -30,10 +31,6 @@ use Rattle.redistribute.specs.Laws.{HasPartition, StandsAt, EachPartitionOnce, N
 -- from the first number of the last row on, all stand in it
 pub last_row : (f : ℕ → ℕ) (n t : ℕ) → sum_below f n ≤ t → row_of f (suc n) t ≡ n
 last_row f n t l = let e : leb (sum_below f n) t ≡ true = le-leb (sum_below f n) t l in rw e refl
-
-counted : (b : Bool) (n m : ℕ) → b ≡ true → n ≡ (if b then n else m)
-counted true n m e = refl
-counted false n m e = absurd cc
 
 -- what a list that a function was taken of has at a place
 found : {X : Type 0} (f : ℕ → X) (xs : List ℕ) (k : ℕ) (b : X) → slice_get (map f xs) k ≡ Some b → (k < length xs) × (f (get_or xs k 0) ≡ b)
@@ -102,7 +99,7 @@ module _ (p : PlanData) (c : ScaleData) (e : Entries) (leg : Leg) (ip : IsPlan p
       omega (arith, r.1, o.1)
 
   pub places : (t : ℕ) → task_role S t ≡ role.Source → length (mine t) ≡ (L.task t).inputs
-  places t h = counted (is_source (task_role S t)) (length (mine t)) _ (ap is_source h)
+  places t h = first_where (is_source (task_role S t)) (length (mine t)) _ (ap is_source h)
 
   module _ (s : StartData) (is_start : IsStartOf p s) where
     abbrev starts_at : ℕ → List PartitionStart

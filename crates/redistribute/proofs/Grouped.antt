@@ -20,8 +20,9 @@ use Rattle.savepoint_codec.specs.declared.savepoint.SavedGroup.{SavedGroup}
 use Rattle.savepoint_codec.specs.EntriesData.{EntryData}
 use Rattle.window_state.specs.declared.parts.Part.{Part}
 use Rattle.window_state.specs.Parts.{entries_of}
+use Rattle.packed_parts.specs.Packing.{part_of}
 use Rattle.redistribute.specs.Begins.{IsOpenEntry, AreOpenGroups}
-use Rattle.redistribute.specs.Parts.{part_of, is_group_of, parts_in_group, IsOpenPart}
+use Rattle.redistribute.specs.Parts.{is_group_of, parts_in_group, IsOpenPart}
 use Rattle.redistribute.proofs.Found.{found_in, found_in_both}
 
 no_test : {X : Type 0} (b : Bool) (x : X) (y : Option X) → (b ≡ true → ⊥) → y ≡ None → cond b (Some x) y ≡ None

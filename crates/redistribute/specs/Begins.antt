@@ -14,7 +14,8 @@ use Rattle.stream_model.specs.Watermarks.{IsCut, empty_cut, records_before}
 use Rattle.stream_model.specs.PlanRows.{snapshot}
 use Rattle.redistribute.specs.StartData.{StartData, offsets_of}
 use Rattle.redistribute.specs.Snapshots.{saved_sources}
-use Rattle.redistribute.specs.Parts.{part_of, windows_of, IsOpenPart}
+use Rattle.packed_parts.specs.Packing.{part_of}
+use Rattle.redistribute.specs.Parts.{windows_of, IsOpenPart}
 
 -- an entry that may stand in a window of the plan where a leg begins, in the key group of its key
 pub record IsOpenEntry (p : PlanData) (kinds : List Kind) (n : ℕ) (e : EntryData) : Type 0 where

@@ -14,11 +14,11 @@ use Rattle.layout_rules.specs.Layouts.{partition_counts}
 use Rattle.key_groups.specs.declared.ranges.GroupRange.{GroupRange}
 use Rattle.layout_rules.specs.Stages.{source_of, task_stage, task_role, partitions_of, groups_of}
 use Rattle.aggregates.specs.declared.kind.Kind.{Kind}
-use Rattle.savepoint_codec.specs.EntriesData.{EntryData}
 use Rattle.savepoint_codec.specs.declared.savepoint.SavedPartition.{SavedPartition}
 use Rattle.savepoint_codec.specs.declared.savepoint.SavedGroup.{SavedGroup}
 use Rattle.window_state.specs.declared.parts.Part.{Part}
 use Rattle.window_state.specs.Parts.{entries_of, IsPartOf}
+use Rattle.packed_parts.specs.Packing.{part_of}
 use Rattle.redistribute.specs.declared.task_start.PartitionStart.{PartitionStart}
 use Rattle.redistribute.specs.declared.task_start.TaskStart.{TaskStart}
 use Rattle.redistribute.specs.declared.task_start.TaskStart.TheVariants.{Source, Chain, Window, Sink}
@@ -53,10 +53,6 @@ partitions_in (Source starts) = starts
 partitions_in Chain = []
 partitions_in (Window parts) = []
 partitions_in Sink = []
-
--- an entry of a savepoint as a part of a window state, with these kinds of aggregates
-abbrev pub part_of : List Kind → EntryData → Part
-part_of kinds e = record { pane = e.pane; acc = record { kinds = kinds; total = e.total } }
 
 -- the key group is one of the range
 abbrev pub is_group_of : GroupRange → ℕ → Bool

@@ -8,6 +8,7 @@ ghost use Rattle.layout_rules.specs.Stages as rule;
 ghost use Rattle.plan_compiler.specs.LayoutData.{IsLayoutOf};
 ghost use Rattle.plan_compiler.specs.Tables.{each_task};
 ghost use Rattle.savepoint_codec.specs.EntriesView.{entry_data};
+ghost use Rattle.packed_parts.specs.Packing as packing;
 ghost use Rattle.redistribute.specs.Parts as said;
 
 use crate::start::Start;
@@ -62,7 +63,7 @@ fn partition_starts(
 /// What an entry of a start is for a window state.
 fn part_of(kinds: &[Kind], entry: Entry<'_>) -> Part
     requires { is_entry kinds.now entry.count entry.numbers.now ≡ true }
-    ensures { result ≡ said.part_of kinds.now (entry_data entry.entry) }
+    ensures { result ≡ packing.part_of kinds.now (entry_data entry.entry) }
 {
     Part {
         pane: entry.pane,
@@ -73,7 +74,7 @@ fn part_of(kinds: &[Kind], entry: Entry<'_>) -> Part
 /// The entries of a key group, put behind the parts that are there.
 fn push_parts(parts: &mut Vec<Part>, kinds: &[Kind], entries: &Entries) -> Result<(), AllocError>
     requires { All (λ e. is_entry kinds.now e.total.count e.total.numbers ≡ true) entries.now.entries }
-    ensures { OnOk result (parts.new.items ≡ parts.old.items ++ map (said.part_of kinds.now) entries.now.entries) }
+    ensures { OnOk result (parts.new.items ≡ parts.old.items ++ map (packing.part_of kinds.now) entries.now.entries) }
 {
     parts.reserve(entries.len())?;
     for i in 0..entries.len() {

@@ -16,7 +16,7 @@ use Rattle.aggregates.specs.declared.kind.Kind.{Kind}
 use Rattle.savepoint_codec.specs.declared.savepoint.SavedGroup.{SavedGroup}
 use Rattle.window_state.specs.declared.parts.Part.{Part}
 use Rattle.window_state.specs.Parts.{entries_of}
-use Rattle.redistribute.specs.Parts.{part_of}
+use Rattle.packed_parts.specs.Packing.{part_of}
 use Rattle.redistribute.proofs.Facts.{find_in_both, or_none}
 use Rattle.gather.specs.Saved.{entries_in_group, is_in_group, saved_entry, saved_group, saved_groups}
 

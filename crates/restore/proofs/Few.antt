@@ -14,7 +14,8 @@ use Rattle.window_state.specs.Parts.{entries_of}
 use Rattle.savepoint_codec.specs.EntriesData.{EntryData}
 use Rattle.savepoint_codec.specs.declared.savepoint.SavedGroup.{SavedGroup}
 use Rattle.redistribute.specs.StartData.{StartData}
-use Rattle.redistribute.specs.Parts.{part_of, parts_of, windows_of}
+use Rattle.packed_parts.specs.Packing.{part_of}
+use Rattle.redistribute.specs.Parts.{parts_of, windows_of}
 use Rattle.restore.specs.Requirements.{every_entry, is_counted}
 
 module _ (n : ℕ) (kinds : List Kind) (q : Pane) where

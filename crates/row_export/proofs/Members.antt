@@ -12,7 +12,8 @@ use Rattle.row_tables.specs.declared.kind.CellKind.{CellKind}
 use Rattle.row_tables.specs.declared.kind.CellKind.TheVariants.{Number, Time, Fine, Date, Name}
 use Rattle.row_export.specs.Objects.{cell_token, comma_at, key_text, members, HasMembers, IsLine}
 use Rattle.row_export.specs.Shown.{ShowsRow}
-use Rattle.row_export.proofs.Rows.{row_more, taken}
+use Rattle.plain_data.proofs.Facts.{taken_more}
+use Rattle.row_export.proofs.Rows.{row_more}
 
 -- a key alone
 pub print_key : (title : List ℕ) → print (key title ∷ []) ≡ key_text title
@@ -103,8 +104,8 @@ member_more titles kinds names numbers i title kind n text before line at_title 
     let h₂ : length ks ≡ length h.cells = as_many ks names (take i numbers) h.cells h.shown in
     let after : fold (λ _ u. ends u) false (members ts ks h.cells) ≡ nat_lt 0 i = ends_of ts ks h.cells h₁ h₂ ∙ ap (nat_lt 0) long in
     let made : print (members (take (i + 1) titles) (take (i + 1) kinds) (h.cells ++ text ∷ [])) ≡ print (members ts ks h.cells) ++ tail =
-    ap (λ l. print (members l (take (i + 1) kinds) (h.cells ++ text ∷ []))) (taken titles i title at_title)
-    ∙ ap (λ l. print (members (ts ++ title ∷ []) l (h.cells ++ text ∷ []))) (taken kinds i kind at_kind)
+    ap (λ l. print (members l (take (i + 1) kinds) (h.cells ++ text ∷ []))) (taken_more titles i title at_title)
+    ∙ ap (λ l. print (members (ts ++ title ∷ []) l (h.cells ++ text ∷ []))) (taken_more kinds i kind at_kind)
     ∙ ap print (member_last ts ks h.cells title kind text h₁ h₂)
     ∙ print_from-append false (members ts ks h.cells) (key title ∷ cell_token kind text ∷ [])
     ∙ ap (λ l. print (members ts ks h.cells) ++ l) (ap (λ b. print_from b (key title ∷ cell_token kind text ∷ [])) after ∙ print_member (nat_lt 0 i) title text kind) in

@@ -13,7 +13,7 @@ use Rattle.row_export.specs.Objects.{comma_at}
 use Rattle.row_export.specs.Records.{escaped_byte, HasField, HasFields, IsRecord}
 use Rattle.row_export.specs.Shown.{ShowsRow}
 use Rattle.row_export.proofs.Members.{as_many}
-use Rattle.row_export.proofs.Rows.{row_more, taken}
+use Rattle.row_export.proofs.Rows.{row_more}
 
 -- a field that calls for no quotes
 pub field_plain : (text : List ℕ) → needs_quotes default_writer text ≡ false → field_text default_writer text ≡ text

@@ -1,7 +1,7 @@
 -- What a task has given and taken, and how many barriers it has passed once it is over.
 use Rattle.std.proofs.Common.{◌≡◌, ℕ, zero, suc, ◌+◌, ◌<◌, ◌≤◌, ℤ, List, [], ◌∷◌, Bool, true, false, eqb, set, get_or-set_other, replicate, refl, sym, ap, subst, ◌∙◌, inl, inr, arith, if◌then◌else◌}
 use Rattle.std.specs.Prelude.{slice_index}
-use Rattle.std.proofs.lemmas.Bool.{cases_Bool, cases_eq, eq-eqb, ne_eqb, eqb-true, false≢true, and_parts}
+use Rattle.std.proofs.lemmas.Bool.{cases_Bool, cases_eq, eq-eqb, ne_eqb, false≢true}
 use Rattle.plan_model.specs.PlanData.{PlanData}
 use Rattle.input_state.specs.declared.inputs.Shut.{Shut}
 use Rattle.input_state.specs.declared.inputs.Shut.TheVariants.{Free, Held, Ended}
@@ -14,7 +14,6 @@ use Rattle.dataflow_model.specs.declared.role.Role.{Role}
 use Rattle.dataflow_model.specs.declared.role.Role.TheVariants.{Source, Chain, Window, Sink}
 use Rattle.dataflow_model.specs.declared.ending.Ending.{Ending}
 use Rattle.dataflow_model.specs.declared.ending.Ending.TheVariants.{AtEnd, AtCut, Asked}
-use Rattle.dataflow_model.specs.Ending.{may_stop}
 use Rattle.dataflow_model.specs.Role.{is_source}
 use Rattle.dataflow_model.specs.AbstractTask.{AbstractTask}
 use Rattle.dataflow_model.specs.State.{State, Windows}
@@ -24,7 +23,7 @@ use Rattle.dataflow_model.specs.Steps.{Event, Open, Read, Save, Stop, Close, Tak
 use Rattle.dataflow_model.specs.Steps.LocalStep.{put, opens, reads, saves, stops, closes, chain_rows, chain_mark, window_rows, window_mark, sink_rows, sink_mark, holds, aligns, ends, ends_all, ends_aligned}
 use Rattle.dataflow_model.specs.Runs.{Run, taken, sent, only, onto, given}
 use Rattle.dataflow_model.specs.Runs.Run.{none, more}
-use Rattle.dataflow_model.proofs.Facts.{free_is, get_free, given_put, given_spread, no_source, released_at, all_shut_at, none_held_at, all_ended_by, stops_last}
+use Rattle.dataflow_model.proofs.Facts.{free_is, get_free, given_put, given_spread, no_source, released_at, all_shut_at, none_held_at, all_ended_by, stops_last, last_is}
 use Rattle.seal_laws.proofs.Logs.{barriers_in, has_end, is_plain, ArePlain, plain_append, plain_route, plain_route_of, plain_announce, plain_fired, IsGiven, given_none, given_plain, given_barrier, given_end, IsTaken, taken_plain, taken_more, taken_let_go}
 
 -- ---- inputs that are shut
@@ -134,9 +133,6 @@ passed_wait k es s i m v can by r =
 -- what is given by a task with nothing pending that makes a message pending for all outputs
 given_all : (k : AbstractTask) (m : Message) (n : ℕ) (over : Bool) (j : ℕ) (log : List Message) (ps : List (ℕ × Message)) → ps ≡ [] → j < k.outputs → IsGiven n over (m ∷ onto (only j ps) log) → IsGiven n over (onto (only j (to_all k.outputs m)) log)
 given_all k m n over j log ps idle l = subst (IsGiven n over) (sym (given_spread k.outputs (λ j. m ∷ []) j log ps idle l))
-
-last_is : (k : AbstractTask) (n : ℕ) → is_last k n ≡ true → n ≡ k.saves
-last_is k n e = eqb-true n k.saves (and_parts (may_stop k.ending) (eqb n k.saves) e).1
 
 -- an input that is let go, unless the barrier was that of a stop
 next_taken : (last : Bool) (ss : List Shut) (x n : ℕ) (log : List Message) → IsTaken n (shut_at ss x) log → IsTaken (suc n) (shut_at (if last then ss else released ss) x) log

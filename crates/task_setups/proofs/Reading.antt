@@ -1,10 +1,11 @@
 -- A source that is told its setup finds its partitions in the input.
-use Rattle.std.proofs.Common.{◌≡◌, ℕ, zero, suc, ◌+◌, ◌<◌, ◌≤◌, ◌==◌, Bool, true, false, List, [], ◌∷◌, length, map, get_or, refl, sym, ap, ◌∙◌, inl, inr, arith}
-use Rattle.std.specs.Prelude.{slice_index, if◌then◌else◌}
+use Rattle.std.proofs.Common.{◌≡◌, ℕ, zero, suc, ◌+◌, ◌<◌, ◌≤◌, ◌==◌, List, [], ◌∷◌, length, map, get_or, refl, sym, ap, ◌∙◌, inl, inr, arith}
+use Rattle.std.specs.Prelude.{slice_index}
 use Rattle.std.specs.Option.{option_map_or}
 use Rattle.std.specs.List.{AllByRecursion, range_with_len}
 use Rattle.std.proofs.lemmas.Bool.{cases_lt, cases_eq}
 use Rattle.std.proofs.lemmas.List.{get_or_default}
+use Rattle.plain_data.proofs.Facts.{first_where}
 use Rattle.stream_model.specs.InputData.{InputData, partition_at, no_entry}
 use Rattle.stream_model.specs.Watermarks.{IsCut}
 use Rattle.dataflow_model.specs.declared.role.Role.TheVariants.{Source, Window, Sink}
@@ -58,10 +59,6 @@ early l t ok m role =
       ]
     ]
 
-counted : (b : Bool) (n m : ℕ) → b ≡ true → n ≡ (if b then n else m)
-counted true n m e = refl
-counted false n m e = absurd cc
-
 pub every_task_reads : EveryTaskReads
 every_task_reads p c i n saves until stages t sound scaled compiled belongs cuts within_it last role =
     let e = entries_of i in
@@ -75,7 +72,7 @@ every_task_reads p c i n saves until stages t sound scaled compiled belongs cuts
     let s = setup_of p leg stages t in (
       record {
         source = (let o = d.own t b role in let z = same_sources p i belongs in omega (arith, o.0, z));
-        count = counted (is_source (role_of (task_stage stages t).operators)) (length mine) _ (ap is_source role);
+        count = first_where (is_source (role_of (task_stage stages t).operators)) (length mine) _ (ap is_source role);
         partition = λ q k.
             let y = d.there t q b role k in
             let h = there p i belongs (partition_read (input_of p i) l t q) y.some in

@@ -28,7 +28,7 @@ pub record IsSoFar (w : WindowSpec) (s : ℤ) (xs : List Slice) (i : ℕ) (o : O
 pub kinds_of : (w : WindowSpec) (o : Option AccData) (a : AccData) → o ≡ Some a → IfSome o (λ b. b.kinds ≡ map kind_of w.aggregates) → a.kinds ≡ map kind_of w.aggregates
 kinds_of w o a there kinds = subst (λ (p : Option AccData). IfSome p (λ b. b.kinds ≡ map kind_of w.aggregates)) there kinds
 
-at_most : (o : Option Aggregated) → IsCounted o → count_or o ≤ 2 ^ 41
+pub at_most : (o : Option Aggregated) → IsCounted o → count_or o ≤ 2 ^ 41
 at_most None few = omega arith
 at_most (Some a) few = few a refl
 

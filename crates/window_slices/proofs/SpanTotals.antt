@@ -13,6 +13,7 @@ use Rattle.aggregates.specs.Kinds.{AccData, kind_of}
 use Rattle.window_slices.specs.declared.key_slices.Slice.{Slice}
 use Rattle.window_slices.specs.KeySlices.{IsCounted, acc_with, slices_of, slices_total}
 use Rattle.window_slices.specs.Spans.{in_spans, keyed_at, span_start}
+use Rattle.window_slices.proofs.SliceTotals.{at_most}
 
 -- ---- the two halves
 
@@ -26,10 +27,6 @@ in_both w spans q is =
     ap (λ t. merge w.aggregates (cond t (in_span w spans q (span_start w q.start)) None) (cond t (in_span w spans q (span_start w q.start +ℤ w.size)) None)) is
 
 -- ---- how many records they are of
-
-at_most : (o : Option Aggregated) → IsCounted o → count_or o ≤ 2 ^ 41
-at_most None few = omega arith
-at_most (Some a) few = few a refl
 
 module _ (ks : List Aggregate) (a b : Option Aggregated) (few : IsCounted (merge ks a b)) where
   at_most_both : count_or a + count_or b ≤ 2 ^ 41

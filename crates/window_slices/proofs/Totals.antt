@@ -17,7 +17,7 @@ use Rattle.plan_model.specs.Windows.{is_start, is_within, is_at}
 use Rattle.plan_model.specs.Aggregates.{Aggregated, aggregate_of, merge}
 use Rattle.plan_model.specs.Rows.{records_of}
 use Rattle.plan_model.specs.Laws.{AggregatesIgnoreOrder, AggregatesMerge}
-use Rattle.plan_model.proofs.Facts.{merge_assoc, and_false}
+use Rattle.plan_model.proofs.Facts.{merge_assoc, merge_None, and_false}
 use Rattle.window_slices.specs.Slices.{slice_start, is_in_slice}
 use Rattle.window_slices.specs.Laws.{WindowsAreTheirSlices}
 use Rattle.window_slices.proofs.Starts.{eq_from, eq_to}
@@ -43,10 +43,6 @@ bags_apart : {X : Type 0} (s t : X → Bool) (xs : List X) → ((x : X) → (s x
 bags_apart s t xs h f = sums_apart f s t xs h ∙ sym (sum_by-append f (filter s xs) (filter t xs))
 
 -- ---- what lists of records come to, one after the other
-
-merge_None : (ks : List Aggregate) (x : Option Aggregated) → merge ks x None ≡ x
-merge_None ks None = refl
-merge_None ks (Some x) = refl
 
 merged_from : (ks : List Aggregate) (a : Option Aggregated) (xs : List (Option Aggregated)) → fold (merge ks) a xs ≡ merge ks a (fold (merge ks) None xs)
 merged_from ks a [] = sym (merge_None ks a)

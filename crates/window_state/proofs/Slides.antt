@@ -1,6 +1,6 @@
 -- A record brought in at several windows, one after another, and several records.
 use Rattle.std.proofs.Common.{◌≡◌, ℕ, ℤ, pos, ◌-ℤ◌, ◌+◌, ◌^◌, ◌<◌, ◌≤◌, ◌%◌, Bool, true, false, cond, ◌&&◌, ◌||◌, List, [], ◌∷◌, take, drop, length, get_or, refl, sym, ap, subst, ◌∙◌, arith, Option, Some, None, ◌≤ℤ◌, FitsSigned, to_z, of_z, if◌then◌else◌}
-use Rattle.std.specs.Prelude.{int_lt, ◌<ℤ◌}
+use Rattle.std.specs.Prelude.{int_lt}
 use Rattle.std.specs.Int.{int_rem_euclid}
 use Rattle.std.specs.FinMap.{FinMap, get}
 use Rattle.std.specs.Ordering.{int_eq}
@@ -256,6 +256,3 @@ fits_wide t b h k = grind (arith, ints)
 pub start_side : (t y f : ℤ) (b : ℕ) (d : Bool) → y ≡ t -ℤ pos b → IsTime t → b ≤ 2 ^ 40 → FitsSigned w128 f → int_lt (to_z w128 (of_z w128 y)) (to_z w128 (of_z w128 f)) ≡ d
     → int_lt (t -ℤ pos b) f ≡ d
 start_side t y f b d is time small hf h = sym (λ i. int_lt ((ap (λ z. to_z w128 (of_z w128 z)) is ∙ to_z-of_z w128 (t -ℤ pos b) (fits_wide t b time small)) i) (to_z-of_z w128 f hf i)) ∙ h
-
-pub lt_from_test : (a b : ℤ) → int_lt a b ≡ true → a <ℤ b
-lt_from_test a b h = grind (arith, ints)

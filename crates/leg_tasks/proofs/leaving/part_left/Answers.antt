@@ -4,7 +4,8 @@ use Rattle.layout_rules.specs.Stages.{task_role, partitions_of}
 use Rattle.dataflow_model.specs.declared.role.Role.TheVariants as role
 use Rattle.redistribute.specs.declared.task_start.TaskStart.TheVariants.{Window}
 use Rattle.redistribute.specs.Parts.{start_of_role, with_windows}
-use Rattle.leg_tasks.specs.Leaving.{kinds_in, parts_left, starts_left, state_at}
+use Rattle.task_steps.specs.Keeping.{kinds_in}
+use Rattle.leg_tasks.specs.Leaving.{parts_left, starts_left, state_at}
 use Rattle.leg_tasks.proofs.Known.{parts_are}
 use Rattle.leg_tasks.proofs.leaving.part_left.Goals as goal
 

@@ -8,7 +8,8 @@ use Rattle.plan_compiler.specs.LayoutData.{LayoutData}
 use Rattle.aggregates.specs.Kinds.{kind_of}
 use Rattle.redistribute.specs.declared.task_start.TaskStart.{TaskStart}
 use Rattle.task_steps.specs.TaskData.{TaskData, IsWindowOf}
-use Rattle.leg_tasks.specs.Leaving.{kinds_in, part_left, state_at}
+use Rattle.task_steps.specs.Keeping.{kinds_in}
+use Rattle.leg_tasks.specs.Leaving.{part_left, state_at}
 use Rattle.leg_tasks.proofs.Known.{kinds_are, same_part}
 use Rattle.leg_tasks.proofs.leaving.parts_left.Goals as goal
 

@@ -4,7 +4,7 @@ use Rattle.std.proofs.lemmas.Option.{get_or_from_slice_get, slice_get_within}
 use Rattle.window_state.specs.declared.parts.Part.{Part}
 use Rattle.savepoint_codec.specs.EntriesData.{EntryData}
 use Rattle.savepoint_codec.specs.EntriesView.{entry_data}
-use Rattle.redistribute.specs.Parts.{part_of}
+use Rattle.packed_parts.specs.Packing.{part_of}
 use Rattle.redistribute.proofs.spreading.push_parts.Goals as goal
 
 -- one entry more

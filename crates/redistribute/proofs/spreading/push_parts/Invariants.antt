@@ -1,5 +1,5 @@
 use Rattle.std.proofs.Common.{◌≡◌, ◌++◌, map, take}
-use Rattle.redistribute.specs.Parts.{part_of}
+use Rattle.packed_parts.specs.Packing.{part_of}
 use Rattle.redistribute.proofs.spreading.push_parts.Given as goal
 
 abbrev pub invariant-loop-i : goal.invariant-loop-i

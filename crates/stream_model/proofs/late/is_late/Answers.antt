@@ -1,7 +1,7 @@
 use Rattle.std.proofs.Common.{◌∙◌, to_z-of_z, w64}
 use Rattle.plain_data.specs.Record.{at}
 use Rattle.stream_model.specs.Late.{is_late_time}
-use Rattle.plan_model.proofs.Facts.{list_any_map}
+use Rattle.plain_data.proofs.Facts.{list_any_map}
 use Rattle.stream_model.proofs.late.is_late.Goals as goal
 
 pub returns-in-Rows : goal.returns-in-Rows

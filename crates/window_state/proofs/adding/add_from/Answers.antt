@@ -9,7 +9,8 @@ use Rattle.plan_model.specs.declared.spec.WindowSpec.{WindowSpec}
 use Rattle.plan_model.specs.declared.spec.Pane.{Pane}
 use Rattle.plan_model.specs.Aggregates.{aggregate_of, merge}
 use Rattle.window_state.specs.Windows.{IsStart}
-use Rattle.window_state.proofs.Slides.{Sliding, sliding_by, held, start_is, start_in_range, key_is, slid_start, slid, slid_end, slid_before, slid_later, start_side, lt_from_test, room_fresh, either_way}
+use Rattle.plan_model.proofs.Facts.{lt_from_test}
+use Rattle.window_state.proofs.Slides.{Sliding, sliding_by, held, start_is, start_in_range, key_is, slid_start, slid, slid_end, slid_before, slid_later, start_side, room_fresh, either_way}
 use Rattle.window_state.specs.State.{OpenWindows}
 use Rattle.window_state.proofs.adding.add_from.Goals as goal
 use Rattle.window_state.proofs.adding.add_from.Goals.{then-start-windows+in_ok-add_at, else-start-windows}

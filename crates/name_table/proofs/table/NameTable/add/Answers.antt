@@ -3,7 +3,8 @@ use Rattle.std.specs.Prelude.{bytes_eq}
 use Rattle.std.specs.String.{string_eq}
 use Rattle.std.specs.List.{list_any}
 use Rattle.std.proofs.lemmas.List.{length-map, map-append}
-use Rattle.name_table.proofs.Lists.{list_any_map, place_none}
+use Rattle.plain_data.proofs.Facts.{list_any_map}
+use Rattle.name_table.proofs.Lists.{place_none}
 use Rattle.name_table.proofs.table.NameTable.add.Goals as goal
 
 pub returns-clause-names : goal.returns-clause-names

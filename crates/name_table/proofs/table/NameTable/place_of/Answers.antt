@@ -1,6 +1,6 @@
 use Rattle.std.proofs.Common.{string_bytes, ◌∙◌, sym}
 use Rattle.std.specs.Prelude.{bytes_eq}
-use Rattle.name_table.proofs.Lists.{position_map, list_any_map}
+use Rattle.plain_data.proofs.Facts.{position_map, list_any_map}
 use Rattle.name_table.proofs.table.NameTable.place_of.Goals as goal
 
 pub returns-clause-place : goal.returns-clause-place

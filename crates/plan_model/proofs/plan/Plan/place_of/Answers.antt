@@ -1,6 +1,6 @@
 use Rattle.std.proofs.Common.{string_bytes, ◌∙◌, sym}
 use Rattle.std.specs.Prelude.{bytes_eq}
-use Rattle.plan_model.proofs.Lists.{position_map}
+use Rattle.plain_data.proofs.Facts.{position_map}
 use Rattle.plan_model.proofs.plan.Plan.place_of.Goals as goal
 
 pub returns : goal.returns
