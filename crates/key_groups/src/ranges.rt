@@ -1,6 +1,7 @@
 ghost use Rattle.std.specs.Prelude.{◌<◌, ◌≡◌, ◌≤◌, ◌*◌, ◌/◌, ◌^◌, map};
 ghost use Rattle.std.specs.List.{All};
 ghost use Rattle.key_groups.specs.Ranges.{group_owner, group_range};
+ghost use Rattle.key_groups.specs.declared.limits.TheConstants.{MOST_GROUPS, MOST_SUBTASKS};
 
 use crate::limits::{MaxParallelism, Parallelism};
 
@@ -42,7 +43,7 @@ pub fn owner_of(max: MaxParallelism, par: Parallelism, group: u32) -> u32
 }
 
 fn owners_by_shift(groups: &mut [u32], par: u32, bits: u32)
-    requires few { par ≤ 64 }
+    requires few { par ≤ MOST_SUBTASKS }
     requires bits { bits ≤ 15 }
     requires groups { All (λ group. group < 2 ^ bits) groups.old }
     ensures { groups.new ≡ map (λ group. group * par / 2 ^ bits) groups.old }
@@ -53,8 +54,8 @@ fn owners_by_shift(groups: &mut [u32], par: u32, bits: u32)
 }
 
 fn owners_by_division(groups: &mut [u32], par: u32, max: u32)
-    requires few { par ≤ 64 }
-    requires small { max ≤ 32768 }
+    requires few { par ≤ MOST_SUBTASKS }
+    requires small { max ≤ MOST_GROUPS }
     requires groups { All (λ group. group < max) groups.old }
     ensures { groups.new ≡ map (λ group. group * par / max) groups.old }
 {
