@@ -1,5 +1,5 @@
 //! Rows of whole numbers, one after another in one vector, by one pass over the bytes of a text.
-ghost use Rattle.std.specs.Prelude.{◌≡◌, ◌<◌, ◌++◌, ℤ, true, false, List, Some, IfOk, OnOk, length};
+ghost use Rattle.std.specs.Prelude.{◌≡◌, ◌<◌, ◌≤◌, ◌++◌, ℤ, true, false, List, Some, IfOk, OnOk, length};
 ghost use Rattle.json.specs.Token.{Token as SpecToken};
 ghost use Rattle.json.specs.Lex.{between, lex};
 ghost use Rattle.json_parts.specs.Parts.{whole, list_text};
@@ -25,6 +25,7 @@ fn cells_at<'a>(
         × (cells.new.items ≡ cells.old.items ++ row)) }
     ensures shorter { IfOk result (λ rest. length (tokens_from true rest.now) < length (tokens_from false text.now)) }
     ensures fewer { IfOk result (λ rest. length (lex between rest.now) < length (lex between text.now)) }
+    ensures within { OnOk result (length cells.new.items ≤ most) }
 {
     let mut item = behind_spaces(text);
     'cells: loop {
@@ -59,6 +60,7 @@ fn row_at<'a>(
         × (cells.new.items ≡ cells.old.items ++ row)) }
     ensures shorter { IfOk result (λ rest. (ts : List SpecToken) → Begins ts text.now → length (tokens_from true rest.now) < length ts) }
     ensures fewer { IfOk result (λ rest. length (lex between rest.now) < length (lex between text.now)) }
+    ensures within { OnOk result (length cells.new.items ≤ most) }
 {
     if depth == 0 {
         return Err(Miss::Other);
@@ -87,6 +89,7 @@ fn rows_at<'a>(
     ensures said { IfOk result (λ rest. (rows : List (List ℤ)) × (parts (row_text width) depth (tokens_from false text.now) ≡ Some (rows, tokens_from true rest.now))
         × (cells.new.items ≡ cells.old.items ++ joined rows)) }
     ensures shorter { IfOk result (λ rest. length (tokens_from true rest.now) < length (tokens_from false text.now)) }
+    ensures within { OnOk result (length cells.old.items ≤ most → length cells.new.items ≤ most) }
 {
     let mut item = behind_spaces(text);
     if let Some(over) = behind(item, b']') {
@@ -121,6 +124,7 @@ pub fn scan_rows(
     ensures said { OnOk result ((rows : List (List ℤ)) × (part (list_text (row_text width)) depth reader.old ≡ Some (rows, reader.new))
         × (cells.new.items ≡ cells.old.items ++ joined rows)) }
     ensures shorter { OnOk result (length reader.new < length reader.old) }
+    ensures within { OnOk result (length cells.old.items ≤ most → length cells.new.items ≤ most) }
 {
     if depth == 0 {
         return Err(Miss::Other);

@@ -28,7 +28,7 @@ pub rows-init : goal.rows-init
 rows-init c =
     let text = c.args.text.now in
     let start = tokens_from false text in
-    (start, [], starts text c.behind_spaces-item.result.now c.behind_spaces-item.ensures, items_begin (row_text c.args.width) c.args.depth start, sym (append-nil c.args.cells.now.items))
+    (start, [], starts text c.behind_spaces-item.result.now c.behind_spaces-item.ensures, items_begin (row_text c.args.width) c.args.depth start, sym (append-nil c.args.cells.now.items), λ h. h)
 
 pub rows-preserved : goal.rows-preserved
 rows-preserved c =
@@ -43,6 +43,7 @@ rows-preserved c =
       starts_over_comma r c.behind_spaces-spaced.result.now c.in-Some-behind.next.now c.behind_spaces-item-in-rows.result.now c.behind_spaces-spaced.ensures c.in-Some-behind.ensures c.behind_spaces-item-in-rows.ensures,
       items_next f c.args.depth (tokens_from false c.args.text.now) i.0 (tokens_from true r) i.1 row i.3 (told.1 i.0 i.2) (c.in_ok-rest.ensures.shorter i.0 i.2),
       told.2 ∙ ap (λ xs. xs ++ row) i.4 ∙ append_assoc c.args.cells.now.items (joined i.1) row ∙ ap (λ xs. c.args.cells.now.items ++ xs) (sym (joined_one i.1 row)),
+      λ h. c.in_ok-rest.ensures.within,
     )
 
 pub rows-smaller : goal.rows-smaller
