@@ -1,3 +1,2 @@
-mod Numbers
 mod Reading
 mod Merged

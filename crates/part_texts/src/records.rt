@@ -1,4 +1,4 @@
-//! The text of records, digit by digit from the last to the first.
+//! The text of records, number by number, from the last to the first.
 
 ghost use Rattle.std.specs.Prelude.{◌≡◌, ◌++◌, ◌∷◌, ◌*◌, ◌+◌, ◌≤◌, ◌<◌, [], length, drop, slice_index_or, IsAscii};
 ghost use Rattle.std.specs.List.{All};

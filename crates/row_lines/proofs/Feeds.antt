@@ -1,19 +1,16 @@
 -- Lines of rows in a text.
-use Rattle.std.proofs.Common.{◌≡◌, ◌≢◌, ℕ, suc, ℤ, pos, negsuc, ◌+◌, ◌-◌, ◌*◌, ◌^◌, ◌<◌, ◌≤◌, true, false, List, [], ◌∷◌, ◌++◌, length, get_or, take, drop, Option, Some, None, IfSome, Result, Ok, Err, FitsSigned, rules, arith, refl, sym, ap, subst, ◌∙◌, append_assoc, length-append, take-take}
+use Rattle.std.proofs.Common.{◌≡◌, ◌≢◌, ℕ, suc, ℤ, ◌+◌, ◌-◌, ◌*◌, ◌<◌, ◌≤◌, true, false, List, [], ◌∷◌, ◌++◌, length, get_or, take, drop, Option, Some, None, IfSome, Result, Ok, Err, FitsSigned, rules, arith, refl, sym, ap, subst, ◌∙◌, append_assoc, length-append, take-take}
 use Rattle.std.specs.Prelude.{IsErr, IsErrAnd}
 use mir.Syntax.{w64, w128}
-use Rattle.std.specs.Fmt.{decimal, signed_decimal}
-use Rattle.std.specs.Int.{IsInRange}
+use Rattle.std.specs.Fmt.{signed_decimal}
 use Rattle.std.specs.List.{All, flat_map}
 use Rattle.std.specs.Io.KnownBytes.{Consumes}
-use Rattle.std.specs.Str.Parse.{AllDigits}
 use Rattle.std.proofs.lemmas.Bool.{false≢true}
-use Rattle.std.proofs.lemmas.Fmt.{decimal_is_IsNumeral_wide, length_signed_le}
+use Rattle.std.proofs.lemmas.Fmt.{length_signed_le}
 use Rattle.std.proofs.Math.Seq.{take-append_seam}
 use Rattle.std.proofs.lemmas.List.{get_or-take, length-take}
 use Rattle.std.proofs.lemmas.List.Concat.{flat_map-cons}
-use Rattle.std.proofs.lemmas.List.Elements.{All-nil, All-cons, All-head, All-tail, All-append, All-get_or}
-use Rattle.std.proofs.lemmas.Str.Parse.{digit_from_value}
+use Rattle.std.proofs.lemmas.List.Elements.{All-nil, All-cons, All-head, All-tail, All-append, All-get_or, All-weaker}
 use Rattle.itoa.proofs.Decimal.{signed_wide}
 use Rattle.plan_model.specs.declared.spec.Pane.{Pane}
 use Rattle.plan_model.specs.declared.spec.Row.{Row}
@@ -27,43 +24,32 @@ use Rattle.row_lines.specs.declared.place.RowPlace.{RowPlace}
 use Rattle.row_lines.specs.declared.rows.RowLines.{RowLines}
 use Rattle.row_lines.specs.declared.rows.RowsFault.{RowsFault}
 use Rattle.row_lines.specs.declared.rows.RowsFault.TheVariants as fault
+use Rattle.row_lines.proofs.Numbers.{number_above}
 use Rattle.row_lines.proofs.Places.{HasNoLine}
 use Rattle.row_lines.proofs.Texts.{row_text, row_numbers, numbers_unique}
 
 -- rows of one text have as many numbers
 pub same_width : (line : List ℕ) (a b : Row) → IsRow a → IsRow b → line ≡ text_of_row a → line ≡ text_of_row b → length a.values ≡ length b.values
 same_width line a b a_is b_is e f =
-    let numbers : numbers_in a ≡ numbers_in b = numbers_unique (numbers_in a) (numbers_in b) (row_numbers a a_is) (row_numbers b b_is) (sym (row_text a) ∙ sym e ∙ f ∙ row_text b) in
+    let numbers : numbers_in a ≡ numbers_in b = numbers_unique (numbers_in a) (numbers_in b) (row_numbers a a_is) (omega arith) (sym (row_text a) ∙ sym e ∙ f ∙ row_text b) in
     ap (λ ns. length (drop 3 ns)) numbers
-
-digit_no_feed : (b : ℕ) → IsInRange 48 57 b → b ≢ 10
-digit_no_feed b h e = absurd (omega arith)
-
-digits_no_feed : (ds : List ℕ) → AllDigits 10 ds → IsOneLine ds
-digits_no_feed [] h = All-nil (λ b. b ≢ 10)
-digits_no_feed (b ∷ ds) h = All-cons (λ x. x ≢ 10) b ds (digit_no_feed b (digit_from_value b h.0)) (digits_no_feed ds h.1)
 
 other : (b : ℕ) → 10 < b → b ≢ 10
 other b h e = absurd (omega arith)
 
-number_no_feed : (z : ℤ) → FitsSigned w128 z → IsOneLine (signed_decimal z)
-number_no_feed (pos n) fits =
-    let small : n < 2 ^ 127 = search rules in
-    digits_no_feed (decimal n) (decimal_is_IsNumeral_wide n (omega arith)).0.1
-number_no_feed (negsuc n) fits =
-    let small : suc n ≤ 2 ^ 127 = search rules in
-    All-cons (λ x. x ≢ 10) 45 (decimal (suc n)) (other 45 (omega arith)) (digits_no_feed (decimal (suc n)) (decimal_is_IsNumeral_wide (suc n) (omega arith)).0.1)
+number_no_feed : (z : ℤ) → IsOneLine (signed_decimal z)
+number_no_feed z = All-weaker (λ b. 32 < b) (λ b. b ≢ 10) (λ b h. other b (omega (arith, h))) (signed_decimal z) (number_above z)
 
-numbers_no_feed : (numbers : List ℤ) → All (FitsSigned w128) numbers → IsOneLine (text_of_numbers numbers)
-numbers_no_feed [] fit = All-nil (λ b. b ≢ 10)
-numbers_no_feed (z ∷ []) fit = number_no_feed z (All-head (FitsSigned w128) z [] fit)
-numbers_no_feed (z ∷ y ∷ numbers) fit =
-    All-append (λ b. b ≢ 10) (signed_decimal z) (32 ∷ text_of_numbers (y ∷ numbers)) (number_no_feed z (All-head (FitsSigned w128) z (y ∷ numbers) fit))
-    (All-cons (λ x. x ≢ 10) 32 (text_of_numbers (y ∷ numbers)) (other 32 (omega arith)) (numbers_no_feed (y ∷ numbers) (All-tail (FitsSigned w128) z (y ∷ numbers) fit)))
+numbers_no_feed : (numbers : List ℤ) → IsOneLine (text_of_numbers numbers)
+numbers_no_feed [] = All-nil (λ b. b ≢ 10)
+numbers_no_feed (z ∷ []) = number_no_feed z
+numbers_no_feed (z ∷ y ∷ numbers) =
+    All-append (λ b. b ≢ 10) (signed_decimal z) (32 ∷ text_of_numbers (y ∷ numbers)) (number_no_feed z)
+    (All-cons (λ x. x ≢ 10) 32 (text_of_numbers (y ∷ numbers)) (other 32 (omega arith)) (numbers_no_feed (y ∷ numbers)))
 
--- no line feed stands in a row's text
-row_no_feed : (row : Row) → IsRow row → IsOneLine (text_of_row row)
-row_no_feed row h = subst IsOneLine (sym (row_text row)) (numbers_no_feed (numbers_in row) (row_numbers row h).fit)
+-- no line feed stands in a row's text, of whatever numbers
+pub row_no_feed : (row : Row) → IsOneLine (text_of_row row)
+row_no_feed row = subst IsOneLine (sym (row_text row)) (numbers_no_feed (numbers_in row))
 
 narrow_length : (z : ℤ) → FitsSigned w64 z → length (signed_decimal z) ≤ 20
 narrow_length z fits = length_signed_le 19 z (search rules) (search rules)
@@ -91,15 +77,15 @@ row_length row h =
     let few' : length row.values ≤ 8 = few in
     omega arith
 
--- the first line of a text is one
-first_line : (a b r s : List ℕ) → IsOneLine a → IsOneLine b → a ++ 10 ∷ r ≡ b ++ 10 ∷ s → a ≡ b
-first_line [] [] r s a_one b_one e = refl
+-- texts have the same first line, and the same behind it
+pub first_line : (a b r s : List ℕ) → IsOneLine a → IsOneLine b → a ++ 10 ∷ r ≡ b ++ 10 ∷ s → (a ≡ b) × (r ≡ s)
+first_line [] [] r s a_one b_one e = (refl, ap (drop 1) e)
 first_line [] (y ∷ b) r s a_one b_one e = absurd (All-head (λ x. x ≢ 10) y b b_one (sym (ap (λ l. get_or l 0 0) e)))
 first_line (x ∷ a) [] r s a_one b_one e = absurd (All-head (λ y. y ≢ 10) x a a_one (ap (λ l. get_or l 0 0) e))
 first_line (x ∷ a) (y ∷ b) r s a_one b_one e =
     let head : x ≡ y = ap (λ l. get_or l 0 0) e in
-    let tail : a ≡ b = first_line a b r s (All-tail (λ z. z ≢ 10) x a a_one) (All-tail (λ z. z ≢ 10) y b b_one) (ap (drop 1) e) in
-    λ i. head i ∷ tail i
+    let tail = first_line a b r s (All-tail (λ z. z ≢ 10) x a a_one) (All-tail (λ z. z ≢ 10) y b b_one) (ap (drop 1) e) in
+    (λ i. head i ∷ tail.0 i, tail.1)
 
 behind : (t rest : List ℕ) → get_or (t ++ rest) (length t) 0 ≡ get_or rest 0 0
 behind [] rest = refl
@@ -116,7 +102,7 @@ feed_behind text rest place h =
     let front : take (length line) text ≡ line = ap (λ l. take (length line) l) h.2 ∙ take-append_seam line (10 ∷ rest) in
     let within = length-take 391 text in
     let before : take (length line) (take 391 text) ≡ line = take-take (length line) 391 text (omega arith) ∙ front in
-    let one : IsOneLine line = subst IsOneLine (sym h.1.line_is) (row_no_feed h.1.row h.1.is) in
+    let one : IsOneLine line = subst IsOneLine (sym h.1.line_is) (row_no_feed h.1.row) in
     let at : get_or (take 391 text) (length line) 0 ≡ 10 = get_or-take 391 text (length line) 0 (omega arith) ∙ ap (λ l. get_or l (length line) 0) h.2 ∙ behind line (10 ∷ rest) in
     subst (λ n. IsPlace (take 391 text) (Some n) × IsPlaceOf (take n text) place) (sym count) ((omega arith, subst IsOneLine (sym before) one, at), subst (λ l. IsPlaceOf l place) (sym front) h.1)
 
@@ -150,8 +136,8 @@ no_row_there width (Some xs) (Some ys) line takes one none =
     let some : 0 < length xs = omega arith in (
       λ e. let empty : length xs ≡ 0 = ap (length {A = ℕ}) e in absurd (omega arith),
       λ row rest is wide same.
-          none row is wide (first_line line (text_of_row row) ys rest one (row_no_feed row is)
-          (sym (append_assoc line (10 ∷ []) ys) ∙ sym takes ∙ same ∙ append_assoc (text_of_row row) (10 ∷ []) rest)),
+          none row is wide (first_line line (text_of_row row) ys rest one (row_no_feed row)
+          (sym (append_assoc line (10 ∷ []) ys) ∙ sym takes ∙ same ∙ append_assoc (text_of_row row) (10 ∷ []) rest)).0,
     )
 
 -- a row that comes too early

@@ -1,5 +1,5 @@
 -- Where lines end, and what is left of a text.
-use Rattle.std.proofs.Common.{◌≡◌, ◌≢◌, ℕ, suc, ◌+◌, ◌-◌, ◌<◌, ◌≤◌, min, List, [], ◌∷◌, ◌++◌, length, get_or, take, drop, Option, Some, None, option_map, arith, refl, sym, ap, subst, ◌∙◌, append_assoc, drop-cons, eq-eqb, take_all, length-drop, length-append, slice_range, IfSome, take-take}
+use Rattle.std.proofs.Common.{◌≡◌, ◌≢◌, ℕ, suc, ◌+◌, ◌-◌, ◌<◌, ◌≤◌, min, List, [], ◌∷◌, ◌++◌, length, get_or, take, drop, Option, Some, None, option_map, arith, refl, sym, ap, subst, ◌∙◌, append_assoc, drop-cons, eq-eqb, length-drop, length-append, slice_range, IfSome, take-take}
 use Rattle.std.specs.Io.KnownBytes.{Appends, Consumes, Keeps}
 use Rattle.std.proofs.lemmas.Bool.{eqb-true}
 use Rattle.std.proofs.lemmas.List.{take-append-drop, get_or-take, take_min, length-take, take-append-le, drop-drop}
@@ -22,12 +22,8 @@ min_comm : (a b : ℕ) → min a b ≡ min b a
 min_comm a b = omega arith
 
 -- the bytes in which a line is looked for
-pub window_of : (end : ℕ) (xs ys : List ℕ) (n : ℕ) → xs ≡ ys → n ≡ min (length (take (length xs - end) (drop end xs))) 391 → take n (take (length xs - end) (drop end xs)) ≡ take 391 (drop end ys)
-window_of end xs ys n same is =
-    let rest = drop end xs in
-    let all : take (length xs - end) rest ≡ rest = take_all (length xs - end) rest (omega (arith, length-drop end xs)) in
-    let swap : n ≡ min 391 (length rest) = is ∙ ap (λ l. min (length l) 391) all ∙ min_comm (length rest) 391 in
-    (λ i. take (swap i) (all i)) ∙ take_min 391 rest ∙ ap (λ l. take 391 (drop end l)) same
+pub window_of : (held behind : List ℕ) (n : ℕ) → held ≡ behind → n ≡ min (length held) 391 → take n held ≡ take 391 behind
+window_of held behind n same is = ap (λ k. take k held) (is ∙ min_comm (length held) 391) ∙ take_min 391 held ∙ ap (take 391) same
 
 pub nothing_held : (old : Option (List ℕ)) (held : List ℕ) → held ≡ [] → option_map (λ xs. held ++ xs) old ≡ old
 nothing_held None held e = refl

@@ -1,96 +1,38 @@
 -- The texts of numbers with spaces between, and of rows.
-use Rattle.std.proofs.Common.{◌≡◌, ◌≢◌, ℕ, suc, ℤ, pos, negsuc, ◌+◌, ◌^◌, ◌<◌, ◌≤◌, false, eqb, List, [], ◌∷◌, ◌++◌, length, map, get_or, take, drop, ◌-◌, to_z, of_z, take_all, Result, Ok, Err, Option, Some, None, IfOk, FitsSigned, rules, arith, refl, sym, ap, subst, ◌∙◌, append_assoc, append-nil}
+use Rattle.std.proofs.Common.{◌≡◌, ℕ, ℤ, pos, ◌+◌, ◌<◌, ◌≤◌, false, eqb, List, [], ◌∷◌, ◌++◌, length, map, get_or, take, drop, ◌-◌, to_z, of_z, take_all, Result, Ok, Err, Option, Some, None, IfOk, FitsSigned, rules, arith, refl, sym, ap, subst, ◌∙◌, append_assoc, append-nil}
 use mir.Syntax.{w64, w128}
-use Rattle.std.specs.Fmt.{decimal, signed_decimal}
-use Rattle.std.specs.Int.{IsInRange}
+use Rattle.std.specs.Fmt.{signed_decimal}
 use Rattle.std.specs.List.{All, slice_split, join_with_byte, flat_map}
-use Rattle.std.specs.Str.Parse.{AllDigits, digits_value}
-use Rattle.std.proofs.lemmas.Bool.Decides.{nat_tests}
-use Rattle.std.proofs.lemmas.Fmt.{decimal_is_IsNumeral_wide}
 use Rattle.std.proofs.lemmas.List.Concat.{flat_map-cons}
-use Rattle.std.proofs.lemmas.List.Elements.{All-nil, All-cons, All-head, All-tail, All-get_or}
+use Rattle.std.proofs.lemmas.Bool.{ne_eqb}
+use Rattle.std.proofs.lemmas.List.Elements.{All-cons, All-tail, All-get_or, All-weaker}
 use Rattle.std.proofs.lemmas.Int.{to_z-of_z}
 use Rattle.std.proofs.lemmas.List.Splits.{slice_split_none, slice_split_at}
-use Rattle.std.proofs.lemmas.Str.Parse.{digit_from_value, not_in_digits}
 use Rattle.plan_model.specs.declared.spec.Row.{Row}
 use Rattle.row_lines.specs.Text.{spaced, text_of_row}
 use Rattle.row_lines.specs.Numbers.{AreNumbers, text_of_numbers}
 use Rattle.row_lines.specs.Rows.{IsRow, numbers_in, GivesRowOf, GivesRow}
-use Rattle.row_lines.proofs.Parses.{own}
+use Rattle.row_lines.proofs.Numbers.{number_above, same_numbers}
 use Rattle.row_lines.proofs.Fronts.{wider}
 
--- no space stands in a number
-digit_apart : (b : ℕ) → IsInRange 48 57 b → eqb b 32 ≡ false
-digit_apart b h = grind (arith, nat_tests)
+no_space : (b : ℕ) → 32 < b → eqb b 32 ≡ false
+no_space b h = ne_eqb b 32 (λ e. omega arith)
 
-digits_apart : (ds : List ℕ) → AllDigits 10 ds → All (λ b. eqb b 32 ≡ false) ds
-digits_apart [] h = All-nil (λ b. eqb b 32 ≡ false)
-digits_apart (b ∷ ds) h = All-cons (λ x. eqb x 32 ≡ false) b ds (digit_apart b (digit_from_value b h.0)) (digits_apart ds h.1)
-
-number_apart : (z : ℤ) → FitsSigned w128 z → All (λ b. eqb b 32 ≡ false) (signed_decimal z)
-number_apart (pos n) fits =
-    let small : n < 2 ^ 127 = search rules in
-    digits_apart (decimal n) (decimal_is_IsNumeral_wide n (omega arith)).0.1
-number_apart (negsuc n) fits =
-    let small : suc n ≤ 2 ^ 127 = search rules in
-    All-cons (λ x. eqb x 32 ≡ false) 45 (decimal (suc n)) refl (digits_apart (decimal (suc n)) (decimal_is_IsNumeral_wide (suc n) (omega arith)).0.1)
+number_apart : (z : ℤ) → All (λ b. eqb b 32 ≡ false) (signed_decimal z)
+number_apart z = All-weaker (λ b. 32 < b) (λ b. eqb b 32 ≡ false) no_space (signed_decimal z) (number_above z)
 
 -- numbers stand between the spaces of their text
-pub split_numbers : (numbers : List ℤ) → 0 < length numbers → All (FitsSigned w128) numbers → slice_split (λ b. eqb b 32) (text_of_numbers numbers) ≡ map signed_decimal numbers
-split_numbers [] some fit = absurd (omega arith)
-split_numbers (z ∷ []) some fit = slice_split_none (λ b. eqb b 32) (signed_decimal z) (number_apart z (All-head (FitsSigned w128) z [] fit))
-split_numbers (z ∷ y ∷ numbers) some fit =
-    slice_split_at (λ b. eqb b 32) (signed_decimal z) 32 (text_of_numbers (y ∷ numbers)) (number_apart z (All-head (FitsSigned w128) z (y ∷ numbers) fit)) refl
-    ∙ ap (λ rest. signed_decimal z ∷ rest) (split_numbers (y ∷ numbers) (search rules) (All-tail (FitsSigned w128) z (y ∷ numbers) fit))
-
-value_of : (n : ℕ) → n ≤ 2 ^ 127 → digits_value 10 (decimal n) ≡ n
-value_of n small = (decimal_is_IsNumeral_wide n (omega arith)).1
-
-same_decimal : (m n : ℕ) → m ≤ 2 ^ 127 → n ≤ 2 ^ 127 → decimal m ≡ decimal n → m ≡ n
-same_decimal m n m_small n_small e = sym (value_of m m_small) ∙ ap (digits_value 10) e ∙ value_of n n_small
-
-no_minus : (m : ℕ) (text : List ℕ) → m ≤ 2 ^ 127 → decimal m ≢ 45 ∷ text
-no_minus m text small e =
-    let digits = (decimal_is_IsNumeral_wide m (omega arith)).0 in
-    not_in_digits own (decimal m) 45 digits.1 (search rules) 0 digits.0 (ap (λ s. get_or s 0 0) e)
-
-same_number : (y z : ℤ) → FitsSigned w128 y → FitsSigned w128 z → signed_decimal y ≡ signed_decimal z → y ≡ z
-same_number (pos m) (pos n) y_fits z_fits e =
-    let y_small : m < 2 ^ 127 = search rules in
-    let z_small : n < 2 ^ 127 = search rules in
-    ap pos (same_decimal m n (omega arith) (omega arith) e)
-same_number (pos m) (negsuc n) y_fits z_fits e =
-    let y_small : m < 2 ^ 127 = search rules in
-    absurd (no_minus m (decimal (suc n)) (omega arith) e)
-same_number (negsuc m) (pos n) y_fits z_fits e =
-    let z_small : n < 2 ^ 127 = search rules in
-    absurd (no_minus n (decimal (suc m)) (omega arith) (sym e))
-same_number (negsuc m) (negsuc n) y_fits z_fits e =
-    let y_small : suc m ≤ 2 ^ 127 = search rules in
-    let z_small : suc n ≤ 2 ^ 127 = search rules in
-    let same : suc m ≡ suc n = same_decimal (suc m) (suc n) y_small z_small (ap (drop 1) e) in
-    let same' : m ≡ n = omega arith in
-    ap negsuc same'
-
-heads : (d : List ℕ) (xs ys : List (List ℕ)) (x y : List ℕ) → x ∷ xs ≡ y ∷ ys → x ≡ y
-heads d xs ys x y e = ap (λ l. get_or l 0 d) e
-
-tails : (xs ys : List (List ℕ)) (x y : List ℕ) → x ∷ xs ≡ y ∷ ys → xs ≡ ys
-tails xs ys x y e = ap (drop 1) e
-
-same_numbers : (xs ys : List ℤ) → All (FitsSigned w128) xs → All (FitsSigned w128) ys → map signed_decimal xs ≡ map signed_decimal ys → xs ≡ ys
-same_numbers [] [] xs_fit ys_fit e = refl
-same_numbers [] (y ∷ ys) xs_fit ys_fit e = absurd cc
-same_numbers (x ∷ xs) [] xs_fit ys_fit e = absurd cc
-same_numbers (x ∷ xs) (y ∷ ys) xs_fit ys_fit e =
-    let head = same_number x y (All-head (FitsSigned w128) x xs xs_fit) (All-head (FitsSigned w128) y ys ys_fit) (heads [] (map signed_decimal xs) (map signed_decimal ys) (signed_decimal x) (signed_decimal y) e) in
-    let tail = same_numbers xs ys (All-tail (FitsSigned w128) x xs xs_fit) (All-tail (FitsSigned w128) y ys ys_fit) (tails (map signed_decimal xs) (map signed_decimal ys) (signed_decimal x) (signed_decimal y) e) in
-    λ i. head i ∷ tail i
+pub split_numbers : (numbers : List ℤ) → 0 < length numbers → slice_split (λ b. eqb b 32) (text_of_numbers numbers) ≡ map signed_decimal numbers
+split_numbers [] some = absurd (omega arith)
+split_numbers (z ∷ []) some = slice_split_none (λ b. eqb b 32) (signed_decimal z) (number_apart z)
+split_numbers (z ∷ y ∷ numbers) some =
+    slice_split_at (λ b. eqb b 32) (signed_decimal z) 32 (text_of_numbers (y ∷ numbers)) (number_apart z) refl
+    ∙ ap (λ rest. signed_decimal z ∷ rest) (split_numbers (y ∷ numbers) (omega arith))
 
 -- a text is of one list of numbers
-pub numbers_unique : (xs ys : List ℤ) → AreNumbers xs → AreNumbers ys → text_of_numbers xs ≡ text_of_numbers ys → xs ≡ ys
-numbers_unique xs ys x y e =
-    same_numbers xs ys x.fit y.fit (sym (split_numbers xs x.some x.fit) ∙ ap (slice_split (λ b. eqb b 32)) e ∙ split_numbers ys y.some y.fit)
+pub numbers_unique : (xs ys : List ℤ) → AreNumbers xs → 0 < length ys → text_of_numbers xs ≡ text_of_numbers ys → xs ≡ ys
+numbers_unique xs ys are some e =
+    same_numbers xs ys are.fit (sym (split_numbers xs are.some) ∙ ap (slice_split (λ b. eqb b 32)) e ∙ split_numbers ys some)
 
 joined : (x : List ℕ) (numbers : List ℤ) → join_with_byte 32 (x ∷ map signed_decimal numbers) ≡ x ++ flat_map spaced numbers
 joined x [] = sym (append-nil x)
@@ -119,7 +61,7 @@ row_numbers row h = record {
 pub row_given : {E : Type 0} (r : Result (Option Row) E) (line : List ℕ) (numbers : List ℤ) → AreNumbers numbers → line ≡ text_of_numbers numbers → IfOk r (GivesRowOf numbers) → IfOk r (GivesRow line)
 row_given (Err e) line numbers are is h = tt
 row_given (Ok (Some row)) line numbers are is h = ((h are).0, is ∙ ap text_of_numbers (h are).1 ∙ sym (row_text row))
-row_given (Ok None) line numbers are is h = λ row is_row same. h row is_row (numbers_unique numbers (numbers_in row) are (row_numbers row is_row) (sym is ∙ same ∙ row_text row))
+row_given (Ok None) line numbers are is h = λ row is_row same. h row is_row (numbers_unique numbers (numbers_in row) are (omega arith) (sym is ∙ same ∙ row_text row))
 
 front_three : (ns : List ℤ) → 3 ≤ length ns → ns ≡ get_or ns 0 (pos 0) ∷ get_or ns 1 (pos 0) ∷ get_or ns 2 (pos 0) ∷ take (length ns - 3) (drop 3 ns)
 front_three [] long = absurd (omega arith)

@@ -130,14 +130,6 @@ impl<R: Read + Drop> Lines<R> {
         }
     }
 
-    /// The place behind the line at which the first line feed stands, within the most bytes of a line.
-    fn place(&self) -> Option<usize>
-        ensures { IsPlace (take LONGEST_LINE (held_of self.now)) result }
-    {
-        let held = &self.held[self.end..];
-        memchr(b'\n', &held[..held.len().min(LONGEST_LINE)])
-    }
-
     /// What is held behind the line.
     pub(crate) fn held(&self) -> &[u8]
         ensures { result.now ≡ held_of self.now }
@@ -145,11 +137,19 @@ impl<R: Read + Drop> Lines<R> {
         &self.held[self.end..]
     }
 
+    /// The place behind the line at which the first line feed stands, within the most bytes of a line.
+    fn place(&self) -> Option<usize>
+        ensures { IsPlace (take LONGEST_LINE (held_of self.now)) result }
+    {
+        let held = self.held();
+        memchr(b'\n', &held[..held.len().min(LONGEST_LINE)])
+    }
+
     /// How many bytes are held behind the line.
     fn count(&self) -> usize
         ensures { result ≡ length (held_of self.now) }
     {
-        self.held.len() - self.end
+        self.held().len()
     }
 
     /// Reads on behind what is held, and tells whether there was anything.

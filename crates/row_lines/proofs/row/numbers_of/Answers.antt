@@ -31,7 +31,7 @@ returns-in_default c = λ numbers are is.
     let parts = slice_split (λ b. eqb b 32) text in
     let turn = part_there c.loop-part.yielded _ c.loop-part.yielded_by c.into_iter-part-iterator.ensures.into_iter_gives
     (YieldsList-from_slice_split _ (λ b. eqb b 32) text c.split-part-items.ensures.rest c.split-part-items.ensures.done c.split-part-items.ensures.closure (λ x r q k. search (rules, tests))) _ _ c.in-Some.part c.in-Some.is c.next.ensures.steps in
-    let same : parts ≡ map signed_decimal numbers = ap (slice_split (λ b. eqb b 32)) is ∙ split_numbers numbers are.some are.fit in
+    let same : parts ≡ map signed_decimal numbers = ap (slice_split (λ b. eqb b 32)) is ∙ split_numbers numbers are.some in
     let all : All IsPrinted parts = subst (λ (ts : List (List ℕ)). All IsPrinted ts) (sym same) (printed numbers are.fit) in
     let one : IsPrinted c.in-Some.part.now = subst IsPrinted (sym turn.1) (All-get_or IsPrinted parts (length c.loop-part.yielded) c.in-Some.part.now turn.0 all) in
     c.in_default.ensures one.0 one.1 one.2
@@ -42,7 +42,7 @@ returns-then-is_full c = λ numbers are is.
     let parts = slice_split (λ b. eqb b 32) text in
     let turn = part_there c.loop-part.yielded _ c.loop-part.yielded_by c.into_iter-part-iterator.ensures.into_iter_gives
     (YieldsList-from_slice_split _ (λ b. eqb b 32) text c.split-part-items.ensures.rest c.split-part-items.ensures.done c.split-part-items.ensures.closure (λ x r q k. search (rules, tests))) _ _ c.in-Some.part c.in-Some.is c.next.ensures.steps in
-    let same : parts ≡ map signed_decimal numbers = ap (slice_split (λ b. eqb b 32)) is ∙ split_numbers numbers are.some are.fit in
+    let same : parts ≡ map signed_decimal numbers = ap (slice_split (λ b. eqb b 32)) is ∙ split_numbers numbers are.some in
     let long : length parts ≡ length numbers = ap length same ∙ length-map numbers signed_decimal in
     let so_far : length c.loop-part.numbers.items ≡ length c.loop-part.yielded = sym (length-map c.loop-part.numbers.items signed_decimal) ∙ ap length c.loop-part.invariant.texts ∙ length-map c.loop-part.yielded (λ part. part.now) in
     let few = are.few in
