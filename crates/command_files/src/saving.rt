@@ -1,11 +1,12 @@
 //! Files that hold what they held or the whole of what is written.
 
-ghost use Rattle.std.specs.Prelude.{◌≡◌, ◌⊎◌, IfErr};
+ghost use Rattle.std.specs.Prelude.{◌≡◌, ◌⊎◌, IfErr, IfOk};
 ghost use Rattle.std.specs.IoError.{error_kind};
 ghost use Rattle.command_files.specs.Files as said;
+ghost use Rattle.new_files.specs.Streams.{HasGot};
 
 use job_texts::JobFault;
-use new_files::{is_standard_output, write_whole};
+use new_files::{NewStream, is_standard_output, write_whole};
 use std::io;
 use std::io::ErrorKind;
 use std::random::RandomSource;
@@ -36,20 +37,22 @@ pub fn check_apart<R: Files + AllocGlobal>(rt: &R, path: &str) -> Result<(), Job
     }
 }
 
-/// Writes bytes as the whole of the file at a path: whatever happens meanwhile, it holds what it held or all of the bytes.
+/// Writes bytes as the whole of the file at a path, and gives what they were written to: whatever happens meanwhile, the file holds
+/// what it held or all of the bytes.
 ///
 /// # Errors
 ///
 /// `Write` where the file cannot be written, and then it holds what it held; `Memory`.
-pub fn save<R: Files + Print + RandomSource + AllocGlobal>(
-    rt: &R,
+pub fn save<'r, R: Files + Print + RandomSource + AllocGlobal>(
+    rt: &'r R,
     path: &str,
     bytes: &[u8],
-) -> Result<(), JobFault>
-    ensures { IfErr result (λ fault. (fault ≡ JobFault.Write) ⊎ (fault ≡ JobFault.Memory)) }
+) -> Result<NewStream<'r, R>, JobFault>
+    ensures written { IfOk result (λ stream. HasGot R.File.contents stream bytes.now) }
+    ensures refused { IfErr result (λ fault. (fault ≡ JobFault.Write) ⊎ (fault ≡ JobFault.Memory)) }
 {
     match write_whole(rt, path, bytes) {
-        Ok(_) => Ok(()),
+        Ok(stream) => Ok(stream),
         Err(error) => Err(write_fault(&error)),
     }
 }

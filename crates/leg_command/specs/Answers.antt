@@ -6,6 +6,8 @@ use Rattle.job_texts.specs.declared.fault.JobFault.TheVariants.{Cut, Number, Wri
 use Rattle.job.specs.Asked.{TellsAskedLeg}
 use Rattle.job.specs.Leg.{LegJob, LegLeft, TellsLeg, leg_said, words as leg_words}
 use Rattle.command_files.specs.Files.{CannotRead}
+use Rattle.new_files.specs.Streams.{HasGot}
+use Rattle.new_files.specs.declared.stream.NewStream.{NewStream}
 use Rattle.leg_command.specs.Receipts.{IsChecked, are_wrong, overwrite}
 use Rattle.leg_command.specs.declared.fault.LegRefusal.{LegRefusal}
 use Rattle.leg_command.specs.declared.fault.LegRefusal.TheVariants.{Job}
@@ -21,6 +23,13 @@ buffered fault = fault
 -- what was made could not be written, or there was no memory
 abbrev pub CannotWrite : JobFault → Type 0
 CannotWrite fault = (fault ≡ Write) ⊎ (fault ≡ Memory)
+
+-- bytes that there are were written to a file, if one is named for them
+abbrev pub IsKept : {R F D : Type 0} → (F → Option (List ℕ)) → Bool → Option (List ℕ) → Option (NewStream R F D) → Type 0
+IsKept contents true (Some bytes) (Some stream) = HasGot contents stream bytes
+IsKept contents true (Some bytes) None = ⊥
+IsKept contents true None kept = kept ≡ None
+IsKept contents false saved kept = kept ≡ None
 
 -- what comes of what is written into memory: why it was not, or it is given, or it could not be
 abbrev pub after_made : {X : Type 0} → Result X JobFault → Result (Unit {0}) JobFault → Type 0

@@ -1,13 +1,15 @@
 //! What a leg leaves: its savepoint, then its receipt, then its rows.
 
-ghost use Rattle.std.specs.Prelude.{◌≡◌, IfErr};
+ghost use Rattle.std.specs.Prelude.{◌≡◌, is_some, option_map, IfErr, IfOk};
+ghost use Rattle.new_files.specs.Streams.{HasGot};
 ghost use Rattle.leg_command.specs.Answers as answers;
-ghost use Rattle.leg_command.specs.Answers.{CannotWrite, after_leg, after_made};
+ghost use Rattle.leg_command.specs.Answers.{CannotWrite, IsKept, after_leg, after_made};
 
 use command_files::{check_apart, print, save};
 use job::LegOut;
 use job_texts::JobFault;
 use leg_receipts::{Told, leg_receipt};
+use new_files::NewStream;
 use std::random::RandomSource;
 use std::rt::Files;
 use user_texts::VERSION;
@@ -22,29 +24,31 @@ pub(crate) struct NewReceipt<'a> {
     pub(crate) names: Option<&'a [u8]>,
 }
 
-/// Writes bytes to the file at a path, where the standard output does not go.
-fn keep<R: Files + Print + RandomSource + AllocGlobal>(
-    rt: &R,
+/// Writes bytes to the file at a path, where the standard output does not go, and gives what they were written to.
+fn keep<'r, R: Files + Print + RandomSource + AllocGlobal>(
+    rt: &'r R,
     path: &str,
     bytes: &[u8],
-) -> Result<(), JobFault>
-    ensures { IfErr result CannotWrite }
+) -> Result<NewStream<'r, R>, JobFault>
+    ensures written { IfOk result (λ stream. HasGot R.File.contents stream bytes.now) }
+    ensures refused { IfErr result CannotWrite }
 {
     check_apart(rt, path)?;
     save(rt, path, bytes)
 }
 
-/// Writes the savepoint that a leg left, if it left one and a file is named for it.
-fn keep_savepoint<R: Files + Print + RandomSource + AllocGlobal>(
-    rt: &R,
+/// Writes the savepoint that a leg left, if it left one and a file is named for it, and gives what it was written to.
+fn keep_savepoint<'r, R: Files + Print + RandomSource + AllocGlobal>(
+    rt: &'r R,
     path: Option<&str>,
     saved: Option<&[u8]>,
-) -> Result<(), JobFault>
-    ensures { IfErr result CannotWrite }
+) -> Result<Option<NewStream<'r, R>>, JobFault>
+    ensures kept { IfOk result (λ stream. IsKept R.File.contents (is_some path.entry) (option_map (λ bytes. bytes.now) saved.entry) stream) }
+    ensures refused { IfErr result CannotWrite }
 {
     match (path, saved) {
-        (Some(path), Some(bytes)) => keep(rt, path, bytes),
-        _ => Ok(()),
+        (Some(path), Some(bytes)) => Ok(Some(keep(rt, path, bytes)?)),
+        _ => Ok(None),
     }
 }
 
@@ -78,7 +82,10 @@ fn write_receipt<'a, R: Files + Print + RandomSource + AllocGlobal>(
         names,
     };
     match leg_receipt(rt.alloc(), plan, input, from, saved, told) {
-        Ok(text) => keep(rt, path, text.as_bytes()),
+        Ok(text) => {
+            keep(rt, path, text.as_bytes())?;
+            Ok(())
+        }
         Err(_) => Err(JobFault::Memory),
     }
 }
