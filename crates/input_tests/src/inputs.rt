@@ -1,9 +1,11 @@
 use input_texts::InputFault;
+use legs::{first_entries, with_records};
 use logical_plan::ReadPlan;
 use plan_model::Plan;
 use std::process::Abort;
 use std::test::Fail;
-use stream_input::sources_in;
+use stream_input::{ReadInput, sources_in};
+use stream_model::Input;
 
 const PLAN: &str =
     r#"{"columns":3,"maxParallelism":128,"time":0,"key":1,"sources":[{"uid":"s","partitions":2}],"window":{"uid":"w","size":10,"slide":10,"offset":0,"aggregates":[{"fn":"count"},{"fn":"sum","column":2}]}}"#;
@@ -88,5 +90,36 @@ fn read_token_by_token(rt: HostRuntime) -> Result<(), Fail> {
 fn two_sources_token_by_token(rt: HostRuntime) -> Result<(), Fail> {
     let plan = plan_of(&rt, PAIR)?;
     check_taken(&rt, &plan, &TAKEN_OF_PAIR, true);
+    Ok(())
+}
+
+/// So many records, and those of the first entries of the first partition.
+fn with_front(rt: &impl AllocGlobal, records: u64, entries: u64) -> Result<u64, Fail> {
+    let plan = plan_of(rt, PLAN)?;
+    let input = Input::read(rt.alloc(), &plan, INPUT.as_bytes())?;
+    let first = input
+        .sources()
+        .first()
+        .and_then(|partitions| partitions.as_slice().first());
+    Ok(match first {
+        Some(partition) => with_records(records, first_entries(partition.as_slice(), entries)),
+        None => records,
+    })
+}
+
+#[test]
+fn records_are_counted_as_far_as_they_can_be(rt: HostRuntime) -> Result<(), Fail> {
+    for (records, entries, want) in [
+        (0, 0, 0),
+        (0, 1, 2),
+        (5, 2, 7),
+        (0, 3, 3),
+        (0, u64::MAX, 3),
+        (u64::MAX - 3, 3, u64::MAX),
+        (u64::MAX - 2, 3, u64::MAX),
+        (u64::MAX, 1, u64::MAX),
+    ] {
+        assert_eq!(rt; with_front(&rt, records, entries)?, want);
+    }
     Ok(())
 }

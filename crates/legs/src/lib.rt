@@ -2,6 +2,7 @@
 #![tactic(auto)]
 
 mod choice;
+mod counting;
 mod cut;
 mod fault;
 mod leg;
@@ -11,6 +12,7 @@ mod stop;
 mod until;
 
 pub use choice::{Choice, are_choices};
+pub use counting::{first_entries, with_records};
 pub use cut::Cut;
 pub use fault::LegFault;
 pub use leg::LegSpec;

@@ -1,40 +1,13 @@
 //! How many records stand before a cut, and how many lines a text has.
 
-ghost use Rattle.std.specs.Prelude.{◌≡◌, ◌+◌, ◌-◌, ◌^◌, min, take, length};
+ghost use Rattle.std.specs.Prelude.{◌≡◌, ◌-◌, ◌^◌, min, length};
 ghost use Rattle.std.specs.List.{fold, zip};
-ghost use Rattle.stream_model.specs.InputData.{records_in, records_of_entry};
 ghost use Rattle.stream_model.specs.Watermarks.{records_before};
 ghost use Rattle.receipts.specs.Counts as said;
 
+use legs::{first_entries, with_records};
 use plain_data::Items;
-use stream_model::{Entry, Marked, Partition, Source};
-
-/// The first entries of a partition.
-fn first(entries: &[Marked], count: u64) -> &[Marked]
-    ensures { result.now ≡ take count entries.now }
-{
-    &entries[..count.min(entries.len() as u64) as usize]
-}
-
-fn records_of(marked: &Marked) -> u64
-    ensures { result ≡ length (records_of_entry marked.now) }
-{
-    match &marked.entry {
-        Entry::Rows(batch) => batch.len() as u64,
-        Entry::Watermark(_) => 0,
-    }
-}
-
-/// So many records and those of entries, as far as they can be counted.
-fn with_entries(count: u64, entries: &[Marked]) -> u64
-    ensures { result ≡ min (count + length (records_in entries.now)) (2 ^ 64 - 1) }
-{
-    let mut total = count;
-    for entry in entries {
-        total = total.saturating_add(records_of(entry));
-    }
-    total
-}
+use stream_model::{Partition, Source};
 
 /// So many records and those before the counts of a source's partitions.
 fn with_source(count: u64, partitions: &[Partition], counts: &[u64]) -> u64
@@ -44,7 +17,7 @@ fn with_source(count: u64, partitions: &[Partition], counts: &[u64]) -> u64
         .iter()
         .zip(counts)
         .fold(count, |total, (entries, n)| {
-            with_entries(total, first(entries.as_slice(), *n))
+            with_records(total, first_entries(entries.as_slice(), *n))
         })
 }
 

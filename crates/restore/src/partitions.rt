@@ -1,23 +1,16 @@
 //! What is saved of partitions, against their entries.
 
-ghost use Rattle.std.specs.Prelude.{◌≡◌, ◌+◌, ◌-◌, ◌^◌, min, take, length};
+ghost use Rattle.std.specs.Prelude.{◌≡◌, ◌-◌, ◌^◌, min, length};
 ghost use Rattle.std.specs.List.{list_all, fold, zip};
-ghost use Rattle.stream_model.specs.InputData.{records_of_entry, records_in};
 ghost use Rattle.stream_model.specs.Watermarks.{partition_watermark, merged_watermark, records_before};
 ghost use Rattle.restore.specs.Saved.{cut_of};
 ghost use Rattle.restore.specs.Reached as said;
 ghost use Rattle.restore.specs.Requirements as required;
 
+use legs::{first_entries, with_records};
 use plain_data::Items;
 use savepoint_codec::SavedPartition;
-use stream_model::{Entry, Marked, Partition, Source, greatest_watermark};
-
-/// The first entries of a partition.
-fn first(entries: &[Marked], count: u64) -> &[Marked]
-    ensures { result.now ≡ take count entries.now }
-{
-    &entries[..count.min(entries.len() as u64) as usize]
-}
+use stream_model::{Marked, Partition, Source, greatest_watermark};
 
 /// The watermark of a partition after its first entries.
 fn watermark_at(entries: &[Marked], count: u64) -> i64
@@ -26,7 +19,7 @@ fn watermark_at(entries: &[Marked], count: u64) -> i64
     if count == entries.len() as u64 {
         i64::MAX
     } else {
-        greatest_watermark(first(entries, count))
+        greatest_watermark(first_entries(entries, count))
     }
 }
 
@@ -72,26 +65,6 @@ pub fn have_watermarks(saved: &[Items<SavedPartition>], sources: &[Source]) -> b
     ))
 }
 
-fn records_of(marked: &Marked) -> u64
-    ensures { result ≡ length (records_of_entry marked.now) }
-{
-    match &marked.entry {
-        Entry::Rows(batch) => batch.len() as u64,
-        Entry::Watermark(_) => 0,
-    }
-}
-
-/// So many records and those of entries, as far as they can be counted.
-fn with_entries(count: u64, entries: &[Marked]) -> u64
-    ensures { result ≡ min (count + length (records_in entries.now)) (2 ^ 64 - 1) }
-{
-    let mut total = count;
-    for entry in entries {
-        total = total.saturating_add(records_of(entry));
-    }
-    total
-}
-
 /// How far partitions were read: their least watermark, and how many records they have before it, as far as they can be counted.
 #[derive(Clone, Copy, Debug)]
 pub struct Reached {
@@ -106,7 +79,7 @@ fn with_partition(reached: Reached, saved: &SavedPartition, entries: &[Marked]) 
     let watermark = watermark_at(entries, saved.offset);
     Reached {
         watermark: reached.watermark.min(watermark),
-        records: with_entries(reached.records, first(entries, saved.offset)),
+        records: with_records(reached.records, first_entries(entries, saved.offset)),
     }
 }
 
