@@ -7,3 +7,4 @@ mod numbers;
 
 pub use acc::Acc;
 pub use kind::Kind;
+pub use numbers::number_of_one;

@@ -13,8 +13,8 @@ use crate::kind::Kind;
 use columns::Batch;
 use plan_model::Aggregate;
 
-/// The aggregate's number of one record.
-pub(crate) fn number_of_one(aggregate: Aggregate, batch: &Batch, row: usize) -> i64
+/// The aggregate's number of one record of a batch.
+pub fn number_of_one(aggregate: Aggregate, batch: &Batch, row: usize) -> i64
     requires row_in { row < length batch.now.rows }
     requires column_in { has_column batch.now.width aggregate }
     ensures { result ≡ number_of aggregate (slice_index_or batch.now.rows row []) [] }

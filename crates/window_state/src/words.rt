@@ -11,7 +11,7 @@ ghost use Rattle.aggregates.specs.Kinds.{is_number, are_numbers, kind_of, merge_
 ghost use Rattle.window_state.specs.Words as words_of;
 ghost use Rattle.window_state.specs.Words.{acc_in, count_of, sum_of, width, word, IsWritten};
 
-use aggregates::Acc;
+use aggregates::{Acc, number_of_one};
 use columns::Batch;
 use plan_model::{Aggregate, Numbers};
 use std::alloc::{AllocError, Global};
@@ -152,20 +152,6 @@ pub(crate) fn write_acc(words: &mut [i64], at: usize, aggregates: &[Aggregate], 
 {
     words[at] = acc.count() as i64;
     write_numbers(words, at + 1, aggregates, acc.numbers());
-}
-
-/// The number of one record.
-fn number_of_one(aggregate: Aggregate, batch: &Batch, row: usize) -> i64
-    requires row_in { row < length batch.now.rows }
-    requires column_in { has_column batch.now.width aggregate }
-    ensures { result ≡ number_of aggregate (slice_index_or batch.now.rows row []) [] }
-{
-    match aggregate {
-        Aggregate::Count => 1,
-        Aggregate::Sum(c) => batch.value(row, c as usize),
-        Aggregate::Least(c) => batch.value(row, c as usize),
-        Aggregate::Greatest(c) => batch.value(row, c as usize),
-    }
 }
 
 /// Writes what one record comes to in the place whose words begin at `at`.
