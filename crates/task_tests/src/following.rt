@@ -200,13 +200,17 @@ fn places_of(alloc: Global, rows: &[Row]) -> Result<Vec<(i64, i64)>, AllocError>
     Ok(places)
 }
 
-/// Where the rows of a world stand that has finished.
-fn rows_of(alloc: Global, world: World) -> Result<Vec<(i64, i64)>, AllocError> {
-    let finish = world.finish(alloc)?;
-    match rows_in(&finish) {
+fn places_in(alloc: Global, finish: &Option<Finish>) -> Result<Vec<(i64, i64)>, AllocError> {
+    match rows_in(finish) {
         Some(rows) => places_of(alloc, rows),
         None => Ok(Vec::new(alloc)),
     }
+}
+
+/// Where the rows of a world stand that has finished.
+fn rows_of(alloc: Global, world: World) -> Result<Vec<(i64, i64)>, AllocError> {
+    let finish = world.finish(alloc)?;
+    places_in(alloc, &finish)
 }
 
 /// A leg from nothing whose steps are chosen: of a plan at a scale, to where so many entries of each partition were read or to

@@ -170,6 +170,25 @@ fn ended_so(finish: &Finish) -> Option<Ended> {
     })
 }
 
+/// What a leg comes to that takes savepoints at cuts, where it goes to its end, or why there is none.
+fn ended_at(
+    alloc: Global,
+    keys: HashKeys,
+    plan: &Plan,
+    input: &Input,
+    start: &Start,
+    scale: &Scale,
+    saves: &[Cut],
+) -> Result<Option<Ended>, LegFault>
+    requires belongs { BelongsTo plan.now input.now }
+    requires scale { IsScale plan.now scale.now }
+    requires starts { IsStartIn plan.now input.now start.now }
+{
+    let never = Stop::Never;
+    let finish = run_leg_by(alloc, keys, plan, input, start, scale, saves, never, &[])?;
+    Ok(ended_so(&finish))
+}
+
 fn check_legs_at<R: AllocGlobal + Abort + RandomSource>(
     rt: &R,
     plan: &Plan,
@@ -185,34 +204,14 @@ fn check_legs_at<R: AllocGlobal + Abort + RandomSource>(
     let keys = HashKeys::random(rt)?;
     let mut saves = Vec::new(alloc);
     for sealed in [None, Some((1, 0, 1)), Some((2, 2, 2)), Some((3, 2, 3))] {
-        let finish = run_leg_by(
-            alloc,
-            keys,
-            plan,
-            input,
-            start,
-            scale,
-            &saves,
-            Stop::Never,
-            &[],
-        )?;
-        assert_eq!(rt; ended_so(&finish), Some(Ended { rows: 4, sealed }));
+        let ended = ended_at(alloc, keys, plan, input, start, scale, &saves);
+        assert_eq!(rt; ended, Ok(Some(Ended { rows: 4, sealed })));
         let count = (saves.len() as u64).min(1) * 2;
         saves.push(cut_of(alloc, &[count, count])?)?;
     }
     saves.push(cut_of(alloc, &[1, 2])?)?;
-    let refused = run_leg_by(
-        alloc,
-        keys,
-        plan,
-        input,
-        start,
-        scale,
-        &saves,
-        Stop::Never,
-        &[],
-    );
-    assert_eq!(rt; refused.err(), Some(LegFault::SaveRange));
+    let refused = ended_at(alloc, keys, plan, input, start, scale, &saves);
+    assert_eq!(rt; refused, Err(LegFault::SaveRange));
     Ok(())
 }
 

@@ -9,7 +9,7 @@ use legs::{LegFault, Stop};
 use logical_plan::ReadPlan;
 use plan_model::{Plan, Row};
 use redistribute::Start;
-use std::alloc::AllocError;
+use std::alloc::{AllocError, Global};
 use std::process::Abort;
 use std::random::RandomSource;
 use std::test::Fail;
@@ -131,6 +131,16 @@ fn is_sealed_so(sealed: &Option<Sealed>, seal: &Option<Seal>) -> bool {
     }
 }
 
+fn check_sealed<R: AllocGlobal + Abort>(
+    rt: &R,
+    world: &World,
+    seal: &Option<Seal>,
+) -> Result<(), AllocError> {
+    let sealed = world.sealed(rt.alloc())?;
+    assert!(rt; is_sealed_so(&sealed, seal));
+    Ok(())
+}
+
 fn play_part<R: AllocGlobal + Abort>(
     rt: &R,
     world: &mut World,
@@ -142,10 +152,10 @@ fn play_part<R: AllocGlobal + Abort>(
         Part::Failing(steps, listed) => {
             if finds_no_memory(world, steps) {
                 check_failed(rt, world, listed);
-                assert!(rt; is_sealed_so(&world.sealed(rt.alloc())?, &None));
+                check_sealed(rt, world, &None)?;
             }
         }
-        Part::Sealed(seal) => assert!(rt; is_sealed_so(&world.sealed(rt.alloc())?, seal)),
+        Part::Sealed(seal) => check_sealed(rt, world, seal)?,
     }
     Ok(())
 }
@@ -187,6 +197,11 @@ fn has_ended_so(finish: &Option<Finish>, ending: &Ending) -> bool {
     }
 }
 
+fn ends_so(alloc: Global, world: World, ending: &Ending) -> Result<bool, AllocError> {
+    let finish = world.finish(alloc)?;
+    Ok(has_ended_so(&finish, ending))
+}
+
 /// The world is finished or not, and has ended so.
 fn check_end<R: AllocGlobal + Abort>(
     rt: &R,
@@ -195,8 +210,7 @@ fn check_end<R: AllocGlobal + Abort>(
 ) -> Result<(), AllocError> {
     let is_over = !matches!(ending, Ending::GoesOn);
     assert_eq!(rt; world.is_finished(), is_over);
-    let finish = world.finish(rt.alloc())?;
-    assert!(rt; has_ended_so(&finish, ending));
+    assert!(rt; ends_so(rt.alloc(), world, ending)?);
     Ok(())
 }
 

@@ -18,6 +18,7 @@ use plan_model::{Plan, Row};
 use plan_scale::ReadScale;
 use redistribute::Start;
 use restore::check;
+use savepoint_codec::Savepoint;
 use savepoint_index::{decode, encode};
 use std::alloc::{AllocError, Global};
 use std::random::RandomSource;
@@ -106,6 +107,20 @@ fn lines(alloc: Global, rows: Items<Row>, sorts: bool) -> Result<String, AllocEr
     text_of_rows(alloc, rows.as_slice())
 }
 
+/// What a leg came to that left a savepoint.
+fn saved(
+    alloc: Global,
+    rows: Items<Row>,
+    savepoint: &Savepoint,
+    sorts: bool,
+) -> Result<Outcome, AllocError> {
+    let bytes = encode(alloc, savepoint)?;
+    Ok(Outcome {
+        rows: lines(alloc, rows, sorts)?,
+        savepoint: Some(bytes),
+    })
+}
+
 /// What a leg came to, with its rows sorted or in the order in which they came.
 pub fn outcome_of(alloc: Global, finish: Finish, sorts: bool) -> Result<Outcome, AllocError> {
     match finish {
@@ -113,14 +128,8 @@ pub fn outcome_of(alloc: Global, finish: Finish, sorts: bool) -> Result<Outcome,
             rows: lines(alloc, rows, sorts)?,
             savepoint: None,
         }),
-        Finish::Stopped(rows, savepoint) => Ok(Outcome {
-            rows: lines(alloc, rows, sorts)?,
-            savepoint: Some(encode(alloc, &savepoint)?),
-        }),
-        Finish::Abandoned(sealed) => Ok(Outcome {
-            rows: lines(alloc, sealed.rows, sorts)?,
-            savepoint: Some(encode(alloc, &sealed.savepoint)?),
-        }),
+        Finish::Stopped(rows, savepoint) => saved(alloc, rows, &savepoint, sorts),
+        Finish::Abandoned(sealed) => saved(alloc, sealed.rows, &sealed.savepoint, sorts),
     }
 }
 
