@@ -1,5 +1,5 @@
 -- The start nearest to a number, of those of some slices, as the code looks for it.
-use Rattle.std.proofs.Common.{◌≡◌, ℕ, zero, suc, ℤ, ◌+◌, ◌<◌, ◌≤ℤ◌, Bool, true, List, [], ◌∷◌, length, take, get_or, refl, sym, ap, subst, ◌∙◌, ◌⊎◌, inl, inr, arith, Option, Some, None}
+use Rattle.std.proofs.Common.{◌≡◌, ℕ, zero, suc, ℤ, ◌+◌, ◌<◌, true, List, [], ◌∷◌, length, take, get_or, ap, subst, ◌∙◌, ◌⊎◌, inl, inr, arith, Option, Some, None}
 use Rattle.std.specs.Prelude.{IfSome}
 use Rattle.std.specs.List.{All}
 use Rattle.std.specs.Ordering.{int_eq}

@@ -4,6 +4,7 @@ mod Boundaries
 mod Totals
 mod Fits
 mod Wide
+mod LastStarts
 mod KeyStarts
 mod SliceAdds
 mod SliceTotals

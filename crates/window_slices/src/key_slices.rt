@@ -128,13 +128,6 @@ pub fn start_above(slices: &[Slice], start: i64) -> Option<i64>
     found
 }
 
-/// Whether a slice starts at `start`.
-pub fn starts_at(slices: &[Slice], start: i64) -> bool
-    ensures { result ≡ has_start start slices.now }
-{
-    slices.iter().any(|slice| slice.start == start)
-}
-
 /// The slices of a key.
 pub(crate) fn slices_of_key(slices: &Slices, key: i64) -> &[Slice]
     ensures { result.now ≡ slices_of slices.now.entries key }
@@ -142,6 +135,29 @@ pub(crate) fn slices_of_key(slices: &Slices, key: i64) -> &[Slice]
     match slices.get(&key) {
         Some(slices) => slices.as_slice(),
         None => &[],
+    }
+}
+
+/// Brings a record in at the slice that starts at `start`, if there is one, and says whether there is.
+fn add_there(slices: &mut Vec<Slice>, w: &WindowSpec, start: i64, batch: &Batch, row: usize) -> bool
+    requires row_in { row < length batch.now.rows }
+    requires columns_in { All (has_column batch.now.width) w.now.aggregates }
+    requires few { length w.now.aggregates ≤ MOST_AGGREGATES }
+    requires kinds { All (IsSliceOf w.now) slices.old.items }
+    requires room { CanTakeOne start slices.old.items }
+    ensures there { result ≡ has_start start slices.old.items }
+    ensures added { result ≡ true → (s : ℤ) → slices_total w.now s slices.new.items
+        ≡ (if times.is_within w.now s start then merge w.now.aggregates (slices_total w.now s slices.old.items) (aggregate_of w.now.aggregates (slice_index_or batch.now.rows row [] ∷ []))
+        else slices_total w.now s slices.old.items) }
+    ensures kinds { All (IsSliceOf w.now) slices.new.items }
+    ensures same { result ≡ false → slices.new.items ≡ slices.old.items }
+{
+    match place_of(slices.as_slice(), start) {
+        Some(place) => {
+            slices.as_mut_slice()[place].acc.add(w, batch, row);
+            true
+        }
+        None => false,
     }
 }
 
@@ -165,14 +181,40 @@ fn add_to(
     ensures kinds { All (IsSliceOf w.now) slices.new.items }
     ensures err { OnErr result (slices.new.items ≡ slices.old.items) }
 {
-    if let Some(place) = place_of(slices.as_slice(), start) {
-        slices.as_mut_slice()[place].acc.add(w, batch, row);
+    if add_there(slices, w, start, batch, row) {
         return Ok(());
     }
     let acc = Acc::first(w, batch, row);
     match slices.push(Slice { start, acc }) {
         Ok(()) => Ok(()),
         Err(_) => Err(AllocError),
+    }
+}
+
+/// Brings a record in at the slice of its key that starts at `start`, if there is one, and says whether there is.
+pub(crate) fn add_to_known(
+    slices: &mut Slices,
+    w: &WindowSpec,
+    slice: Pane,
+    batch: &Batch,
+    row: usize,
+) -> bool
+    requires row_in { row < length batch.now.rows }
+    requires columns_in { All (has_column batch.now.width) w.now.aggregates }
+    requires few { length w.now.aggregates ≤ MOST_AGGREGATES }
+    requires kinds { AreSlices w.now slices.old.entries }
+    requires room { CanTakeOne slice.start (slices_of slices.old.entries slice.key) }
+    ensures there { result ≡ has_start slice.start (slices_of slices.old.entries slice.key) }
+    ensures added { result ≡ true → (q : PaneValue) → sliced w.now slices.new.entries q
+        ≡ (if int_eq slice.key q.key && times.is_window_of w.now slice.start q.start
+        then merge w.now.aggregates (sliced w.now slices.old.entries q) (aggregate_of w.now.aggregates (slice_index_or batch.now.rows row [] ∷ []))
+        else sliced w.now slices.old.entries q) }
+    ensures kinds { AreSlices w.now slices.new.entries }
+    ensures same { result ≡ false → (k : ℤ) → slices_of slices.new.entries k ≡ slices_of slices.old.entries k }
+{
+    match slices.get_mut(&slice.key) {
+        Some(slices) => add_there(slices, w, slice.start, batch, row),
+        None => false,
     }
 }
 

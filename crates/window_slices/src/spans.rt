@@ -1,6 +1,6 @@
 //! Spans of time, each as long as a window: a window lies in two of them, so that a row looks at the slices of two.
 
-ghost use Rattle.std.specs.Prelude.{◌≡◌, ℤ, ◌<◌, ◌≤◌, ◌<ℤ◌, ◌≤ℤ◌, ◌+ℤ◌, ◌&&◌, [], ◌∷◌, int_le, length, slice_index_or, OnOk, OnErr, if◌then◌else◌};
+ghost use Rattle.std.specs.Prelude.{◌≡◌, ℤ, true, false, ◌<◌, ◌≤◌, ◌<ℤ◌, ◌≤ℤ◌, ◌+ℤ◌, ◌&&◌, [], ◌∷◌, int_le, length, slice_index_or, OnOk, OnErr, if◌then◌else◌};
 ghost use Rattle.std.specs.List.{All};
 ghost use Rattle.std.specs.Option.{option_map};
 ghost use Rattle.std.specs.Ordering.{int_eq};
@@ -9,10 +9,12 @@ ghost use Rattle.plan_model.specs.declared.limits.TheConstants.{MOST_AGGREGATES}
 ghost use Rattle.plan_model.specs.PlanData.{IsWindow, has_column};
 ghost use Rattle.plan_model.specs.Aggregates.{aggregate_of, merge};
 ghost use Rattle.plan_model.specs.Windows.{is_window_of};
-ghost use Rattle.window_slices.specs.KeySlices.{CanTakeOne, IsCounted, acc_with, slices_of};
+ghost use Rattle.window_slices.specs.KeySlices.{CanTakeOne, IsCounted, acc_with, has_start, slices_of};
 ghost use Rattle.window_slices.specs.Spans.{AreInSpans, in_spans, keyed_at, span_start};
 
-use crate::key_slices::{Slice, Slices, add_slice, is_start, rest_of, slices_of_key, total_of};
+use crate::key_slices::{
+    Slice, Slices, add_slice, add_to_known, is_start, rest_of, slices_of_key, total_of,
+};
 use aggregates::Acc;
 use columns::Batch;
 use plan_model::{Pane, WindowSpec};
@@ -37,6 +39,34 @@ pub fn slices_in(spans: &Spans, span: i128, key: i64) -> &[Slice]
     match spans.get(&span) {
         Some(slices) => slices_of_key(slices, key),
         None => &[],
+    }
+}
+
+/// Brings a record in at a slice, if it is there, and says whether it is: `slice` says where it starts and of which key it is.
+pub fn add_to_slice(
+    spans: &mut Spans,
+    w: &WindowSpec,
+    slice: Pane,
+    batch: &Batch,
+    row: usize,
+) -> bool
+    requires row_in { row < length batch.now.rows }
+    requires window { IsWindow w.now }
+    requires columns_in { All (has_column batch.now.width) w.now.aggregates }
+    requires few { length w.now.aggregates ≤ MOST_AGGREGATES }
+    requires kinds { AreInSpans w.now spans.old.entries }
+    requires room { CanTakeOne slice.start (slices_of (keyed_at spans.old.entries (span_start w.now slice.start)) slice.key) }
+    ensures there { result ≡ has_start slice.start (slices_of (keyed_at spans.old.entries (span_start w.now slice.start)) slice.key) }
+    ensures added { result ≡ true → (q : PaneValue) → in_spans w.now spans.new.entries q
+        ≡ (if int_eq slice.key q.key && is_window_of w.now slice.start q.start
+        then merge w.now.aggregates (in_spans w.now spans.old.entries q) (aggregate_of w.now.aggregates (slice_index_or batch.now.rows row [] ∷ []))
+        else in_spans w.now spans.old.entries q) }
+    ensures kinds { AreInSpans w.now spans.new.entries }
+    ensures same { result ≡ false → (b k : ℤ) → slices_of (keyed_at spans.new.entries b) k ≡ slices_of (keyed_at spans.old.entries b) k }
+{
+    match spans.get_mut(&span_of(w, slice.start)) {
+        Some(slices) => add_to_known(slices, w, slice, batch, row),
+        None => false,
     }
 }
 

@@ -1,12 +1,12 @@
 -- A record brought in at the slice of its time: its windows, the room in its slice, and the open windows after it.
 use Rattle.std.proofs.Common.{◌≡◌, ℕ, zero, suc, ℤ, pos, neg_ℤ, ◌+ℤ◌, ◌-ℤ◌, ◌<ℤ◌, ◌≤ℤ◌, ◌+◌, ◌^◌, ◌<◌, ◌≤◌, Bool, true, false, cond, ◌&&◌, ◌||◌, List, [], ◌∷◌, length, slice_index_or, refl, sym, ap, subst, ◌∙◌, inl, inr, arith, Option, Some, None, is_some, FitsSigned, to_z, of_z, if◌then◌else◌}
-use Rattle.std.specs.FinMap.{get}
+use Rattle.std.specs.FinMap.{get, from_entries}
 use Rattle.std.specs.BTreeMap.{BTreeMap}
 use Rattle.std.specs.Global.{Vec}
 use Rattle.std.specs.Int.{w64, w128, int_rem_euclid}
 use Rattle.std.specs.Int.RustNames.{int_lt, int_le}
 use Rattle.std.specs.Ordering.{int_eq}
-use Rattle.std.proofs.lemmas.Bool.{and_parts, or_cases, false_from_ne_true}
+use Rattle.std.proofs.lemmas.Bool.{and_parts, or_cases, or_right, false_from_ne_true}
 use Rattle.std.proofs.lemmas.Int.{ints, to_z-of_z}
 use Rattle.std.proofs.lemmas.Cmp.{int_eq_equiv}
 use Rattle.plain_data.specs.Record.{Record, at}
@@ -23,14 +23,16 @@ use Rattle.window_slices.specs.Slices.{slice_start}
 use Rattle.window_slices.proofs.Facts.{last_start, windows_have_whole_slices, wider}
 use Rattle.window_slices.specs.declared.key_slices.Slice.{Slice}
 use Rattle.window_state.specs.declared.windows.Windows.TheInside.{Inside}
-use Rattle.window_state.specs.Open.{has_open}
-use Rattle.window_slices.specs.KeySlices.{CanTakeOne, IsCounted, has_slice, sliced, slices_of, slices_total}
+use Rattle.window_state.specs.Open.{has_open, open_panes}
+use Rattle.window_state.specs.Parts.{entries_at}
+use Rattle.window_slices.specs.KeySlices.{CanTakeOne, IsCounted, has_slice, has_start, sliced, slices_of, slices_total}
 use Rattle.window_slices.specs.Spans.{AreInSpans, in_spans, keyed_at, span_start}
 use Rattle.window_state.specs.State.{OpenWindows, HasRoomFor}
 use Rattle.window_state.specs.StateView.{standing, windows_view, IsWindowsInside}
 use Rattle.window_state.specs.Windows.{IsOperator, IsStart, acc_at, total_at}
 use Rattle.window_state.proofs.Slides.{sliding_by, held, start_is, fits_start, fits_window}
 use Rattle.window_slices.proofs.Facts.{some_in_span, count_in_span}
+use Rattle.window_state.proofs.Openings.{has_at}
 use Rattle.window_state.proofs.Standing.{get-view, standing_before, standing_later}
 
 abbrev narrow : ℤ → ℤ
@@ -377,6 +379,28 @@ module _ (s t : Inside) (r : Record) (first : ℕ) (b : Brings s r first) (a : A
       side false is = later q is
 
 -- ---- as the code has it
+
+-- the same slices make the same windows
+pub view_same : (s t : Inside) → t.places ≡ s.places → t.from ≡ s.from → t.opened ≡ s.opened → ((b k : ℤ) → slices_of (keyed_at t.spans.entries b) k ≡ slices_of (keyed_at s.spans.entries b) k)
+    → windows_view t ≡ windows_view s
+view_same s t places from opened slices =
+    let same : (q : Pane) → in_spans t.places.window t.spans.entries q ≡ in_spans s.places.window s.spans.entries q =
+    λ q. ap (λ p. in_spans p.window t.spans.entries q) places ∙ same_spans s.places.window t.spans.entries s.spans.entries slices q in
+    λ i. record {
+      window = (places i).window;
+      from = from i;
+      totals = from_entries (entries_at (λ q. cond (int_lt q.start (from i)) (total_at (places i).entries q) (same q i)) (open_panes (opened i).entries));
+    }
+
+-- where the slice is there, each of its windows has it
+pub slice_there : (w v : WindowSpec) (t start key k : ℤ) (opens : Pane → Bool) (spans : List (ℤ × BTreeMap ℤ (Vec Slice))) → pos 1 ≤ℤ w.slide → v ≡ w → start ≡ slice_start w t → key ≡ k
+    → has_start start (slices_of (keyed_at spans (span_start v start)) key) ≡ true
+    → (q : Pane) → int_eq k q.key ≡ true → is_window_of w t q.start ≡ true → (opens q || has_slice w q.start (slices_beside w spans t q.key)) ≡ true
+slice_there w v t start key k opens spans slides same at_start at_key has q keyed window =
+    let own : k ≡ q.key = grind (arith, ints, keyed) in
+    let there : has_start (slice_start w t) (slices_beside w spans t q.key) ≡ true =
+    sym (λ i. has_start (at_start i) (slices_of (keyed_at spans (span_start (same i) (at_start i))) ((at_key ∙ own) i))) ∙ has in
+    or_right (opens q) (has_slice w q.start (slices_beside w spans t q.key)) (has_at w t q.start (slices_beside w spans t q.key) slides window there)
 
 -- the slices at hand
 pub beside : (w v : WindowSpec) (t start span key : ℤ) (at_hand : List Slice) (spans : List (ℤ × BTreeMap ℤ (Vec Slice))) → v ≡ w → start ≡ slice_start w t

@@ -14,8 +14,9 @@ ghost use Rattle.window_state.specs.Windows.{CanAggregate, IsStart, is_pane};
 
 use crate::windows::Windows;
 use columns::Batch;
-use plan_model::Pane;
+use plan_model::{Pane, WindowSpec};
 use std::alloc::AllocError;
+use window_slices::back_to_start;
 
 /// Brings a record in in one pane.
 fn add_at(windows: &mut Windows, pane: Pane, batch: &Batch, row: usize) -> Result<(), AllocError>
@@ -87,18 +88,23 @@ fn add_later(windows: &mut Windows, batch: &Batch, row: usize, first: u64) -> Re
     windows.add_to_slice(batch, row, first)
 }
 
-/// Brings a record in at each window of its time.
-fn add_record(windows: &mut Windows, batch: &Batch, row: usize) -> Result<(), AllocError>
+/// Brings a record in at each window of its time. The last of them begins `first` before it.
+fn add_record(
+    windows: &mut Windows,
+    batch: &Batch,
+    row: usize,
+    first: u64,
+) -> Result<(), AllocError>
     requires row_in { row < length batch.now.rows }
     requires window { CanAggregate batch.now.width windows.old.window }
     requires time { IsTime (at windows.old.window.time (slice_index_or batch.now.rows row [])) }
+    requires rest { int_rem_euclid (at windows.old.window.time (slice_index_or batch.now.rows row []) -ℤ windows.old.window.offset) windows.old.window.slide ≡ pos first }
     requires room { HasRoomFor windows.old.window (slice_index_or batch.now.rows row [] ∷ []) windows.old.totals }
     ensures window_stays { windows.new.window ≡ windows.old.window }
     ensures added { OnOk result (TakesIn (slice_index_or batch.now.rows row [] ∷ []) windows.old windows.new) }
 {
     let w = windows.window();
     let time = batch.value(row, w.time as usize);
-    let first = (time - w.offset).rem_euclid(w.slide) as u64;
     let oldest = time - w.size + 1;
     add_later(windows, batch, row, first)?;
     if (oldest as i128) < windows.from {
@@ -115,8 +121,12 @@ pub(crate) fn add_batch(windows: &mut Windows, batch: &Batch) -> Result<(), Allo
     ensures window_stays { windows.new.window ≡ windows.old.window }
     ensures added { OnOk result (TakesIn batch.now.rows windows.old windows.new) }
 {
+    let mut start = None;
     for row in 0..batch.len() {
-        add_record(windows, batch, row)?;
+        let w = windows.window();
+        let time = batch.value(row, w.time as usize);
+        let first = back_to_start(w, time, &mut start);
+        add_record(windows, batch, row, first)?;
     }
     Ok(())
 }

@@ -1,7 +1,6 @@
 //! The panes of open windows, by the start of their window.
 
 ghost use Rattle.std.specs.Prelude.{◌≡◌, pos, int_lt, ◌-ℤ◌, ◌++◌, ◌&&◌, ◌||◌, ◌↔◌, ◌<◌, length, true, false, IfOk, IfSome, IfNone, OnOk, OnErr, if◌then◌else◌};
-ghost use Rattle.std.specs.BTreeSet.{IsFromIterResult};
 ghost use Rattle.std.specs.List.{All};
 ghost use Rattle.std.specs.List.Sorted.{IsStrictlySortedBy};
 ghost use Rattle.std.specs.Ordering.{int_eq};
@@ -17,8 +16,8 @@ ghost use Rattle.window_state.specs.Open.{has_open, has_key, panes_from, OpensOn
 use crate::firing::is_due;
 use plan_model::{Pane, WindowSpec};
 use std::alloc::{AllocError, Global};
-use std::collections::{BTreeMap, BTreeSet};
-use window_slices::{Slice, slice_of, start_above, start_below, starts_at};
+use std::collections::BTreeMap;
+use window_slices::{Slice, slice_of, start_above, start_below};
 
 /// For each start of an open window the keys that have a pane there, in the order in which they came. They are put in order
 /// only when their window fires, which costs less than to keep all panes in order.
@@ -64,9 +63,6 @@ pub(crate) fn open_new(
     ensures only { OpensOnly w.now record.key record.start opened.old.entries opened.new.entries }
 {
     let slice = slice_of(w, record.start);
-    if starts_at(slices, slice) {
-        return Ok(());
-    }
     let below = start_below(slices, slice);
     let above = start_above(slices, slice);
     let size = w.size as u64;
@@ -104,14 +100,13 @@ fn push_panes(panes: &mut Vec<Pane>, start: i64, keys: &[i64]) -> Result<(), All
     Ok(())
 }
 
-/// Panes in order. Mostly there are none, at a watermark by which no window fires.
-fn sorted(alloc: Global, panes: &[Pane]) -> Result<BTreeSet<Pane>, AllocError>
-    ensures { IfOk result (IsFromIterResult pane_cmp panes.now) }
+/// Puts panes in order, each once.
+fn sort_panes(panes: &mut Vec<Pane>)
+    ensures ordered { IsStrictlySortedBy pane_cmp panes.new.items }
+    ensures those { (q : PaneValue) → has_pane panes.new.items q ≡ has_pane panes.old.items q }
 {
-    if panes.is_empty() {
-        return Ok(BTreeSet::new(alloc));
-    }
-    panes.iter().map(|pane| *pane).collect(alloc)
+    panes.sort_unstable();
+    panes.dedup();
 }
 
 /// The panes whose windows fire by the watermark, in order.
@@ -120,9 +115,9 @@ pub(crate) fn due_panes(
     opened: &OpenPanes,
     w: &WindowSpec,
     watermark: i64,
-) -> Result<BTreeSet<Pane>, AllocError>
-    ensures ordered { IfOk result (λ panes. IsStrictlySortedBy pane_cmp panes.keys) }
-    ensures those { IfOk result (λ panes. (q : PaneValue) → has_pane panes.keys q ≡ (due w.now watermark q.start && has_open opened.now.entries q)) }
+) -> Result<Vec<Pane>, AllocError>
+    ensures ordered { IfOk result (λ panes. IsStrictlySortedBy pane_cmp panes.items) }
+    ensures those { IfOk result (λ panes. (q : PaneValue) → has_pane panes.items q ≡ (due w.now watermark q.start && has_open opened.now.entries q)) }
 {
     let mut panes = Vec::new(alloc);
     for (start, keys) in opened {
@@ -131,22 +126,20 @@ pub(crate) fn due_panes(
         }
         push_panes(&mut panes, *start, keys.as_slice())?;
     }
-    // Not handed on as it is: the proof needs the set itself.
-    let panes = sorted(alloc, panes.as_slice())?;
+    sort_panes(&mut panes);
     Ok(panes)
 }
 
 /// All panes, in order.
-pub(crate) fn all_panes(alloc: Global, opened: &OpenPanes) -> Result<BTreeSet<Pane>, AllocError>
-    ensures ordered { IfOk result (λ panes. IsStrictlySortedBy pane_cmp panes.keys) }
-    ensures those { IfOk result (λ panes. (q : PaneValue) → has_pane panes.keys q ≡ has_open opened.now.entries q) }
+pub(crate) fn all_panes(alloc: Global, opened: &OpenPanes) -> Result<Vec<Pane>, AllocError>
+    ensures ordered { IfOk result (λ panes. IsStrictlySortedBy pane_cmp panes.items) }
+    ensures those { IfOk result (λ panes. (q : PaneValue) → has_pane panes.items q ≡ has_open opened.now.entries q) }
 {
     let mut panes = Vec::new(alloc);
     for (start, keys) in opened {
         push_panes(&mut panes, *start, keys.as_slice())?;
     }
-    // Not handed on as it is: the proof needs the set itself.
-    let panes = sorted(alloc, panes.as_slice())?;
+    sort_panes(&mut panes);
     Ok(panes)
 }
 

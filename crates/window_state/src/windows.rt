@@ -1,6 +1,6 @@
 //! Open windows.
 
-ghost use Rattle.std.specs.Prelude.{◌≡◌, true, false, pos, int_lt, ◌-ℤ◌, ◌≤ℤ◌, ◌<ℤ◌, OnOk, OnErr, IfOk, IfSome, None, map, if◌then◌else◌, [], ◌∷◌, length, slice_index_or, ◌<◌};
+ghost use Rattle.std.specs.Prelude.{◌≡◌, true, false, pos, int_lt, int_le, ◌-ℤ◌, ◌≤ℤ◌, ◌<ℤ◌, OnOk, OnErr, IfOk, IfSome, None, map, if◌then◌else◌, [], ◌∷◌, length, slice_index_or, ◌<◌};
 ghost use Rattle.std.specs.FinMap as map_of;
 ghost use Rattle.std.specs.Int.{int_rem_euclid};
 ghost use Rattle.std.specs.List.{All};
@@ -27,7 +27,9 @@ use plan_model::{Numbers, Pane, WindowSpec};
 use std::alloc::{AllocError, Global};
 use std::collections::BTreeMap;
 use std::marker::Model;
-use window_slices::{Spans, add_in_span, pane_total, slice_of, slices_in, span_of};
+use window_slices::{
+    Spans, add_in_span, add_to_slice, pane_total, slice_behind, slice_of, slices_in, span_of,
+};
 
 /// For how many windows of a time a record goes to a slice of time instead of to each of them. With fewer there is nothing to
 /// gain. The slide has to divide the size, so that spans begin where windows do.
@@ -158,13 +160,15 @@ impl Windows {
         Ok(())
     }
 
-    /// Brings a record in at the slice of its time: at each window of its time that begins at `from` or later. The last window
-    /// of its time begins `first` before it.
-    pub fn add_to_slice(&mut self, batch: &Batch, row: usize, first: u64) -> Result<(), AllocError>
+    /// The same as `add_to_slice` of a record whose last window begins at `from` or later and has its time, where the slice may
+    /// have to be made first.
+    fn begin_slice(&mut self, batch: &Batch, row: usize, first: u64) -> Result<(), AllocError>
         requires row_in { row < length batch.now.rows }
         requires window { CanAggregate batch.now.width self.old.window }
         requires time { IsTime (at self.old.window.time (slice_index_or batch.now.rows row [])) }
         requires rest { int_rem_euclid (at self.old.window.time (slice_index_or batch.now.rows row []) -ℤ self.old.window.offset) self.old.window.slide ≡ pos first }
+        requires late { int_lt (at self.old.window.time (slice_index_or batch.now.rows row []) -ℤ pos first) self.old.from ≡ false }
+        requires long { int_le self.old.window.size (pos first) ≡ false }
         requires room { HasRoomFor self.old.window (slice_index_or batch.now.rows row [] ∷ []) self.old.totals }
         ensures window_stays { self.new.window ≡ self.old.window }
         ensures from_stays { self.new.from ≡ self.old.from }
@@ -175,10 +179,6 @@ impl Windows {
         let w = self.places.window();
         let time = batch.value(row, w.time as usize);
         let key = batch.value(row, w.key as usize);
-        let last = time - first as i64;
-        if (last as i128) < self.from || w.size <= time - last {
-            return Ok(());
-        }
         let start = slice_of(w, time);
         let slices = slices_in(&self.spans, span_of(w, start), key);
         open_new(
@@ -199,6 +199,35 @@ impl Windows {
             row,
         )?;
         Ok(())
+    }
+
+    /// Brings a record in at the slice of its time: at each window of its time that begins at `from` or later. The last window
+    /// of its time begins `first` before it.
+    pub fn add_to_slice(&mut self, batch: &Batch, row: usize, first: u64) -> Result<(), AllocError>
+        requires row_in { row < length batch.now.rows }
+        requires window { CanAggregate batch.now.width self.old.window }
+        requires time { IsTime (at self.old.window.time (slice_index_or batch.now.rows row [])) }
+        requires rest { int_rem_euclid (at self.old.window.time (slice_index_or batch.now.rows row []) -ℤ self.old.window.offset) self.old.window.slide ≡ pos first }
+        requires room { HasRoomFor self.old.window (slice_index_or batch.now.rows row [] ∷ []) self.old.totals }
+        ensures window_stays { self.new.window ≡ self.old.window }
+        ensures from_stays { self.new.from ≡ self.old.from }
+        ensures added { OnOk result ((q : PaneValue) → map_of.get self.new.totals q
+            ≡ (if int_lt q.start self.old.from then map_of.get self.old.totals q
+            else merge self.old.window.aggregates (map_of.get self.old.totals q) (aggregate_at self.old.window (slice_index_or batch.now.rows row [] ∷ []) q))) }
+    {
+        let w = self.places.window();
+        let time = batch.value(row, w.time as usize);
+        let last = time - first as i64;
+        if (last as i128) < self.from || w.size <= time - last {
+            return Ok(());
+        }
+        let key = batch.value(row, w.key as usize);
+        let start = slice_behind(w, time, last);
+        // Mostly the slice is there, and so its windows are open.
+        if add_to_slice(&mut self.spans, w, Pane { start, key }, batch, row) {
+            return Ok(());
+        }
+        self.begin_slice(batch, row, first)
     }
 }
 

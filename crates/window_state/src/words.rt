@@ -1,7 +1,7 @@
 //! The words of a place: its count, and then those of the number of each aggregate. A sum has two, and a
 //! `count` none, since it is the place's.
 
-ghost use Rattle.std.specs.Prelude.{◌≡◌, true, ℕ, ◌+◌, ◌-◌, ◌*◌, ◌^◌, ◌<◌, ◌≤◌, [], map, length, slice_index_or, unsigned_abs, IfOk};
+ghost use Rattle.std.specs.Prelude.{◌≡◌, true, ℕ, ◌+ℤ◌, ◌+◌, ◌-◌, ◌*◌, ◌^◌, ◌<◌, ◌≤◌, [], map, length, slice_index_or, unsigned_abs, IfOk};
 ghost use Rattle.std.specs.List.{All};
 ghost use Rattle.byte_fields.specs.Fields as fields;
 ghost use Rattle.plan_model.specs.PlanData.{has_column};
@@ -183,6 +183,19 @@ pub(crate) fn write_first(
     }
 }
 
+/// Adds a number to the sum that two words are. Mostly the second can take it.
+fn add_to_sum(words: &mut [i64], at: usize, number: i64)
+    requires room { at + 2 ≤ length words.old }
+    requires small { unsigned_abs (sum_of (word words.old at) (word words.old (at + 1)) +ℤ number) ≤ 2 ^ 104 }
+    ensures added { sum_of (word words.new at) (word words.new (at + 1)) ≡ sum_of (word words.old at) (word words.old (at + 1)) +ℤ number }
+    ensures others { IsWritten at (at + 2) words.old words.new }
+{
+    match words[at + 1].checked_add(number) {
+        Some(rest) => words[at + 1] = rest,
+        None => write_sum(words, at, sum_at(words, at) + number as i128),
+    }
+}
+
 /// Brings the number of one record in.
 fn add_number(words: &mut [i64], at: usize, aggregate: Aggregate, batch: &Batch, row: usize)
     requires row_in { row < length batch.now.rows }
@@ -196,10 +209,7 @@ fn add_number(words: &mut [i64], at: usize, aggregate: Aggregate, batch: &Batch,
 {
     match aggregate {
         Aggregate::Count => {}
-        Aggregate::Sum(c) => {
-            let sum = sum_at(words, at) + batch.value(row, c as usize) as i128;
-            write_sum(words, at, sum);
-        }
+        Aggregate::Sum(c) => add_to_sum(words, at, batch.value(row, c as usize)),
         Aggregate::Least(c) => words[at] = words[at].min(batch.value(row, c as usize)),
         Aggregate::Greatest(c) => words[at] = words[at].max(batch.value(row, c as usize)),
     }

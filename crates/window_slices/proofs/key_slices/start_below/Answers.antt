@@ -1,4 +1,4 @@
-use Rattle.std.proofs.Common.{◌≡◌, ◌<ℤ◌, ℤ, ap, subst, take, ◌∙◌, rules, FitsSigned, to_z, of_z}
+use Rattle.std.proofs.Common.{◌<ℤ◌, ℤ, ap, subst, ◌∙◌, rules, FitsSigned, to_z, of_z}
 use Rattle.std.specs.Int.{w64}
 use Rattle.std.specs.List.{All}
 use Rattle.std.proofs.lemmas.Int.{to_z-of_z}

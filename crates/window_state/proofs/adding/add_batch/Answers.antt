@@ -1,5 +1,7 @@
-use Rattle.std.proofs.Common.{◌<◌, [], ◌∷◌, get_or, length, sym, ap, subst, ◌∙◌, arith}
+use Rattle.std.proofs.Common.{◌≡◌, true, ◌<◌, [], ◌∷◌, get_or, length, sym, ap, subst, ◌∙◌, arith}
 use Rattle.std.specs.FinMap.{get}
+use Rattle.std.specs.Prelude.{IfSome}
+use Rattle.plan_model.specs.Windows.{is_start}
 use Rattle.plan_model.specs.declared.spec.WindowSpec.{WindowSpec}
 use Rattle.plan_model.specs.Aggregates.{merge}
 use Rattle.plan_model.specs.Rows.{aggregate_at}
@@ -24,4 +26,5 @@ loop-row-preserved c =
       added = λ q. rows_step c.args.windows.now.window rows c.loop-row.row (get c.args.windows.now.totals q) (get now q) (get c.add_record.new.windows.totals q) q inside
           (c.loop-row.invariant.added q)
           (c.in_ok-add_record.ensures.added q ∙ ap (λ (w : WindowSpec). merge w.aggregates (get now q) (aggregate_at w (get_or rows c.loop-row.row [] ∷ []) q)) c.loop-row.invariant.window);
+      start = subst (λ (w : WindowSpec). IfSome c.back_to_start-first.new.start (λ s. is_start w s ≡ true)) (c.window-w.ensures ∙ c.loop-row.invariant.window) c.back_to_start-first.ensures.start;
     }

@@ -10,9 +10,6 @@ use Rattle.window_state.specs.State.{OpenWindows}
 use Rattle.window_state.proofs.Apart.{oldest_less, oldest_more, oldest_side, none_before, both_sides, one_side, unreached}
 use Rattle.window_state.proofs.adding.add_record.Goals as goal
 
-pub add_later-requires-clause-rest : goal.add_later-requires-clause-rest
-add_later-requires-clause-rest c = rw (← c.window-w.ensures) (search rules)
-
 pub overflow_sub-oldest : goal.overflow_sub-oldest
 overflow_sub-oldest c =
     let v = c.args.windows.now.window in
@@ -30,7 +27,7 @@ overflow_add-oldest c =
     (c.value-time.ensures ∙ ap (λ (x : WindowSpec). at x.time r) c.window-w.ensures)
 
 pub add_from-requires-clause-rest : goal.add_from-requires-clause-rest
-add_from-requires-clause-rest c = rw (c.add_later.ensures.window_stays, ← c.window-w.ensures) (search rules)
+add_from-requires-clause-rest c = rw c.add_later.ensures.window_stays (search rules)
 
 pub add_from-requires-clause-room : goal.add_from-requires-clause-room
 add_from-requires-clause-room c = λ q before a b has reached.

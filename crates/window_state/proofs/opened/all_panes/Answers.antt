@@ -1,8 +1,7 @@
-use Rattle.std.proofs.Common.{◌++◌, ◌∙◌, ap, rules, FitsSigned}
+use Rattle.std.proofs.Common.{◌++◌, ◌∙◌, rules, FitsSigned}
 use Rattle.std.specs.Int.{w64}
 use Rattle.std.proofs.lemmas.Int.{to_z-of_z}
 use Rattle.window_state.specs.Open.{panes_from}
-use Rattle.window_state.specs.Windows.{has_pane}
 use Rattle.window_state.proofs.Starts.{next_start, no_more}
 use Rattle.window_state.proofs.opened.all_panes.Goals as goal
 
@@ -16,4 +15,4 @@ loop-start-preserved c = λ q.
 
 pub returns-clause-those : goal.returns-clause-those
 returns-clause-those c = λ q.
-    c.in_ok-panes.ensures.0 q ∙ ap (λ l. has_pane l q) c.as_slice-2.ensures.value ∙ no_more c.loop-start.panes.items c.loop-start.start-iterator q c.in-None.ensures.steps.0 ∙ c.loop-start.invariant q
+    c.sort_panes.ensures.those q ∙ no_more c.loop-start.panes.items c.loop-start.start-iterator q c.in-None.ensures.steps.0 ∙ c.loop-start.invariant q

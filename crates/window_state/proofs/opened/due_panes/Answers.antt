@@ -9,7 +9,6 @@ use Rattle.std.proofs.lemmas.Int.{to_z-of_z}
 use Rattle.std.proofs.lemmas.List.Elements.{All-nil}
 use Rattle.plan_model.specs.Rows.{is_due}
 use Rattle.window_state.specs.Open.{has_open, panes_from}
-use Rattle.window_state.specs.Windows.{has_pane}
 use Rattle.window_state.proofs.Starts.{next_due, none_from, all_so_far, starts_left}
 use Rattle.window_state.proofs.opened.due_panes.Goals as goal
 use Rattle.window_state.proofs.opened.due_panes.Goals.{in-None, in-Some+then-not-is_due}
@@ -48,6 +47,6 @@ returns-clause-those c = λ q.
           subst (All (λ (e : ℤ × Vec ℤ). is_due w held e.0 ≡ false)) (sym steps)
           (none_from w held e c.next.new.self (subst (λ l. IsStrictlySortedBy int_cmp (keys_of l)) steps c.loop-start.invariant.ordered) undue)
     ] in
-    c.in_ok-panes.ensures.0 q ∙ ap (λ l. has_pane l q) c.as_slice-2.ensures.value
+    c.sort_panes.ensures.those q
     ∙ all_so_far w held c.loop-start.panes.items left c.args.opened.now.entries q none (c.loop-start.invariant.those q)
     ∙ ap (λ t. is_due w t q.start && has_open c.args.opened.now.entries q) same

@@ -4,13 +4,13 @@ use Rattle.std.specs.Int.{w64, w128}
 use Rattle.std.specs.Int.RustNames.{int_le}
 use Rattle.std.proofs.lemmas.Int.{to_z-of_z}
 use Rattle.std.proofs.Math.Nat.{add-mod_right, mod-eq_of_lt}
-use Rattle.window_slices.specs.KeySlices.{has_start, has_slice}
+use Rattle.window_slices.specs.KeySlices.{has_start}
 use Rattle.window_state.specs.Open.{has_open, OpensOnly}
 use Rattle.window_state.specs.Windows.{is_pane}
 use Rattle.plan_model.specs.declared.spec.Pane.{Pane}
-use Rattle.std.proofs.lemmas.Bool.{or_left, or_right}
+use Rattle.std.proofs.lemmas.Bool.{or_left}
 use Rattle.window_state.proofs.Slides.{held, start_is}
-use Rattle.window_state.proofs.Openings.{IsSeenTo, walk, from_is, of_some, of_none_or, at_some, put_kept, has_at, back_fits, end_fits, slice_is, before_from, at_below, above_in, seen_none, seen_opened, only_opened, seen_kept, seen_all, seen_from, seen_below}
+use Rattle.window_state.proofs.Openings.{IsSeenTo, walk, from_is, of_some, of_none_or, at_some, put_kept, back_fits, end_fits, slice_is, before_from, at_below, above_in, seen_none, seen_opened, only_opened, seen_kept, seen_all, seen_from, seen_below}
 use Rattle.window_state.proofs.opened.open_new.Goals as goal
 use Rattle.window_state.proofs.opened.open_new.Goals.{then-is_none_or+in_ok-open_pane, else-is_none_or}
 use Rattle.window_state.proofs.opened.open_new.Goals.{then-start-from-via-then-start-from, then-start-from-via-else-start-from+then-is_some_and}
@@ -49,17 +49,6 @@ overflow_add-end c =
     let fits : FitsSigned w64 t = search rules in
     let small : b ≤ 2 ^ 40 = omega (arith, k.size_small, c.loop-back-test.true) in
     end_fits w t _ b c.requires.window c.requires.time small (start_is t t b fits refl c.requires.time small)
-
-pub returns-then-starts_at-clause-opened : goal.returns-then-starts_at-clause-opened
-returns-then-starts_at-clause-opened c = λ q same window late.
-    let w = c.args.w.now in
-    let t = c.args.record.start in
-    let slice = c.slice_of-slice.result in
-    let fits : FitsSigned w64 t = search rules in
-    let slice_fits : FitsSigned w64 slice = search rules in
-    let at = slice_is w t slice fits slice_fits c.slice_of-slice.ensures.value in
-    or_right (has_open c.args.opened.now.entries q) (has_slice w q.start c.args.slices.now)
-    (has_at w t q.start c.args.slices.now c.requires.window.slides window (ap (λ (s : ℤ). has_start s c.args.slices.now) (sym at) ∙ sym c.starts_at.ensures ∙ c.if-starts_at.true))
 
 pub loop-back-preserved : goal.loop-back-preserved
 loop-back-preserved c =

@@ -1,4 +1,4 @@
-use Rattle.std.proofs.Common.{◌≡◌, ◌++◌, map}
+use Rattle.std.proofs.Common.{◌≡◌, ◌++◌, drop, map}
 use Rattle.std.specs.FinMap.{get}
 use Rattle.std.specs.List.{All}
 use Rattle.aggregates.specs.Kinds.{kind_of}
@@ -9,6 +9,6 @@ abbrev pub invariant-loop-pane : goal.invariant-loop-pane
 invariant-loop-pane l =
     let v = l.windows in
     let kinds = map kind_of v.window.aggregates in record {
-      same : l.parts.items ++ parts_in kinds (entries_at (get v.totals) l.pane-iterator) ≡ parts_in kinds (entries_at (get v.totals) l.initial.pane-iterator);
+      same : l.parts.items ++ parts_in kinds (entries_at (get v.totals) (drop l.pane-index l.pane-items)) ≡ parts_in kinds (entries_at (get v.totals) l.pane-items);
       sound : All (IsPartOf v.window) l.parts.items;
     }

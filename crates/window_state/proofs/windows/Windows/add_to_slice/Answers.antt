@@ -1,20 +1,22 @@
-use Rattle.std.proofs.Common.{◌∙◌, ◌-ℤ◌, pos, true, false, [], get_or, refl, sym, ap, subst, rules, FitsSigned, to_z, of_z}
+use Rattle.std.proofs.Common.{◌∙◌, ◌-ℤ◌, pos, true, false, [], ◌∷◌, get_or, refl, sym, ap, subst, rules, FitsSigned, to_z, of_z}
 use Rattle.std.specs.Int.{w64, w128}
+use Rattle.std.specs.Prelude.{OnOk}
+use Rattle.std.specs.List.{All}
+use Rattle.plan_model.specs.PlanData.{has_column}
 use Rattle.std.specs.Int.RustNames.{int_lt}
 use Rattle.std.proofs.lemmas.Int.{to_z-of_z}
 use Rattle.plain_data.specs.Record.{Record, at}
 use Rattle.plan_model.specs.declared.spec.WindowSpec.{WindowSpec}
-use Rattle.window_slices.specs.Slices.{slice_start}
+use Rattle.window_slices.specs.Slices.{slice_start, last_start_by}
 use Rattle.window_state.specs.declared.windows.Windows.TheInside.{Inside}
 use Rattle.window_state.specs.Open.{has_open}
 use Rattle.window_slices.specs.KeySlices.{CanTakeOne, slices_of}
 use Rattle.window_slices.specs.Spans.{AreInSpans, keyed_at, span_start}
-use Rattle.window_state.specs.State.{OpenWindows}
+use Rattle.window_state.specs.State.{OpenWindows, HasRoomFor}
 use Rattle.window_state.specs.StateView.{windows_view}
 use Rattle.window_state.proofs.Openings.{slice_is}
-use Rattle.window_state.proofs.Slides.{key_is}
-use Rattle.window_state.proofs.Standing.{opened_more}
-use Rattle.window_state.proofs.SliceFits.{Brings, AddsOne, Added, brings, stays, small_first, back_fits, size_test, from_test, none_later, none_long, can_take, inside_same, inside_more, added_view, slices_beside, beside, opens_new, adds_one}
+use Rattle.window_state.proofs.Slides.{key_is, start_is}
+use Rattle.window_state.proofs.SliceFits.{view_same, slice_there, Brings, AddsOne, Added, brings, stays, small_first, back_fits, size_test, from_test, none_later, none_long, can_take, inside_same, inside_more, added_view, adds_one}
 use Rattle.window_state.proofs.windows.Windows.add_to_slice.Goals as goal
 use Rattle.window_state.proofs.windows.Windows.add_to_slice.Goals.{then-last-self-via-then-last-self, then-last-self-via-else-last-self+then-w-time}
 
@@ -46,74 +48,127 @@ returns-then-last-self-clause-added c =
           stays v r (λ q late. none_long v.window r c.args.first range c.requires.rest q.start long)
     ]
 
-pub invariant_of-self : goal.invariant_of-self
-invariant_of-self c = opened_more c.self.inside _ c.self.invariant (record { window = refl; from = refl; slices = refl }) refl c.in_err-open_new.ensures.still
+pub slice_behind-start-requires-clause-start : goal.slice_behind-start-requires-clause-start
+slice_behind-start-requires-clause-start c =
+    let s = c.self.inside in
+    let v = c.args.self.now in
+    let r : Record = get_or c.args.batch.now.rows c.args.row [] in
+    let w = s.places.window in
+    let t = at w.time r in
+    let fits : FitsSigned w64 c.value-time.result = search rules in
+    let same = c.window-w.ensures in
+    let time = c.value-time.ensures ∙ ap (λ (x : WindowSpec). at x.time r) same in
+    let b = brings s v r c.args.first c.self.invariant c.self.view_is c.requires.window.operator.range c.requires.time c.requires.rest c.requires.room in
+    let last = start_is t c.value-time.result c.args.first fits time b.time (small_first w r c.args.first b.range b.rest) in
+    let held = to_z-of_z w64 c.value-time.result fits ∙ time in
+    last ∙ ap (λ z. t -ℤ z) (sym b.rest) ∙ (λ i. last_start_by (sym same i) (sym held i))
 
-pub add_in_span-requires-clause-kinds : goal.add_in_span-requires-clause-kinds
-add_in_span-requires-clause-kinds c = subst (λ (x : WindowSpec). AreInSpans x c.self.inside.spans.entries) (sym c.window-w.ensures) c.self.invariant.kinds
+pub add_to_slice-requires-clause-columns_in : goal.add_to_slice-requires-clause-columns_in
+add_to_slice-requires-clause-columns_in c =
+    subst (λ (x : WindowSpec). All (has_column c.args.batch.now.width) x.aggregates) (sym (c.window-w.ensures ∙ ap (λ (x : OpenWindows). x.window) c.self.view_is)) c.requires.window.columns
 
-pub add_in_span-requires-clause-room : goal.add_in_span-requires-clause-room
-add_in_span-requires-clause-room c =
+pub add_to_slice-requires-clause-kinds : goal.add_to_slice-requires-clause-kinds
+add_to_slice-requires-clause-kinds c = subst (λ (x : WindowSpec). AreInSpans x c.self.inside.spans.entries) (sym c.window-w.ensures) c.self.invariant.kinds
+
+pub add_to_slice-requires-clause-room : goal.add_to_slice-requires-clause-room
+add_to_slice-requires-clause-room c =
     let s = c.self.inside in
     let v = c.args.self.now in
     let r : Record = get_or c.args.batch.now.rows c.args.row [] in
     let range = c.requires.window.operator.range in
     let fits : FitsSigned w64 c.value-time.result = search rules in
     let key_fits : FitsSigned w64 c.value-key.result = search rules in
-    let slice_fits : FitsSigned w64 c.slice_of-start.result = search rules in
+    let slice_fits : FitsSigned w64 c.slice_behind-start.result = search rules in
     let from : FitsSigned w128 s.from = search rules in
     let window = c.window-w.ensures in
     let time = c.value-time.ensures ∙ ap (λ (x : WindowSpec). at x.time r) window in
-    let start = slice_is c.window-w.result.now c.value-time.result c.slice_of-start.result fits slice_fits c.slice_of-start.ensures.value ∙ (λ i. slice_start (window i) (time i)) in
+    let start = slice_is c.window-w.result.now c.value-time.result c.slice_behind-start.result fits slice_fits c.slice_behind-start.ensures.value ∙ (λ i. slice_start (window i) (time i)) in
     let key = key_is (at s.places.window.key r) c.value-key.result key_fits (c.value-key.ensures ∙ ap (λ (x : WindowSpec). at x.key r) window) in
     let b = brings s v r c.args.first c.self.invariant c.self.view_is range c.requires.time c.requires.rest c.requires.room in
     let small = small_first s.places.window r c.args.first b.range b.rest in
-    let at_start = to_z w64 (of_z w64 c.slice_of-start.result) in
+    let at_start = to_z w64 (of_z w64 c.slice_behind-start.result) in
     let at_key = to_z w64 (of_z w64 c.value-key.result) in
     subst (λ (x : WindowSpec). CanTakeOne at_start (slices_of (keyed_at s.spans.entries (span_start x at_start)) at_key)) (sym window) (can_take s r c.args.first b at_start at_key start key (from_test (at s.places.window.time r) c.value-time.result s.from c.args.first false fits time b.time small from c.if-last-self.false)
     (size_test s.places.window c.window-w.result.now (at s.places.window.time r) c.value-time.result c.args.first false window b.range fits time b.time small c.if-w-time.false))
 
-pub invariant_of-self-in_err-add_in_span : goal.invariant_of-self-in_err-add_in_span
-invariant_of-self-in_err-add_in_span c =
-    inside_same c.self.inside _ c.self.invariant refl refl (subst (λ (x : WindowSpec). AreInSpans x c.add_in_span.new.spans.entries) c.window-w.ensures c.in_err-add_in_span.ensures.kinds) c.in_err-add_in_span.ensures.err
-    c.in_ok-open_new.ensures.still
-
 -- what is before the last step and after it
-abbrev after : (c : goal.In_ok-add_in_span) → Inside
-after c = record c.self.inside { spans = c.add_in_span.new.spans; opened = c.open_new.new.opened }
+abbrev after : (c : goal.Then-add_to_slice) → Inside
+after c = record c.self.inside { spans = c.add_to_slice.new.spans }
 
-bring : (c : goal.In_ok-add_in_span) → Brings c.self.inside (get_or c.args.batch.now.rows c.args.row []) c.args.first
+bring : (c : goal.Then-add_to_slice) → Brings c.self.inside (get_or c.args.batch.now.rows c.args.row []) c.args.first
 bring c = brings c.self.inside c.args.self.now _ c.args.first c.self.invariant c.self.view_is c.requires.window.operator.range c.requires.time c.requires.rest c.requires.room
 
-adds : (c : goal.In_ok-add_in_span) → AddsOne c.self.inside (after c) (get_or c.args.batch.now.rows c.args.row [])
+adds : (c : goal.Then-add_to_slice) → AddsOne c.self.inside (after c) (get_or c.args.batch.now.rows c.args.row [])
 adds c =
+    let yes = c.if-add_to_slice.true in
     let s = c.self.inside in
     let r : Record = get_or c.args.batch.now.rows c.args.row [] in
     let w = s.places.window in
     let v = c.window-w.result.now in
     let fits : FitsSigned w64 c.value-time.result = search rules in
     let key_fits : FitsSigned w64 c.value-key.result = search rules in
-    let slice_fits : FitsSigned w64 c.slice_of-start.result = search rules in
-    let from : FitsSigned w128 s.from = search rules in
-    let span_fits : FitsSigned w128 c.span_of.result = search rules in
+    let slice_fits : FitsSigned w64 c.slice_behind-start.result = search rules in
     let same = c.window-w.ensures in
     let time = c.value-time.ensures ∙ ap (λ (x : WindowSpec). at x.time r) same in
-    let start = slice_is v c.value-time.result c.slice_of-start.result fits slice_fits c.slice_of-start.ensures.value ∙ (λ i. slice_start (same i) (time i)) in
+    let start = slice_is v c.value-time.result c.slice_behind-start.result fits slice_fits c.slice_behind-start.ensures.value ∙ (λ i. slice_start (same i) (time i)) in
     let key = key_is (at w.key r) c.value-key.result key_fits (c.value-key.ensures ∙ ap (λ (x : WindowSpec). at x.key r) same) in
     record {
       places = refl;
       from = refl;
-      kinds = subst (λ (x : WindowSpec). AreInSpans x c.add_in_span.new.spans.entries) same c.in_ok-add_in_span.ensures.kinds;
-      added = adds_one w v r _ _ s.spans.entries c.add_in_span.new.spans.entries (bring c).range.slides same start key c.in_ok-add_in_span.ensures.added;
-      still = c.in_ok-open_new.ensures.still;
-      opened = opens_new w v (at w.time r) _ (at w.key r) _ s.from _ (has_open c.open_new.new.opened.entries) (slices_beside w s.spans.entries (at w.time r)) c.slices_in-slices.result.now same
-          (to_z-of_z w64 c.value-time.result fits ∙ time) key (to_z-of_z w128 s.from from) (beside w v (at w.time r) _ _ _ _ s.spans.entries same start (to_z-of_z w128 c.span_of.result span_fits ∙ c.span_of.ensures) c.slices_in-slices.ensures) c.in_ok-open_new.ensures.opened;
+      kinds = subst (λ (x : WindowSpec). AreInSpans x c.add_to_slice.new.spans.entries) same c.add_to_slice.ensures.kinds;
+      added = adds_one w v r _ _ s.spans.entries c.add_to_slice.new.spans.entries (bring c).range.slides same start key (c.add_to_slice.ensures.added yes);
+      still = λ q h. h;
+      opened = λ q keyed window late. slice_there w v (at w.time r) _ _ (at w.key r) (has_open s.opened.entries) s.spans.entries (bring c).range.slides same start key (sym c.add_to_slice.ensures.there ∙ yes) q keyed window;
     }
 
+pub invariant_of-self : goal.invariant_of-self
+invariant_of-self c = inside_more c.self.inside (after c) _ c.args.first (bring c) (adds c)
+
+pub returns-then-add_to_slice-clause-added : goal.returns-then-add_to_slice-clause-added
+returns-then-add_to_slice-clause-added c =
+    let r : Record = get_or c.args.batch.now.rows c.args.row [] in
+    subst (λ (v : OpenWindows). Added v (windows_view (after c)) r) c.self.view_is (added_view c.self.inside (after c) r c.args.first (bring c) (adds c))
+
 pub invariant_of-self-2 : goal.invariant_of-self-2
-invariant_of-self-2 c = inside_more c.self.inside (after c) _ c.args.first (bring c) (adds c)
+invariant_of-self-2 c =
+    inside_same c.self.inside _ c.self.invariant refl refl (subst (λ (x : WindowSpec). AreInSpans x c.add_to_slice.new.spans.entries) c.window-w.ensures c.add_to_slice.ensures.kinds)
+    (c.add_to_slice.ensures.same c.if-add_to_slice.false) (λ q h. h)
+
+pub begin_slice-requires-clause-late : goal.begin_slice-requires-clause-late
+begin_slice-requires-clause-late c =
+    let s = c.self.inside in
+    let v = c.args.self.now in
+    let r : Record = get_or c.args.batch.now.rows c.args.row [] in
+    let w = s.places.window in
+    let fits : FitsSigned w64 c.value-time.result = search rules in
+    let from : FitsSigned w128 s.from = search rules in
+    let time = c.value-time.ensures ∙ ap (λ (x : WindowSpec). at x.time r) c.window-w.ensures in
+    let b = brings s v r c.args.first c.self.invariant c.self.view_is c.requires.window.operator.range c.requires.time c.requires.rest c.requires.room in
+    from_test (at w.time r) c.value-time.result s.from c.args.first false fits time b.time (small_first w r c.args.first b.range b.rest) from c.if-last-self.false
+
+pub begin_slice-requires-clause-long : goal.begin_slice-requires-clause-long
+begin_slice-requires-clause-long c =
+    let s = c.self.inside in
+    let v = c.args.self.now in
+    let r : Record = get_or c.args.batch.now.rows c.args.row [] in
+    let w = s.places.window in
+    let fits : FitsSigned w64 c.value-time.result = search rules in
+    let time = c.value-time.ensures ∙ ap (λ (x : WindowSpec). at x.time r) c.window-w.ensures in
+    let b = brings s v r c.args.first c.self.invariant c.self.view_is c.requires.window.operator.range c.requires.time c.requires.rest c.requires.room in
+    size_test w c.window-w.result.now (at w.time r) c.value-time.result c.args.first false c.window-w.ensures b.range fits time b.time (small_first w r c.args.first b.range b.rest) c.if-w-time.false
+
+pub begin_slice-requires-clause-room : goal.begin_slice-requires-clause-room
+begin_slice-requires-clause-room c =
+    let s = c.self.inside in
+    let r : Record = get_or c.args.batch.now.rows c.args.row [] in
+    let after : Inside = record s { spans = c.add_to_slice.new.spans } in
+    let view = view_same s after refl refl refl (c.add_to_slice.ensures.same c.if-add_to_slice.false) ∙ c.self.view_is in
+    subst (λ (v : OpenWindows). HasRoomFor v.window (r ∷ []) v.totals) (sym view) c.requires.room
 
 pub returns-clause-added : goal.returns-clause-added
 returns-clause-added c =
+    let s = c.self.inside in
     let r : Record = get_or c.args.batch.now.rows c.args.row [] in
-    subst (λ (v : OpenWindows). Added v (windows_view (after c)) r) c.self.view_is (added_view c.self.inside (after c) r c.args.first (bring c) (adds c))
+    let after : Inside = record s { spans = c.add_to_slice.new.spans } in
+    let view = view_same s after refl refl refl (c.add_to_slice.ensures.same c.if-add_to_slice.false) ∙ c.self.view_is in
+    subst (λ (v : OpenWindows). OnOk c.begin_slice.result (Added v c.begin_slice.new.self r)) view c.begin_slice.ensures.added
