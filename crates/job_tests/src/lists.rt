@@ -1,13 +1,16 @@
 //! Legs of a job, one after the other, on threads.
 
+ghost use Rattle.std.specs.List.{All};
+ghost use Rattle.layout_rules.specs.Scale.{IsScale};
+ghost use Rattle.stream_model.specs.InputData.{BelongsTo};
+
 use crate::jobs::{INPUT, PLAN};
 use job::{HashKeys, OpenGate};
 use job_legs::{LegsEnd, run_legs};
 use leg_lists::read_legs;
-use legs::LegFault;
+use legs::{LegFault, LegSpec};
 use logical_plan::ReadPlan;
 use plan_model::Plan;
-use std::alloc::Global;
 use std::random::RandomSource;
 use std::sync::Wait;
 use std::test::Fail;
@@ -25,17 +28,39 @@ const TO_A_CUT: &str =
 const BACK: &str =
     r#"[{"scale":{"ring":1,"operators":{"s":{"parallelism":2},"w":{"parallelism":3}}},"stop":[[2,2]]},{"scale":{"ring":1,"operators":{"s":{"parallelism":1},"w":{"parallelism":1}}},"stop":[[2,1]]}]"#;
 
-/// What the legs of a text give, and how many there are.
+fn ended(
+    rt: &(impl AllocGlobal + RandomSource + Threads + Wait + Clock + Sync),
+    plan: &Plan,
+    input: &Input,
+    legs: Vec<LegSpec>,
+) -> Result<Result<LegsEnd, LegFault>, Fail>
+    requires belongs { BelongsTo plan.now input.now }
+    requires scales { All (λ leg. IsScale plan.now leg.scale) legs.items }
+{
+    let keys = HashKeys::random(rt)?;
+    Ok(run_legs(rt, rt.alloc(), keys, plan, input, legs, &OpenGate))
+}
+
+/// What legs give.
+fn ended_on_input(
+    rt: &(impl AllocGlobal + RandomSource + Threads + Wait + Clock + Sync),
+    plan: &Plan,
+    legs: Vec<LegSpec>,
+) -> Result<Result<LegsEnd, LegFault>, Fail>
+    requires { All (λ leg. IsScale plan.now leg.scale) legs.items }
+{
+    let input = Input::read(rt.alloc(), plan, INPUT.as_bytes())?;
+    ended(rt, plan, &input, legs)
+}
+
+/// What the legs of a text give.
 fn end_of(
     rt: &(impl AllocGlobal + RandomSource + Threads + Wait + Clock + Sync),
     legs: &str,
 ) -> Result<Result<LegsEnd, LegFault>, Fail> {
-    let alloc = rt.alloc();
-    let keys = HashKeys::random(rt)?;
-    let plan = Plan::read(alloc, PLAN.as_bytes())?;
-    let input = Input::read(alloc, &plan, INPUT.as_bytes())?;
-    let legs = read_legs(alloc, &plan, legs.as_bytes())?;
-    Ok(run_legs(rt, alloc, keys, &plan, &input, legs, &OpenGate))
+    let plan = Plan::read(rt.alloc(), PLAN.as_bytes())?;
+    let legs = read_legs(rt.alloc(), &plan, legs.as_bytes())?;
+    ended_on_input(rt, &plan, legs)
 }
 
 #[test]
@@ -62,11 +87,8 @@ fn a_leg_cannot_stop_before_it_begins(rt: HostRuntime) -> Result<(), Fail> {
 
 #[test]
 fn no_leg_is_no_list(rt: HostRuntime) -> Result<(), Fail> {
-    let alloc = rt.alloc();
-    let keys = HashKeys::random(&rt)?;
-    let plan = Plan::read(alloc, PLAN.as_bytes())?;
-    let input = Input::read(alloc, &plan, INPUT.as_bytes())?;
-    let none = run_legs(&rt, alloc, keys, &plan, &input, Vec::new(alloc), &OpenGate);
+    let plan = Plan::read(rt.alloc(), PLAN.as_bytes())?;
+    let none = ended_on_input(&rt, &plan, Vec::new(rt.alloc()))?;
     assert_eq!(rt; none.err(), Some(LegFault::Legs));
     Ok(())
 }

@@ -52,10 +52,7 @@ fn rows_after(
     requires laid_out { IsLayoutOf given.plan.now given.layout.now }
 {
     let layout = given.layout;
-    let mut choices = Vec::new(alloc);
-    for _ in 0..steps {
-        choices.push(Choice { number: 0 })?;
-    }
+    let choices = vec![in alloc; Choice { number: 0 }; steps]?;
     let mut world = World::new(alloc, keys, given, stop)?;
     follow(alloc, &mut world, layout, &choices)?;
     match leg_of(alloc, world)? {
@@ -77,6 +74,25 @@ fn check_legs(
     check_legs_from(rt, keys, plan, input, &start)
 }
 
+/// What comes of so many steps, at most, of a leg that goes to the end, and of one that stops halfway.
+fn check_steps(
+    rt: &(impl AllocGlobal + Abort),
+    keys: HashKeys,
+    given: Given<'_>,
+    steps: usize,
+    wanted: [Option<(usize, bool)>; 2],
+) -> Result<(), Fail>
+    requires belongs { BelongsTo given.plan.now given.input.now }
+    requires starts { IsStartIn given.plan.now given.input.now given.start.now }
+    requires laid_out { IsLayoutOf given.plan.now given.layout.now }
+{
+    let alloc = rt.alloc();
+    let whole = rows_after(alloc, keys, given, Stop::Never, steps)?;
+    let half = rows_after(alloc, keys, given, Stop::At(halfway(alloc)?), steps)?;
+    assert_eq!(rt; [whole, half], wanted);
+    Ok(())
+}
+
 fn check_legs_from(
     rt: &(impl AllocGlobal + Abort),
     keys: HashKeys,
@@ -95,19 +111,9 @@ fn check_legs_from(
         layout: &layout,
         saves: &[],
     };
-    let alloc = rt.alloc();
-    for (steps, whole, half) in [
-        (0, None, None),
-        (5, None, None),
-        (1000, Some((4, false)), Some((2, true))),
-    ] {
-        assert_eq!(rt; rows_after(alloc, keys, given, Stop::Never, steps)?, whole);
-        assert_eq!(rt;
-            rows_after(alloc, keys, given, Stop::At(halfway(alloc)?), steps)?,
-            half
-        );
-    }
-    Ok(())
+    check_steps(rt, keys, given, 0, [None, None])?;
+    check_steps(rt, keys, given, 5, [None, None])?;
+    check_steps(rt, keys, given, 1000, [Some((4, false)), Some((2, true))])
 }
 
 fn check_legs_on_input(

@@ -51,13 +51,21 @@ const PRODUCTS: [(&str, u32, Result<i64, FieldFault>); 11] = [
 ];
 
 #[test]
-fn says_and_multiplies_exactly(rt: HostRuntime) {
+fn says_exactly(rt: HostRuntime) {
     for (text, places, wanted) in EXPONENTS {
         assert_eq!(rt; said(text, places), wanted, "{text}");
     }
+}
+
+#[test]
+fn multiplies_exactly(rt: HostRuntime) {
     for (text, places, wanted) in PRODUCTS {
         assert_eq!(rt; times(text, places), wanted, "{text}");
     }
+}
+
+#[test]
+fn multiplies_two_texts(rt: HostRuntime) {
     assert_eq!(rt; product(b"0.5", b"2", Places::WHOLE), Ok(1));
 }
 
@@ -68,6 +76,10 @@ fn reads_commas_as_points(rt: HostRuntime) {
     assert_eq!(rt; text.as_slice(), b"-1.5e3".as_slice());
     assert!(rt; swap_points(&mut text, b"1.234,5").is_ok());
     assert_eq!(rt; text.as_slice(), b"1,234.5".as_slice());
+}
+
+#[test]
+fn a_word_says_which_point(rt: HostRuntime) {
     assert_eq!(rt; DecimalPoint::said_by(","), Some(DecimalPoint::Comma));
     assert_eq!(rt; DecimalPoint::said_by("."), Some(DecimalPoint::Point));
     assert_eq!(rt; DecimalPoint::said_by(",,"), None);

@@ -21,6 +21,10 @@ fn limits_are_checked(rt: HostRuntime) {
     for (number, wanted) in [(0, None), (32768, Some(32768)), (32769, None)] {
         assert_eq!(rt; max_of(number), wanted, "{number}");
     }
+}
+
+#[test]
+fn parallelisms_are_at_most_the_groups(rt: HostRuntime) {
     for (max, number, wanted) in [
         (32768, 0, None),
         (32768, 64, Some(64)),
