@@ -1,6 +1,7 @@
 -- What the command `leg` answers. Nothing can be said of what files hold and of what standard output takes, and so these
 -- say which answers the texts of files allow, whatever they are.
 use Rattle.std.specs.Prelude.{◌≡◌, ◌⊎◌, ℕ, List, [], Bool, true, false, Option, Some, None, is_some, option_map, Result, Ok, Err, IfErr, IsErrAnd}
+use Rattle.std.specs.Option.{option_or}
 use Rattle.job_texts.specs.declared.fault.JobFault.{JobFault}
 use Rattle.job_texts.specs.declared.fault.JobFault.TheVariants.{Cut, Number, Write, Memory}
 use Rattle.job.specs.Asked.{TellsAskedLeg}
@@ -8,6 +9,10 @@ use Rattle.job.specs.Leg.{LegJob, LegLeft, TellsLeg, leg_said, words as leg_word
 use Rattle.command_files.specs.Files.{CannotRead}
 use Rattle.new_files.specs.Streams.{HasGot}
 use Rattle.new_files.specs.declared.stream.NewStream.{NewStream}
+use Rattle.leg_receipts.specs.Places.{Finds, place_said}
+use Rattle.leg_receipts.specs.Made.{told_of}
+use Rattle.leg_receipts.specs.declared.making.Told.{Told}
+use Rattle.leg_command.specs.declared.giving.NewReceipt.{NewReceipt}
 use Rattle.leg_command.specs.Receipts.{IsChecked, are_wrong, overwrite}
 use Rattle.leg_command.specs.declared.fault.LegRefusal.{LegRefusal}
 use Rattle.leg_command.specs.declared.fault.LegRefusal.TheVariants.{Job}
@@ -30,6 +35,19 @@ IsKept contents true (Some bytes) (Some stream) = HasGot contents stream bytes
 IsKept contents true (Some bytes) None = ⊥
 IsKept contents true None kept = kept ≡ None
 IsKept contents false saved kept = kept ≡ None
+
+-- the text of a leg's receipt was written: that of the place to which the leg has come, with its rows and its table of names
+abbrev pub HasReceipt : {R F D : Type 0} → (F → Option (List ℕ)) → NewReceipt → Option (List ℕ) → List ℕ → NewStream R F D → Type 0
+HasReceipt contents receipt saved rows stream =
+    (told : Told) × (text : List ℕ) × (told.rows.now ≡ rows) × (told.names ≡ receipt.names)
+    × Finds (λ place made. made ≡ told_of (is_some saved) told place) (place_said receipt.plan.now receipt.input.now (option_or saved (option_map (λ bytes. bytes.now) receipt.from))) (Ok text)
+    × HasGot contents stream text
+
+-- it was written, if there is to be one
+abbrev pub IsReceiptKept : {R F D : Type 0} → (F → Option (List ℕ)) → Option NewReceipt → Option (List ℕ) → List ℕ → Option (NewStream R F D) → Type 0
+IsReceiptKept contents (Some receipt) saved rows (Some stream) = HasReceipt contents receipt saved rows stream
+IsReceiptKept contents (Some receipt) saved rows None = ⊥
+IsReceiptKept contents None saved rows kept = kept ≡ None
 
 -- what comes of what is written into memory: why it was not, or it is given, or it could not be
 abbrev pub after_made : {X : Type 0} → Result X JobFault → Result (Unit {0}) JobFault → Type 0

@@ -3,7 +3,7 @@
 ghost use Rattle.std.specs.Prelude.{◌≡◌, is_some, option_map, IfErr, IfOk};
 ghost use Rattle.new_files.specs.Streams.{HasGot};
 ghost use Rattle.leg_command.specs.Answers as answers;
-ghost use Rattle.leg_command.specs.Answers.{CannotWrite, IsKept, after_leg, after_made};
+ghost use Rattle.leg_command.specs.Answers.{CannotWrite, HasReceipt, IsKept, IsReceiptKept, after_leg, after_made};
 
 use command_files::{check_apart, print, save};
 use job::LegOut;
@@ -43,7 +43,7 @@ fn keep_savepoint<'r, R: Files + Print + RandomSource + AllocGlobal>(
     path: Option<&str>,
     saved: Option<&[u8]>,
 ) -> Result<Option<NewStream<'r, R>>, JobFault>
-    ensures kept { IfOk result (λ stream. IsKept R.File.contents (is_some path.entry) (option_map (λ bytes. bytes.now) saved.entry) stream) }
+    ensures kept { IfOk result (λ kept. IsKept R.File.contents (is_some path.entry) (option_map (λ bytes. bytes.now) saved.entry) kept) }
     ensures refused { IfErr result CannotWrite }
 {
     match (path, saved) {
@@ -60,14 +60,16 @@ fn version() -> &'static str {
     }
 }
 
-/// Writes the receipt of a leg that was run. Its texts have been read, so that only memory can be wanting.
-fn write_receipt<'a, R: Files + Print + RandomSource + AllocGlobal>(
-    rt: &R,
+/// Writes the receipt of a leg that was run, and gives what it was written to. Its texts have been read, so that only memory can
+/// be wanting.
+fn write_receipt<'r, 'a, R: Files + Print + RandomSource + AllocGlobal>(
+    rt: &'r R,
     receipt: NewReceipt<'a>,
     saved: Option<&[u8]>,
     rows: &'a [u8],
-) -> Result<(), JobFault>
-    ensures { IfErr result CannotWrite }
+) -> Result<NewStream<'r, R>, JobFault>
+    ensures written { IfOk result (λ stream. HasReceipt R.File.contents receipt.entry (option_map (λ bytes. bytes.now) saved.entry) rows.now stream) }
+    ensures refused { IfErr result CannotWrite }
 {
     let NewReceipt {
         path,
@@ -82,26 +84,24 @@ fn write_receipt<'a, R: Files + Print + RandomSource + AllocGlobal>(
         names,
     };
     match leg_receipt(rt.alloc(), plan, input, from, saved, told) {
-        Ok(text) => {
-            keep(rt, path, text.as_bytes())?;
-            Ok(())
-        }
+        Ok(text) => keep(rt, path, text.as_bytes()),
         Err(_) => Err(JobFault::Memory),
     }
 }
 
-/// Writes the receipt, if there is to be one.
-fn keep_receipt<'a, R: Files + Print + RandomSource + AllocGlobal>(
-    rt: &R,
+/// Writes the receipt, if there is to be one, and gives what it was written to.
+fn keep_receipt<'r, 'a, R: Files + Print + RandomSource + AllocGlobal>(
+    rt: &'r R,
     receipt: Option<NewReceipt<'a>>,
     saved: Option<&[u8]>,
     rows: &'a [u8],
-) -> Result<(), JobFault>
-    ensures { IfErr result CannotWrite }
+) -> Result<Option<NewStream<'r, R>>, JobFault>
+    ensures kept { IfOk result (λ kept. IsReceiptKept R.File.contents receipt.entry (option_map (λ bytes. bytes.now) saved.entry) rows.now kept) }
+    ensures refused { IfErr result CannotWrite }
 {
     match receipt {
-        Some(receipt) => write_receipt(rt, receipt, saved, rows),
-        None => Ok(()),
+        Some(receipt) => Ok(Some(write_receipt(rt, receipt, saved, rows)?)),
+        None => Ok(None),
     }
 }
 
