@@ -61,16 +61,26 @@ fn offsets<R: AllocGlobal>(rt: &R, outcome: &Outcome) -> Result<Vec<u64>, Fail> 
     Ok(offsets)
 }
 
+/// A leg that has read nothing has no rows, and leaves the first savepoint of its job.
+fn check_unread<R: AllocGlobal + Abort>(
+    rt: &R,
+    outcome: &Outcome,
+    scale: &str,
+) -> Result<(), Fail> {
+    assert_eq!(rt; outcome.rows.as_str(), "", "at {scale}");
+    assert_eq!(rt; savepoint_of(rt, outcome)?.contents().number, 1);
+    for offset in offsets(rt, outcome)? {
+        assert_eq!(rt; offset, 0, "at {scale}");
+    }
+    Ok(())
+}
+
 #[test]
 fn a_word_that_is_set_before_stops_a_leg_where_it_begins(rt: HostRuntime) -> Result<(), Fail> {
     let word = Arc::new(rt.alloc(), AtomicBool::new(true))?;
     for scale in SCALES {
         let outcome = outcome_asked(&rt, Case::whole(scale), &OpenGate, &word)?;
-        assert_eq!(rt; outcome.rows.as_str(), "", "at {scale}");
-        assert_eq!(rt; savepoint_of(&rt, &outcome)?.contents().number, 1);
-        for offset in offsets(&rt, &outcome)? {
-            assert_eq!(rt; offset, 0, "at {scale}");
-        }
+        check_unread(&rt, &outcome, scale)?;
     }
     Ok(())
 }

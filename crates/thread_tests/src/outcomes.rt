@@ -133,10 +133,8 @@ fn check_refused<R: AllocGlobal + Abort + RandomSource + Threads + Wait + Clock 
     rt: &R,
     case: Case<'_>,
 ) -> Result<(), Fail> {
-    match run_on_threads(rt, case, &OpenGate)? {
-        Ok(_) => assert!(rt; false, "{case:?} has run"),
-        Err(fault) => assert_eq!(rt; fault, LegFault::StopRange, "{case:?}"),
-    }
+    let answer = run_on_threads(rt, case, &OpenGate)?;
+    assert_eq!(rt; answer.err(), Some(LegFault::StopRange), "{case:?}");
     Ok(())
 }
 
