@@ -7,7 +7,6 @@ use Rattle.plan_model.specs.declared.spec.WindowSpec.{WindowSpec}
 use Rattle.plan_model.specs.PlanData.{IsWindow}
 use Rattle.plan_model.specs.Windows.{IsTime}
 use Rattle.window_slices.specs.Slices.{last_start_by, last_end_by, slice_start, slice_end, IsSliceStart}
-use Rattle.window_slices.proofs.Starts.{last_start}
 
 whole : (z : ℤ) → neg_ℤ (pos (2 ^ 63)) ≤ℤ z → z <ℤ pos (2 ^ 63) → to_z w64 (of_z w64 z) ≡ z
 whole z h k = omega (arith, ints)
@@ -73,19 +72,6 @@ module _ (w : WindowSpec) (t : ℤ) (iw : IsWindow w) (above : (neg_ℤ TIME_LIM
       let greatest : r ≤ℤ (t -ℤ w.size) = omega (arith, ints, high, at) in
       let sum : to_z w64 (of_z w64 (to_z w64 (of_z w64 r) +ℤ to_z w64 (of_z w64 w.size))) ≡ r +ℤ w.size = omega (arith, ints, above, below, some, most, least, greatest) in
       sum ∙ ap (λ (z : ℤ). z +ℤ w.size) (e ∙ ap (last_start_by w) at)
-
--- a start that is the last one is near its time
-pub record Near (t start : ℤ) : Type 0 where
-  pub behind : (t -ℤ LONGEST_WINDOW) ≤ℤ start
-  pub by : start ≤ℤ t
-
-pub last_near : (w : WindowSpec) (t held start : ℤ) → IsWindow w → held ≡ t → start ≡ last_start_by w t → Near held start
-last_near w t held start range at is =
-    let reached = last_start w t range.slides in
-    let near = reached.near in
-    let before = reached.before in
-    let few = range.slide_small in
-    record { behind = omega (arith, ints, near, few, is, at); by = omega (arith, ints, before, is, at) }
 
 -- a number is a slide behind the earlier of two
 module _ (w : WindowSpec) (s : ℤ) (iw : IsWindow w) (is : IsSliceStart s) where

@@ -11,5 +11,5 @@ mod slices;
 mod spans;
 
 pub use key_slices::{Slice, Slices, start_above, start_below};
-pub use slices::{back_to_start, slice_behind, slice_end, slice_of};
+pub use slices::{back_to_start, slice_end, slice_of};
 pub use spans::{Spans, add_in_span, add_to_slice, drop_spans, pane_total, slices_in, span_of};

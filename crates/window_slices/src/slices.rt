@@ -64,25 +64,14 @@ pub fn back_to_start(window: &WindowSpec, time: i64, start: &mut Option<i64>) ->
     (time - last) as u64
 }
 
-/// Where the slice of a time starts: at the last start or end of a window that is at most the time. The last start is `start`.
-pub fn slice_behind(window: &WindowSpec, time: i64, start: i64) -> i64
-    requires window { IsWindow window.now }
-    requires time { IsTime time }
-    requires start { start ≡ slices.last_start_by window.now time }
-    ensures value { result ≡ slices.slice_start window.now time }
-    ensures start { slices.IsSliceStart result }
-{
-    start.max(last_end_by(window, time))
-}
-
-/// The same, where no start is known.
+/// Where the slice of a time starts: at the last start or end of a window that is at most the time.
 pub fn slice_of(window: &WindowSpec, time: i64) -> i64
     requires window { IsWindow window.now }
     requires time { IsTime time }
     ensures value { result ≡ slices.slice_start window.now time }
     ensures start { slices.IsSliceStart result }
 {
-    slice_behind(window, time, last_start_by(window, time))
+    last_start_by(window, time).max(last_end_by(window, time))
 }
 
 /// Where the slice that starts at a boundary ends: at the next start or end of a window.

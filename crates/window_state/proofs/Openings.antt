@@ -441,6 +441,3 @@ module _ (w : WindowSpec) (t start : ℤ) (b : ℕ) (range : IsWindow w) (time :
   above_in above fits le =
       let less : int_le ((t -ℤ pos b) +ℤ w.size) above ≡ false = (λ i. int_le (sym end_is i) (sym (to_z-of_z w64 above fits) i)) ∙ le in
       grind (arith, ints, less)
-
-pub slice_is : (w : WindowSpec) (t slice : ℤ) → FitsSigned w64 t → FitsSigned w64 slice → slice ≡ slice_start w (narrow t) → narrow slice ≡ slice_start w t
-slice_is w t slice fits slice_fits is = to_z-of_z w64 slice slice_fits ∙ is ∙ ap (slice_start w) (to_z-of_z w64 t fits)

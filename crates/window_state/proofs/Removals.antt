@@ -1,5 +1,5 @@
 -- Windows that fire are taken out: what stood in their panes is gone, and what stands in the others stays.
-use Rattle.std.proofs.Common.{◌≡◌, ℤ, pos, ◌+ℤ◌, ◌-ℤ◌, ◌≤ℤ◌, Bool, true, false, not, cond, ◌&&◌, ◌||◌, List, [], ◌∷◌, refl, sym, ap, subst, ◌∙◌, arith, Option, Some, None, FitsSigned, to_z, of_z}
+use Rattle.std.proofs.Common.{◌≡◌, ◌^◌, ℤ, pos, ◌+ℤ◌, ◌-ℤ◌, ◌<ℤ◌, ◌≤ℤ◌, Bool, true, false, not, cond, ◌&&◌, ◌||◌, List, [], ◌∷◌, refl, sym, ap, subst, ◌∙◌, arith, Option, Some, None, FitsSigned, to_z, of_z}
 use Rattle.std.specs.Prelude.{int_lt, int_le}
 use Rattle.std.specs.Global.{Vec}
 use Rattle.std.specs.Int.{w128, int_max}
@@ -22,9 +22,9 @@ use Rattle.window_slices.specs.KeySlices.{sliced, slices_total, slices_of, IsCou
 use Rattle.window_slices.specs.Spans.{in_spans, keyed_at, span_start, AreInSpans}
 use Rattle.window_state.specs.State.{OpenWindows}
 use Rattle.window_state.specs.StateView.{standing, windows_view, IsWindowsInside}
-use Rattle.window_state.specs.Windows.{acc_at, total_at, IsOperator}
+use Rattle.window_state.specs.Windows.{AreWhole, acc_at, total_at, IsOperator}
 use Rattle.window_state.proofs.Entries.{map_left}
-use Rattle.window_state.proofs.Standing.{get-view, inside_first, none_sliced, no_entries, some_total, standing_before, standing_later, KeepsSlices}
+use Rattle.window_state.proofs.Standing.{get-view, inside_first, none_sliced, no_entries, some_total, standing_before, standing_later, whole_kept, KeepsSlices}
 use Rattle.window_state.proofs.Starts.{due_none}
 
 -- ---- from where on windows are made of slices, once those that fire are gone
@@ -80,6 +80,16 @@ not_more w mark before from s r later = by_case (int_lt s before) refl
     by_case true less = absurd (let no : true ≡ false = sym (r.more s less) ∙ later in cc)
     by_case false is = refl
 
+pub whole_raised : (w : WindowSpec) (mark before from : ℤ) → IsRaised w mark before from → AreWhole w before → AreWhole w from
+whole_raised w mark before from r whole less = whole (by_case (int_lt from before) refl)
+  where
+    itself : (z : ℤ) → int_lt z z ≡ false
+    itself z = grind (arith, ints)
+
+    by_case : (b : Bool) → int_lt from before ≡ b → before <ℤ pos (2 ^ 64)
+    by_case true behind = absurd (let no : true ≡ false = sym (r.more from behind) ∙ itself from in cc)
+    by_case false not = grind (arith, ints, not, less)
+
 -- the same windows with another `from`
 abbrev pub with_from : ℤ → Inside → Inside
 with_from from s = record { alloc = s.alloc; from = from; places = s.places; spans = s.spans; opened = s.opened }
@@ -88,6 +98,7 @@ with_from from s = record { alloc = s.alloc; from = from; places = s.places; spa
 pub inside_raised : (s : Inside) (mark from : ℤ) → IsWindowsInside s → IsRaised s.places.window mark s.from from → IsWindowsInside (with_from from s)
 inside_raised s mark from is r = record {
   operator = is.operator;
+  whole = whole_raised s.places.window mark s.from from r is.whole;
   opened = λ q some. opened q (int_lt q.start from) refl some;
   below = λ q some. r.more q.start (is.below q some);
   kinds = is.kinds;
@@ -133,6 +144,7 @@ spans_dropped s t v x window from keeps opened later kinds are = record {
 pub inside_dropped : (s t : Inside) → IsWindowsInside s → IsDropped s t → IsWindowsInside t
 inside_dropped s t is d = record {
   operator = subst IsOperator (sym d.keeps.window) is.operator;
+  whole = whole_kept s.places.window t.places.window s.from t.from d.keeps.window d.keeps.from is.whole;
   opened = λ q some. ap (λ es. has_open es q) d.opened ∙ is.opened q (ap is_some (sym (same q (int_lt q.start s.from) refl)) ∙ some);
   below = λ q some. ap (int_lt q.start) d.keeps.from ∙ is.below q (ap (λ es. is_some (acc_at es q)) (sym d.keeps.places) ∙ some);
   kinds = d.kinds;
@@ -170,6 +182,7 @@ starts_before a start from same before = grind (arith, ints)
 inside_taken : (start : ℤ) (s t : Inside) → IsWindowsInside s → IsTaken start s t → int_lt start s.from ≡ true → IsWindowsInside t
 inside_taken start s t is k begins = record {
   operator = subst IsOperator (sym k.window) is.operator;
+  whole = whole_kept s.places.window t.places.window s.from t.from k.window k.from is.whole;
   opened = λ q some. k.opened q ∙ opened q (int_eq q.start start) refl (int_lt q.start t.from) refl some;
   below = λ q some. ap (int_lt q.start) k.from ∙ is.below q (still_placed start s t q k some);
   kinds = k.kinds;
@@ -327,8 +340,8 @@ none_undue w mark (e ∷ es) q all undue =
     (λ i. (other_start e.0 q.start w.size mark first undue i && has_key q.key e.1.items) || has_open es q)
     ∙ none_undue w mark es q (All-tail (λ (e : ℤ × Vec ℤ). is_due w mark e.0 ≡ true) e es all) undue
 
-pub inside_cleared : (s : Inside) → IsOperator s.places.window → s.places.entries ≡ [] → s.spans.entries ≡ [] → IsWindowsInside s
-inside_cleared s operator places slices = inside_first s operator slices (λ q some. no_entries s.places.entries q places some) (λ q some. no_entries s.places.entries q places some)
+pub inside_cleared : (s : Inside) → IsOperator s.places.window → AreWhole s.places.window s.from → s.places.entries ≡ [] → s.spans.entries ≡ [] → IsWindowsInside s
+inside_cleared s operator whole places slices = inside_first s operator whole slices (λ q some. no_entries s.places.entries q places some) (λ q some. no_entries s.places.entries q places some)
 
 pub cleared_standing : (s t : Inside) (mark : ℤ) → IsWindowsInside s → t.places.entries ≡ [] → t.spans.entries ≡ [] → All (λ e. is_due s.places.window mark e.0 ≡ true) s.opened.entries
     → (q : Pane) → standing t q ≡ cond (is_due s.places.window mark q.start) None (standing s q)

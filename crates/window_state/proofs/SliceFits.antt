@@ -33,7 +33,7 @@ use Rattle.window_state.specs.Windows.{IsOperator, IsStart, acc_at, total_at}
 use Rattle.window_state.proofs.Slides.{sliding_by, held, start_is, fits_start, fits_window}
 use Rattle.window_slices.proofs.Facts.{some_in_span, count_in_span}
 use Rattle.window_state.proofs.Openings.{has_at}
-use Rattle.window_state.proofs.Standing.{get-view, standing_before, standing_later}
+use Rattle.window_state.proofs.Standing.{get-view, standing_before, standing_later, whole_kept}
 
 abbrev narrow : ℤ → ℤ
 narrow z = to_z w64 (of_z w64 z)
@@ -144,6 +144,13 @@ record InRange (t : ℤ) : Type 0 where
 
 in_range : (t : ℤ) → IsTime t → InRange t
 in_range t time = record { above = grind (arith, ints, time); below = grind (arith, ints, time) }
+
+-- where the last of them begins at `from` or later, the slide divides the size
+pub whole_late : (s : Inside) (r : Record) (first : ℕ) → Brings s r first → int_lt (at s.places.window.time r -ℤ pos first) s.from ≡ false → int_rem_euclid s.places.window.size s.places.window.slide ≡ pos 0
+whole_late s r first b late =
+    let high = (in_range (at s.places.window.time r) b.time).below in
+    let from : s.from ≤ℤ (at s.places.window.time r -ℤ pos first) = grind (arith, ints, late) in
+    b.inside.whole (omega (arith, ints, from, high))
 
 -- a window of a time begins at the last of them or before it
 module _ (w : WindowSpec) (r : Record) (first : ℕ) (range : IsWindow w) (rest : int_rem_euclid (at w.time r -ℤ w.offset) w.slide ≡ pos first) where
@@ -285,6 +292,7 @@ inside_same s t is places from kinds slices still =
     λ q. ap (λ p. in_spans p.window t.spans.entries q) places ∙ same_spans s.places.window t.spans.entries s.spans.entries slices q in
     record {
       operator = subst (λ p. IsOperator p.window) (sym places) is.operator;
+      whole = whole_kept s.places.window t.places.window s.from t.from (ap (λ p. p.window) places) from is.whole;
       opened = λ q some. still q (is.opened q ((λ i. is_some (cond (int_lt q.start (sym from i)) (total_at (sym places i).entries q) (sym (same q) i))) ∙ some));
       below = λ q some. ap (int_lt q.start) from ∙ is.below q (ap (λ p. is_some (acc_at p.entries q)) (sym places) ∙ some);
       kinds = kinds;
@@ -364,6 +372,7 @@ module _ (s t : Inside) (r : Record) (first : ℕ) (b : Brings s r first) (a : A
   pub inside_more : IsWindowsInside t
   inside_more = record {
     operator = subst (λ p. IsOperator p.window) (sym a.places) b.inside.operator;
+    whole = whole_kept s.places.window t.places.window s.from t.from (ap (λ p. p.window) a.places) a.from b.inside.whole;
     opened = λ q some. open_all q (int_lt q.start s.from) refl some;
     below = λ q some. ap (int_lt q.start) a.from ∙ b.inside.below q (ap (λ p. is_some (acc_at p.entries q)) (sym a.places) ∙ some);
     kinds = subst (λ p. AreInSpans p.window t.spans.entries) (sym a.places) a.kinds;

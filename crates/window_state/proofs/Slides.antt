@@ -23,6 +23,8 @@ use Rattle.plan_model.proofs.Facts.{merge_assoc, pos_same}
 use Rattle.plan_model.proofs.Facts.{count_or, count_at, count_merge}
 use Rattle.plan_model.proofs.Facts.{aggregate_at-append, merge-one}
 use Rattle.plan_model.proofs.Facts.{is_reached, reached_more, reached_once, reached_none, reached_all, remainder}
+use Rattle.window_slices.specs.Slices.{slice_start}
+use Rattle.window_slices.proofs.Facts.{whole_slides}
 use Rattle.window_state.specs.State.{HasRoomFor}
 use Rattle.window_state.specs.Windows.{IsStart}
 
@@ -199,6 +201,11 @@ pub start_is : (t x : ℤ) (b : ℕ) → FitsSigned w64 x → x ≡ t → IsTime
 start_is t x b fits is time small =
     let back : to_z w64 b ≡ pos b = to_z_pos w64 b (omega arith) in
     (λ i. to_z w64 (of_z w64 ((to_z-of_z w64 x fits ∙ is) i -ℤ back i))) ∙ to_z-of_z w64 (t -ℤ pos b) (fits_start t b time small)
+
+-- where a slice starts, as the code has it
+pub slice_at : (w : WindowSpec) (t x : ℤ) (b : ℕ) → FitsSigned w64 x → x ≡ t → IsTime t → b ≤ 2 ^ 40 → IsWindow w → int_rem_euclid w.size w.slide ≡ pos 0 → int_rem_euclid (t -ℤ w.offset) w.slide ≡ pos b
+    → to_z w64 (of_z w64 (to_z w64 (of_z w64 x) -ℤ to_z w64 b)) ≡ slice_start w t
+slice_at w t x b fits is time small range whole rest = start_is t x b fits is time small ∙ ap (λ (z : ℤ). t -ℤ z) (sym rest) ∙ sym (whole_slides w t range.slides range.sized whole)
 
 -- the same of a copy of the window operator
 pub sliding_by : (v w : WindowSpec) (r : Record) (rest : ℕ) → w ≡ v → IsWindow v → int_rem_euclid (at v.time r -ℤ v.offset) v.slide ≡ pos rest → Sliding v r (held w.slide) (held w.size) rest

@@ -21,7 +21,7 @@ use Rattle.std.proofs.lemmas.List.Elements.{All-nil}
 use Rattle.plan_model.specs.Windows.{is_start}
 use Rattle.window_slices.specs.KeySlices.{acc_with, IsSliceOf, IsCounted}
 use Rattle.window_slices.specs.Spans.{AreInSpans, in_spans}
-use Rattle.window_state.specs.Windows.{acc_at, total_at, has_pane, is_pane, IsOperator}
+use Rattle.window_state.specs.Windows.{acc_at, total_at, has_pane, is_pane, AreWhole, IsOperator}
 use Rattle.window_state.proofs.Entries.{get-entries, same_map_of, no_total}
 use Rattle.window_state.proofs.Sorted.{found_at}
 use Rattle.window_state.proofs.Updates.{pane_from_test}
@@ -54,10 +54,14 @@ pub record KeepsSlices (s t : Inside) : Type 0 where
 same_sliced : (s t : Inside) → KeepsSlices s t → (q : Pane) → in_spans t.places.window t.spans.entries q ≡ in_spans s.places.window s.spans.entries q
 same_sliced s t k q = λ i. in_spans (k.window i) (k.slices i) q
 
+pub whole_kept : (v w : WindowSpec) (f g : ℤ) → w ≡ v → g ≡ f → AreWhole v f → AreWhole w g
+whole_kept v w f g window from whole = subst (λ x. AreWhole x g) (sym window) (subst (AreWhole v) (sym from) whole)
+
 -- what is known of the slices stays
 pub inside_kept : (s t : Inside) → IsWindowsInside s → KeepsSlices s t → AreOpen t.opened.entries (standing t) → ((q : Pane) → is_some (acc_at t.places.entries q) ≡ true → int_lt q.start t.from ≡ true) → IsWindowsInside t
 inside_kept s t is k opened below = record {
   operator = subst IsOperator (sym k.window) is.operator;
+  whole = whole_kept s.places.window t.places.window s.from t.from k.window k.from is.whole;
   opened = opened;
   below = below;
   kinds = subst (λ w. AreInSpans w t.spans.entries) (sym k.window) (subst (AreInSpans s.places.window) (sym k.slices) is.kinds);
@@ -181,10 +185,11 @@ none_sliced s none q = ap (λ es. in_spans s.places.window es q) none ∙ no_sli
 nothing : {X : Type 0} (o : Option Aggregated) → o ≡ None → is_some o ≡ true → X
 nothing o none some = absurd (let no : false ≡ true = ap is_some (sym none) ∙ some in cc)
 
-pub inside_first : (s : Inside) → IsOperator s.places.window → s.spans.entries ≡ [] → ((q : Pane) → is_some (acc_at s.places.entries q) ≡ true → int_lt q.start s.from ≡ true)
+pub inside_first : (s : Inside) → IsOperator s.places.window → AreWhole s.places.window s.from → s.spans.entries ≡ [] → ((q : Pane) → is_some (acc_at s.places.entries q) ≡ true → int_lt q.start s.from ≡ true)
     → ((q : Pane) → is_some (acc_at s.places.entries q) ≡ true → has_open s.opened.entries q ≡ true) → IsWindowsInside s
-inside_first s operator none below opened = record {
+inside_first s operator whole none below opened = record {
   operator = operator;
+  whole = whole;
   opened = λ q some. side q (int_lt q.start s.from) refl some;
   below = below;
   kinds = subst (AreInSpans s.places.window) (sym none) (λ b k. All-nil (IsSliceOf s.places.window));

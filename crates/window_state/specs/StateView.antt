@@ -5,7 +5,7 @@ use Rattle.plan_model.specs.declared.spec.Pane.{Pane}
 use Rattle.plan_model.specs.Aggregates.{Aggregated}
 use Rattle.window_state.specs.declared.windows.Windows.TheInside.{Inside as WindowsInside}
 use Rattle.window_state.specs.State.{OpenWindows}
-use Rattle.window_state.specs.Windows.{acc_at, total_at, IsOperator, IsStart}
+use Rattle.window_state.specs.Windows.{acc_at, total_at, AreWhole, IsOperator, IsStart}
 use Rattle.window_state.specs.Open.{AreOpen, open_panes}
 use Rattle.window_state.specs.Parts.{entries_at}
 use Rattle.window_slices.specs.KeySlices.{IsCounted}
@@ -20,6 +20,7 @@ windows_view s = record { window = s.places.window; from = s.from; totals = from
 
 pub record IsWindowsInside (s : WindowsInside) : Type 0 where
   pub operator : IsOperator s.places.window
+  pub whole : AreWhole s.places.window s.from
   pub opened : AreOpen s.opened.entries (standing s)
   pub below : (q : Pane) → is_some (acc_at s.places.entries q) ≡ true → int_lt q.start s.from ≡ true
   pub kinds : AreInSpans s.places.window s.spans.entries

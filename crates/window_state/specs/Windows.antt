@@ -1,5 +1,6 @@
 -- The windows of a state as a function of a pane, and what every state's windows meet.
-use Rattle.std.specs.Prelude.{◌≡◌, ℕ, ℤ, neg_ℤ, ◌+ℤ◌, ◌≤◌, ◌<◌, ◌<ℤ◌, length, map, List, Option, Some, option_map, Bool, ◌&&◌}
+use Rattle.std.specs.Prelude.{◌≡◌, ℕ, ◌^◌, ℤ, pos, neg_ℤ, ◌+ℤ◌, ◌≤◌, ◌<◌, ◌<ℤ◌, length, map, List, Option, Some, option_map, Bool, ◌&&◌}
+use Rattle.std.specs.Int.{int_rem_euclid}
 use Rattle.std.specs.Map.{keys_of, lookup}
 use Rattle.std.specs.Ordering.{int_eq, is_eq}
 use Rattle.std.specs.List.{All, IsDistinct, list_any}
@@ -37,6 +38,10 @@ pub record AreWindows (w : WindowSpec) (es : List (Pane × AccData)) : Type 0 wh
 -- whether q is one of the panes
 abbrev pub has_pane : List Pane → Pane → Bool
 has_pane ps q = list_any (λ p. is_eq (pane_cmp q p)) ps
+
+-- where a window of the operator may begin at a number or later, its slide divides its size
+abbrev pub AreWhole : WindowSpec → ℤ → Type 0
+AreWhole w from = from <ℤ pos (2 ^ 64) → int_rem_euclid w.size w.slide ≡ pos 0
 
 -- a window operator as every plan has it
 pub record IsOperator (w : WindowSpec) : Type 0 where

@@ -17,7 +17,7 @@ use crate::firing::is_due;
 use plan_model::{Pane, WindowSpec};
 use std::alloc::{AllocError, Global};
 use std::collections::BTreeMap;
-use window_slices::{Slice, slice_of, start_above, start_below};
+use window_slices::{Slice, start_above, start_below};
 
 /// For each start of an open window the keys that have a pane there, in the order in which they came. They are put in order
 /// only when their window fires, which costs less than to keep all panes in order.
@@ -57,12 +57,13 @@ pub(crate) fn open_new(
     requires window { IsWindow w.now }
     requires time { IsTime record.start }
     requires rest { int_rem_euclid (record.start -ℤ w.now.offset) w.now.slide ≡ pos first }
+    requires whole { int_rem_euclid w.now.size w.now.slide ≡ pos 0 }
     ensures opened { OnOk result ((q : PaneValue) → int_eq record.key q.key ≡ true → is_window_of w.now record.start q.start ≡ true → int_lt q.start from ≡ false
         → (has_open opened.new.entries q || has_slice w.now q.start slices.now) ≡ true) }
     ensures still { (q : PaneValue) → has_open opened.old.entries q ≡ true → has_open opened.new.entries q ≡ true }
     ensures only { OpensOnly w.now record.key record.start opened.old.entries opened.new.entries }
 {
-    let slice = slice_of(w, record.start);
+    let slice = record.start - first as i64;
     let below = start_below(slices, slice);
     let above = start_above(slices, slice);
     let size = w.size as u64;

@@ -14,7 +14,7 @@ ghost use Rattle.aggregates.specs.Kinds.{kind_of};
 ghost use Rattle.window_state.specs.Open.{has_open};
 ghost use Rattle.window_slices.specs.KeySlices.{acc_with};
 ghost use Rattle.window_state.specs.State.{HasRoomFor};
-ghost use Rattle.window_state.specs.Windows.{IsOperator, CanAggregate, IsStart, acc_at, has_pane, is_pane};
+ghost use Rattle.window_state.specs.Windows.{AreWhole, IsOperator, CanAggregate, IsStart, acc_at, has_pane, is_pane};
 ghost use Rattle.window_state.specs.Parts.{accs_in, entries_of, panes_in, IsPartOf};
 
 use crate::opened::{OpenPanes, open_new, open_pane};
@@ -28,7 +28,7 @@ use std::alloc::{AllocError, Global};
 use std::collections::BTreeMap;
 use std::marker::Model;
 use window_slices::{
-    Spans, add_in_span, add_to_slice, pane_total, slice_behind, slice_of, slices_in, span_of,
+    Spans, add_in_span, add_to_slice, pane_total, slices_in, span_of,
 };
 
 /// For how many windows of a time a record goes to a slice of time instead of to each of them. With fewer there is nothing to
@@ -179,7 +179,7 @@ impl Windows {
         let w = self.places.window();
         let time = batch.value(row, w.time as usize);
         let key = batch.value(row, w.key as usize);
-        let start = slice_of(w, time);
+        let start = time - first as i64;
         let slices = slices_in(&self.spans, span_of(w, start), key);
         open_new(
             self.alloc,
@@ -222,9 +222,9 @@ impl Windows {
             return Ok(());
         }
         let key = batch.value(row, w.key as usize);
-        let start = slice_behind(w, time, last);
-        // Mostly the slice is there, and so its windows are open.
-        if add_to_slice(&mut self.spans, w, Pane { start, key }, batch, row) {
+        // The slide divides the size, so that a slice starts where a window does. Mostly it is there, and so its windows are open.
+        let slice = Pane { start: last, key };
+        if add_to_slice(&mut self.spans, w, slice, batch, row) {
             return Ok(());
         }
         self.begin_slice(batch, row, first)
@@ -234,9 +234,10 @@ impl Windows {
 /// From where on the windows of an operator are made of slices, where parts stand in others already.
 fn first_from(w: &WindowSpec, parts: &[Part]) -> i128
     requires operator { IsOperator w.now }
-    ensures { All (λ part. part.pane.start <ℤ result) parts.now }
+    ensures parts { All (λ part. part.pane.start <ℤ result) parts.now }
+    ensures whole { AreWhole w.now result }
 {
-    let mut from = if w.size % w.slide != 0 || w.size / w.slide < FEWEST_WINDOWS {
+    let mut from = if w.size.rem_euclid(w.slide) != 0 || w.size / w.slide < FEWEST_WINDOWS {
         NOWHERE
     } else {
         i64::MIN as i128

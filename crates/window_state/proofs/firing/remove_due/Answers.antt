@@ -12,8 +12,8 @@ use Rattle.window_state.specs.declared.windows.Windows.TheInside.{Inside}
 use Rattle.window_state.specs.Open.{has_key, has_open}
 use Rattle.window_state.specs.Places.{PlacesData}
 use Rattle.window_state.specs.StateView.{IsWindowsInside}
-use Rattle.window_state.specs.Windows.{acc_at, IsOperator}
-use Rattle.window_state.proofs.Removals.{IsDropped, IsLeft, all_left, cleared_standing, inside_cleared, inside_dropped, inside_raised, left_dropped, left_standing, less_left, no_acc, places_taken, raised, slices_dropped, spans_dropped, starts_later, totals_left, wide, with_from}
+use Rattle.window_state.specs.Windows.{acc_at, AreWhole, IsOperator}
+use Rattle.window_state.proofs.Removals.{IsDropped, IsLeft, all_left, cleared_standing, inside_cleared, inside_dropped, inside_raised, left_dropped, left_standing, less_left, no_acc, places_taken, raised, slices_dropped, spans_dropped, starts_later, totals_left, whole_raised, wide, with_from}
 use Rattle.window_state.proofs.Standing.{opened_more, side_of}
 use Rattle.window_state.proofs.firing.remove_due.Goals as goal
 use Rattle.window_state.proofs.firing.remove_due.Goals.{then-start-from, else-start-from}
@@ -23,7 +23,15 @@ invariant_of-windows c =
     let now : Inside =
     record { alloc = c.windows.inside.alloc; from = wide c.max-windows-inside.result; places = c.clear-then-are_all_due.new.self; spans = c.clear-then-are_all_due-2.new.self; opened = c.clear.new.self } in
     let operator = subst (λ (v : WindowSpec). IsOperator v) (ap (λ (v : PlacesData). v.window) (sym c.clear-then-are_all_due.ensures)) c.windows.invariant.operator in
-    inside_cleared now operator (ap (λ (v : PlacesData). v.entries) c.clear-then-are_all_due.ensures) c.clear-then-are_all_due-2.ensures.empty
+    let s = c.windows.inside in
+    let held : ℤ = to_z w64 (of_z w64 c.args.watermark) in
+    let before_fits : FitsSigned w128 s.from = search rules in
+    let undue_fits : FitsSigned w128 c.first_undue.result = search rules in
+    let most_fits : FitsSigned w128 c.max-windows-inside.result = search rules in
+    let r = raised s.places.window c.window.result.now held s.from c.first_undue.result c.max-windows-inside.result c.window.ensures before_fits undue_fits most_fits c.max-windows-inside.ensures.value c.first_undue.ensures.due
+    c.first_undue.ensures.starts in
+    let whole = subst (λ (v : WindowSpec). AreWhole v now.from) (ap (λ (v : PlacesData). v.window) (sym c.clear-then-are_all_due.ensures)) (whole_raised s.places.window held s.from now.from r c.windows.invariant.whole) in
+    inside_cleared now operator whole (ap (λ (v : PlacesData). v.entries) c.clear-then-are_all_due.ensures) c.clear-then-are_all_due-2.ensures.empty
 
 pub loop-start-init : goal.loop-start-init
 loop-start-init c =
@@ -109,7 +117,14 @@ returns-then-are_all_due-clause-left c =
     let all = subst (λ (v : WindowSpec). All (λ e. is_due v mark e.0 ≡ true) s.opened.entries) c.window-then-is_filled.ensures
     (subst (λ (z : ℤ). All (λ e. is_due c.window-then-is_filled.result.now z e.0 ≡ true) s.opened.entries) (to_z-of_z w64 mark mark_fits) (c.are_all_due.ensures.0 c.if-are_all_due.true)) in
     let operator = subst (λ (v : WindowSpec). IsOperator v) (ap (λ (v : PlacesData). v.window) (sym c.clear-then-are_all_due.ensures)) c.windows.invariant.operator in
-    totals_left s now c.args.windows.now mark c.windows.invariant (inside_cleared now operator places slices) c.windows.view_is (cleared_standing s now mark c.windows.invariant places slices all)
+    let held : ℤ = to_z w64 (of_z w64 c.args.watermark) in
+    let before_fits : FitsSigned w128 s.from = search rules in
+    let undue_fits : FitsSigned w128 c.first_undue.result = search rules in
+    let most_fits : FitsSigned w128 c.max-windows-inside.result = search rules in
+    let r = raised s.places.window c.window.result.now held s.from c.first_undue.result c.max-windows-inside.result c.window.ensures before_fits undue_fits most_fits c.max-windows-inside.ensures.value c.first_undue.ensures.due
+    c.first_undue.ensures.starts in
+    let whole = subst (λ (v : WindowSpec). AreWhole v now.from) (ap (λ (v : PlacesData). v.window) (sym c.clear-then-are_all_due.ensures)) (whole_raised s.places.window held s.from now.from r c.windows.invariant.whole) in
+    totals_left s now c.args.windows.now mark c.windows.invariant (inside_cleared now operator whole places slices) c.windows.view_is (cleared_standing s now mark c.windows.invariant places slices all)
 
 pub returns-in_default-clause-left : goal.returns-in_default-clause-left
 returns-in_default-clause-left c =

@@ -9,8 +9,8 @@ use Rattle.window_state.specs.Open.{has_open, OpensOnly}
 use Rattle.window_state.specs.Windows.{is_pane}
 use Rattle.plan_model.specs.declared.spec.Pane.{Pane}
 use Rattle.std.proofs.lemmas.Bool.{or_left}
-use Rattle.window_state.proofs.Slides.{held, start_is}
-use Rattle.window_state.proofs.Openings.{IsSeenTo, walk, from_is, of_some, of_none_or, at_some, put_kept, back_fits, end_fits, slice_is, before_from, at_below, above_in, seen_none, seen_opened, only_opened, seen_kept, seen_all, seen_from, seen_below}
+use Rattle.window_state.proofs.Slides.{held, start_is, slice_at}
+use Rattle.window_state.proofs.Openings.{IsSeenTo, walk, from_is, of_some, of_none_or, at_some, put_kept, back_fits, end_fits, before_from, at_below, above_in, seen_none, seen_opened, only_opened, seen_kept, seen_all, seen_from, seen_below}
 use Rattle.window_state.proofs.opened.open_new.Goals as goal
 use Rattle.window_state.proofs.opened.open_new.Goals.{then-is_none_or+in_ok-open_pane, else-is_none_or}
 use Rattle.window_state.proofs.opened.open_new.Goals.{then-start-from-via-then-start-from, then-start-from-via-else-start-from+then-is_some_and}
@@ -84,12 +84,10 @@ loop-back-preserved c =
       | else-is_none_or x ↦
           let end : ℤ = to_z w64 (of_z w64 (start +ℤ to_z w64 (of_z w64 w.size))) in
           let above = c.start_above-above.result in
-          let slice = c.slice_of-slice.result in
-          let slice_fits : FitsSigned w64 slice = search rules in
           let all_fit : (a : ℤ) → above ≡ Some a → FitsSigned w64 a = λ a e. search rules in
           let found = of_none_or above c.is_none_or.result _ (λ a. int_le end (to_z w64 (of_z w64 a))) c.is_none_or.ensures (λ a h. search (rules, tests)) x.if-is_none_or.false in
           let has = at_some above found.0 _ c.start_above-above.ensures.there found.1 in
-          let at = slice_is w t slice fits slice_fits c.slice_of-slice.ensures.value in
+          let at = slice_at w t t c.args.first fits refl c.requires.time (omega (arith, k.low, k.slide_small)) c.requires.window c.requires.whole c.requires.rest in
           let same = x.opened-is in
           let less = above_in w t start b c.requires.window c.requires.time small begins found.0 (all_fit found.0 found.1) found.2 in
           record {
@@ -123,12 +121,10 @@ returns-then-start-from-clause-opened c = λ q same window late.
           seen_from w t key _ xs opened b seen (before_from w t start b c.requires.window c.requires.time small begins _ x.if-start-from.true) q same window later
       | then-start-from-via-else-start-from+then-is_some_and x ↦
           let below = c.start_below-below.result in
-          let slice = c.slice_of-slice.result in
-          let slice_fits : FitsSigned w64 slice = search rules in
           let all_fit : (a : ℤ) → below ≡ Some a → FitsSigned w64 a = λ a e. search rules in
           let found = of_some below x.is_some_and.result _ (λ a. int_le start (to_z w64 (of_z w64 a))) x.is_some_and.ensures (λ a h. search (rules, tests)) x.if-is_some_and.true in
           let has = at_some below found.0 _ c.start_below-below.ensures.there found.1 in
-          let at = slice_is w t slice fits slice_fits c.slice_of-slice.ensures.value in
+          let at = slice_at w t t c.args.first fits refl c.requires.time (omega (arith, k.low, k.slide_small)) c.requires.window c.requires.whole c.requires.rest in
           let le = at_below w t start b c.requires.window c.requires.time small begins found.0 (all_fit found.0 found.1) found.2 in
           seen_below w t key _ xs opened b seen found.0 k.slides (subst (λ (s : ℤ). (found.0 <ℤ s) × (has_start found.0 xs ≡ true)) at has) le q same window later
     ]

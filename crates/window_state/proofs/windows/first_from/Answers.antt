@@ -1,7 +1,7 @@
 use Rattle.std.proofs.Common.{◌<ℤ◌, ◌≡◌, List, rules, arith, sym, subst, take, ◌+◌, FitsSigned, to_z, of_z}
 use Rattle.std.specs.Int.{w64, w128}
 use Rattle.std.specs.List.{All}
-use Rattle.std.proofs.lemmas.Int.{to_z-of_z}
+use Rattle.std.proofs.lemmas.Int.{ints, to_z-of_z}
 use Rattle.std.proofs.lemmas.List.{take_all}
 use Rattle.window_state.specs.declared.parts.Part.{Part}
 use Rattle.window_state.proofs.Openings.{before_more}
@@ -14,8 +14,12 @@ loop-part-preserved c =
     let fits : FitsSigned w128 c.max-from.result = search rules in
     let same : to_z w128 (of_z w128 c.max-from.result) ≡ c.max-from.result = to_z-of_z w128 c.max-from.result fits in
     let bounds = c.max-from.ensures in
-    subst (λ n. All (λ (p : Part). p.pane.start <ℤ n) (take (c.loop-part.part-index + 1) c.args.parts.now)) (sym same)
-    (before_more c.args.parts.now c.loop-part.part-index part _ c.max-from.result c.loop-part-test.true c.part-item.is start_fits c.loop-part.invariant bounds.self_bound bounds.other_bound)
+    let own = bounds.self_bound in
+    record {
+      parts = subst (λ n. All (λ (p : Part). p.pane.start <ℤ n) (take (c.loop-part.part-index + 1) c.args.parts.now)) (sym same)
+          (before_more c.args.parts.now c.loop-part.part-index part _ c.max-from.result c.loop-part-test.true c.part-item.is start_fits c.loop-part.invariant.parts bounds.self_bound bounds.other_bound);
+      whole = λ less. c.loop-part.invariant.whole (omega (arith, ints, less, same, own));
+    }
 
-pub returns : goal.returns
-returns c = subst (λ (parts : List Part). All (λ (p : Part). p.pane.start <ℤ to_z w128 c.loop-part.from-bits) parts) (take_all c.loop-part.part-index c.args.parts.now (omega arith)) c.loop-part.invariant
+pub returns-clause-parts : goal.returns-clause-parts
+returns-clause-parts c = subst (λ (parts : List Part). All (λ (p : Part). p.pane.start <ℤ to_z w128 c.loop-part.from-bits) parts) (take_all c.loop-part.part-index c.args.parts.now (omega arith)) c.loop-part.invariant.parts

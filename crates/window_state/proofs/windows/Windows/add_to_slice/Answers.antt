@@ -4,19 +4,16 @@ use Rattle.std.specs.Prelude.{OnOk}
 use Rattle.std.specs.List.{All}
 use Rattle.plan_model.specs.PlanData.{has_column}
 use Rattle.std.specs.Int.RustNames.{int_lt}
-use Rattle.std.proofs.lemmas.Int.{to_z-of_z}
 use Rattle.plain_data.specs.Record.{Record, at}
 use Rattle.plan_model.specs.declared.spec.WindowSpec.{WindowSpec}
-use Rattle.window_slices.specs.Slices.{slice_start, last_start_by}
 use Rattle.window_state.specs.declared.windows.Windows.TheInside.{Inside}
 use Rattle.window_state.specs.Open.{has_open}
 use Rattle.window_slices.specs.KeySlices.{CanTakeOne, slices_of}
 use Rattle.window_slices.specs.Spans.{AreInSpans, keyed_at, span_start}
 use Rattle.window_state.specs.State.{OpenWindows, HasRoomFor}
 use Rattle.window_state.specs.StateView.{windows_view}
-use Rattle.window_state.proofs.Openings.{slice_is}
-use Rattle.window_state.proofs.Slides.{key_is, start_is}
-use Rattle.window_state.proofs.SliceFits.{view_same, slice_there, Brings, AddsOne, Added, brings, stays, small_first, back_fits, size_test, from_test, none_later, none_long, can_take, inside_same, inside_more, added_view, adds_one}
+use Rattle.window_state.proofs.Slides.{key_is, slice_at}
+use Rattle.window_state.proofs.SliceFits.{view_same, slice_there, Brings, AddsOne, Added, brings, stays, small_first, back_fits, size_test, from_test, none_later, none_long, whole_late, can_take, inside_same, inside_more, added_view, adds_one}
 use Rattle.window_state.proofs.windows.Windows.add_to_slice.Goals as goal
 use Rattle.window_state.proofs.windows.Windows.add_to_slice.Goals.{then-last-self-via-then-last-self, then-last-self-via-else-last-self+then-w-time}
 
@@ -48,21 +45,6 @@ returns-then-last-self-clause-added c =
           stays v r (λ q late. none_long v.window r c.args.first range c.requires.rest q.start long)
     ]
 
-pub slice_behind-start-requires-clause-start : goal.slice_behind-start-requires-clause-start
-slice_behind-start-requires-clause-start c =
-    let s = c.self.inside in
-    let v = c.args.self.now in
-    let r : Record = get_or c.args.batch.now.rows c.args.row [] in
-    let w = s.places.window in
-    let t = at w.time r in
-    let fits : FitsSigned w64 c.value-time.result = search rules in
-    let same = c.window-w.ensures in
-    let time = c.value-time.ensures ∙ ap (λ (x : WindowSpec). at x.time r) same in
-    let b = brings s v r c.args.first c.self.invariant c.self.view_is c.requires.window.operator.range c.requires.time c.requires.rest c.requires.room in
-    let last = start_is t c.value-time.result c.args.first fits time b.time (small_first w r c.args.first b.range b.rest) in
-    let held = to_z-of_z w64 c.value-time.result fits ∙ time in
-    last ∙ ap (λ z. t -ℤ z) (sym b.rest) ∙ (λ i. last_start_by (sym same i) (sym held i))
-
 pub add_to_slice-requires-clause-columns_in : goal.add_to_slice-requires-clause-columns_in
 add_to_slice-requires-clause-columns_in c =
     subst (λ (x : WindowSpec). All (has_column c.args.batch.now.width) x.aggregates) (sym (c.window-w.ensures ∙ ap (λ (x : OpenWindows). x.window) c.self.view_is)) c.requires.window.columns
@@ -78,17 +60,17 @@ add_to_slice-requires-clause-room c =
     let range = c.requires.window.operator.range in
     let fits : FitsSigned w64 c.value-time.result = search rules in
     let key_fits : FitsSigned w64 c.value-key.result = search rules in
-    let slice_fits : FitsSigned w64 c.slice_behind-start.result = search rules in
     let from : FitsSigned w128 s.from = search rules in
     let window = c.window-w.ensures in
     let time = c.value-time.ensures ∙ ap (λ (x : WindowSpec). at x.time r) window in
-    let start = slice_is c.window-w.result.now c.value-time.result c.slice_behind-start.result fits slice_fits c.slice_behind-start.ensures.value ∙ (λ i. slice_start (window i) (time i)) in
     let key = key_is (at s.places.window.key r) c.value-key.result key_fits (c.value-key.ensures ∙ ap (λ (x : WindowSpec). at x.key r) window) in
     let b = brings s v r c.args.first c.self.invariant c.self.view_is range c.requires.time c.requires.rest c.requires.room in
     let small = small_first s.places.window r c.args.first b.range b.rest in
-    let at_start = to_z w64 (of_z w64 c.slice_behind-start.result) in
+    let late = from_test (at s.places.window.time r) c.value-time.result s.from c.args.first false fits time b.time small from c.if-last-self.false in
+    let start = slice_at s.places.window (at s.places.window.time r) c.value-time.result c.args.first fits time b.time small b.range (whole_late s r c.args.first b late) b.rest in
+    let at_start = to_z w64 (of_z w64 (to_z w64 (of_z w64 c.value-time.result) -ℤ to_z w64 c.args.first)) in
     let at_key = to_z w64 (of_z w64 c.value-key.result) in
-    subst (λ (x : WindowSpec). CanTakeOne at_start (slices_of (keyed_at s.spans.entries (span_start x at_start)) at_key)) (sym window) (can_take s r c.args.first b at_start at_key start key (from_test (at s.places.window.time r) c.value-time.result s.from c.args.first false fits time b.time small from c.if-last-self.false)
+    subst (λ (x : WindowSpec). CanTakeOne at_start (slices_of (keyed_at s.spans.entries (span_start x at_start)) at_key)) (sym window) (can_take s r c.args.first b at_start at_key start key late
     (size_test s.places.window c.window-w.result.now (at s.places.window.time r) c.value-time.result c.args.first false window b.range fits time b.time small c.if-w-time.false))
 
 -- what is before the last step and after it
@@ -107,10 +89,13 @@ adds c =
     let v = c.window-w.result.now in
     let fits : FitsSigned w64 c.value-time.result = search rules in
     let key_fits : FitsSigned w64 c.value-key.result = search rules in
-    let slice_fits : FitsSigned w64 c.slice_behind-start.result = search rules in
     let same = c.window-w.ensures in
     let time = c.value-time.ensures ∙ ap (λ (x : WindowSpec). at x.time r) same in
-    let start = slice_is v c.value-time.result c.slice_behind-start.result fits slice_fits c.slice_behind-start.ensures.value ∙ (λ i. slice_start (same i) (time i)) in
+    let from : FitsSigned w128 s.from = search rules in
+    let b = bring c in
+    let small = small_first w r c.args.first b.range b.rest in
+    let late = from_test (at w.time r) c.value-time.result s.from c.args.first false fits time b.time small from c.if-last-self.false in
+    let start = slice_at w (at w.time r) c.value-time.result c.args.first fits time b.time small b.range (whole_late s r c.args.first b late) b.rest in
     let key = key_is (at w.key r) c.value-key.result key_fits (c.value-key.ensures ∙ ap (λ (x : WindowSpec). at x.key r) same) in
     record {
       places = refl;

@@ -1,24 +1,41 @@
-use Rattle.std.proofs.Common.{◌∙◌, ◌-ℤ◌, pos, [], get_or, refl, sym, ap, subst, rules, FitsSigned, to_z, of_z}
-use Rattle.std.specs.Int.{w64, w128}
+use Rattle.std.proofs.Common.{◌≡◌, ◌∙◌, ◌-ℤ◌, pos, [], get_or, refl, sym, ap, subst, rules, FitsSigned, to_z, of_z}
+use Rattle.std.specs.Int.{w64, w128, int_rem_euclid}
 use Rattle.std.specs.Int.RustNames.{int_lt, int_le}
 use Rattle.std.proofs.lemmas.Int.{to_z-of_z}
 use Rattle.plain_data.specs.Record.{Record, at}
 use Rattle.plan_model.specs.declared.spec.WindowSpec.{WindowSpec}
-use Rattle.window_slices.specs.Slices.{slice_start}
+use Rattle.plan_model.specs.Windows.{IsTime}
 use Rattle.window_state.specs.declared.windows.Windows.TheInside.{Inside}
 use Rattle.window_state.specs.Open.{has_open}
 use Rattle.window_slices.specs.KeySlices.{CanTakeOne, slices_of}
 use Rattle.window_slices.specs.Spans.{AreInSpans, keyed_at, span_start}
 use Rattle.window_state.specs.State.{OpenWindows}
 use Rattle.window_state.specs.StateView.{windows_view}
-use Rattle.window_state.proofs.Openings.{slice_is}
-use Rattle.window_state.proofs.Slides.{key_is}
+use Rattle.window_state.proofs.Openings.{back_fits}
+use Rattle.window_state.proofs.Slides.{key_is, slice_at}
 use Rattle.window_state.proofs.Standing.{opened_more}
-use Rattle.window_state.proofs.SliceFits.{Brings, AddsOne, Added, brings, can_take, inside_same, inside_more, added_view, slices_beside, beside, opens_new, adds_one}
+use Rattle.window_state.proofs.SliceFits.{Brings, AddsOne, Added, brings, can_take, small_first, whole_late, inside_same, inside_more, added_view, slices_beside, beside, opens_new, adds_one}
 use Rattle.window_state.proofs.windows.Windows.begin_slice.Goals as goal
 
 pub invariant_of-self : goal.invariant_of-self
 invariant_of-self c = opened_more c.self.inside _ c.self.invariant (record { window = refl; from = refl; slices = refl }) refl c.in_err-open_new.ensures.still
+
+pub overflow_sub-start : goal.overflow_sub-start
+overflow_sub-start c =
+    let s = c.self.inside in
+    let r : Record = get_or c.args.batch.now.rows c.args.row [] in
+    let fits : FitsSigned w64 c.value-time.result = search rules in
+    let time = c.value-time.ensures ∙ ap (λ (x : WindowSpec). at x.time r) c.window-w.ensures in
+    let b = brings s c.args.self.now r c.args.first c.self.invariant c.self.view_is c.requires.window.operator.range c.requires.time c.requires.rest c.requires.room in
+    back_fits c.value-time.result c.args.first fits (subst IsTime (sym time) b.time) (small_first s.places.window r c.args.first b.range b.rest)
+
+pub open_new-requires-clause-whole : goal.open_new-requires-clause-whole
+open_new-requires-clause-whole c =
+    let s = c.self.inside in
+    let r : Record = get_or c.args.batch.now.rows c.args.row [] in
+    let b = brings s c.args.self.now r c.args.first c.self.invariant c.self.view_is c.requires.window.operator.range c.requires.time c.requires.rest c.requires.room in
+    let late = ap (λ (x : OpenWindows). int_lt (at x.window.time r -ℤ pos c.args.first) x.from) c.self.view_is ∙ c.requires.late in
+    subst (λ (x : WindowSpec). int_rem_euclid x.size x.slide ≡ pos 0) (sym c.window-w.ensures) (whole_late s r c.args.first b late)
 
 pub add_in_span-requires-clause-kinds : goal.add_in_span-requires-clause-kinds
 add_in_span-requires-clause-kinds c = subst (λ (x : WindowSpec). AreInSpans x c.self.inside.spans.entries) (sym c.window-w.ensures) c.self.invariant.kinds
@@ -31,16 +48,16 @@ add_in_span-requires-clause-room c =
     let range = c.requires.window.operator.range in
     let fits : FitsSigned w64 c.value-time.result = search rules in
     let key_fits : FitsSigned w64 c.value-key.result = search rules in
-    let slice_fits : FitsSigned w64 c.slice_of-start.result = search rules in
     let from : FitsSigned w128 s.from = search rules in
     let window = c.window-w.ensures in
     let time = c.value-time.ensures ∙ ap (λ (x : WindowSpec). at x.time r) window in
-    let start = slice_is c.window-w.result.now c.value-time.result c.slice_of-start.result fits slice_fits c.slice_of-start.ensures.value ∙ (λ i. slice_start (window i) (time i)) in
     let key = key_is (at s.places.window.key r) c.value-key.result key_fits (c.value-key.ensures ∙ ap (λ (x : WindowSpec). at x.key r) window) in
     let b = brings s v r c.args.first c.self.invariant c.self.view_is range c.requires.time c.requires.rest c.requires.room in
-    let at_start = to_z w64 (of_z w64 c.slice_of-start.result) in
+    let late = ap (λ (x : OpenWindows). int_lt (at x.window.time r -ℤ pos c.args.first) x.from) c.self.view_is ∙ c.requires.late in
+    let start = slice_at s.places.window (at s.places.window.time r) c.value-time.result c.args.first fits time b.time (small_first s.places.window r c.args.first b.range b.rest) b.range (whole_late s r c.args.first b late) b.rest in
+    let at_start = to_z w64 (of_z w64 (to_z w64 (of_z w64 c.value-time.result) -ℤ to_z w64 c.args.first)) in
     let at_key = to_z w64 (of_z w64 c.value-key.result) in
-    subst (λ (x : WindowSpec). CanTakeOne at_start (slices_of (keyed_at s.spans.entries (span_start x at_start)) at_key)) (sym window) (can_take s r c.args.first b at_start at_key start key (ap (λ (x : OpenWindows). int_lt (at x.window.time r -ℤ pos c.args.first) x.from) c.self.view_is ∙ c.requires.late) (ap (λ (x : OpenWindows). int_le x.window.size (pos c.args.first)) c.self.view_is ∙ c.requires.long))
+    subst (λ (x : WindowSpec). CanTakeOne at_start (slices_of (keyed_at s.spans.entries (span_start x at_start)) at_key)) (sym window) (can_take s r c.args.first b at_start at_key start key late (ap (λ (x : OpenWindows). int_le x.window.size (pos c.args.first)) c.self.view_is ∙ c.requires.long))
 
 pub invariant_of-self-in_err-add_in_span : goal.invariant_of-self-in_err-add_in_span
 invariant_of-self-in_err-add_in_span c =
@@ -62,12 +79,13 @@ adds c =
     let v = c.window-w.result.now in
     let fits : FitsSigned w64 c.value-time.result = search rules in
     let key_fits : FitsSigned w64 c.value-key.result = search rules in
-    let slice_fits : FitsSigned w64 c.slice_of-start.result = search rules in
     let from : FitsSigned w128 s.from = search rules in
     let span_fits : FitsSigned w128 c.span_of.result = search rules in
     let same = c.window-w.ensures in
     let time = c.value-time.ensures ∙ ap (λ (x : WindowSpec). at x.time r) same in
-    let start = slice_is v c.value-time.result c.slice_of-start.result fits slice_fits c.slice_of-start.ensures.value ∙ (λ i. slice_start (same i) (time i)) in
+    let b = bring c in
+    let late = ap (λ (x : OpenWindows). int_lt (at x.window.time r -ℤ pos c.args.first) x.from) c.self.view_is ∙ c.requires.late in
+    let start = slice_at w (at w.time r) c.value-time.result c.args.first fits time b.time (small_first w r c.args.first b.range b.rest) b.range (whole_late s r c.args.first b late) b.rest in
     let key = key_is (at w.key r) c.value-key.result key_fits (c.value-key.ensures ∙ ap (λ (x : WindowSpec). at x.key r) same) in
     record {
       places = refl;

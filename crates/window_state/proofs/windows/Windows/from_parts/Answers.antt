@@ -6,8 +6,9 @@ use Rattle.std.specs.List.{All}
 use Rattle.std.specs.Option.{is_some, option_map}
 use Rattle.std.proofs.lemmas.Int.{to_z-of_z}
 use Rattle.aggregates.specs.Kinds.{AccData}
+use Rattle.plan_model.specs.declared.spec.WindowSpec.{WindowSpec}
 use Rattle.window_state.specs.declared.parts.Part.{Part}
-use Rattle.window_state.specs.Windows.{IsOperator, acc_at}
+use Rattle.window_state.specs.Windows.{AreWhole, IsOperator, acc_at}
 use Rattle.window_state.specs.Parts.{accs_in, entries_of}
 use Rattle.window_state.specs.StateView.{IsWindowsInside, windows_view}
 use Rattle.window_state.specs.declared.windows.Windows.TheInside.{Inside}
@@ -22,9 +23,10 @@ inside c =
     let s : Inside = record { alloc = c.args.alloc; from = from; places = c.in_ok-places.places; spans = c.new.result; opened = c.in_ok-opened.opened } in
     let fits : FitsSigned w128 c.first_from-from.result = search rules in
     let parts = c.args.parts.now in
-    let before : All (λ (p : Part). p.pane.start <ℤ from) parts = subst (λ (f : ℤ). All (λ (p : Part). p.pane.start <ℤ f) parts) (sym (to_z-of_z w128 c.first_from-from.result fits)) c.first_from-from.ensures in (
+    let before : All (λ (p : Part). p.pane.start <ℤ from) parts = subst (λ (f : ℤ). All (λ (p : Part). p.pane.start <ℤ f) parts) (sym (to_z-of_z w128 c.first_from-from.result fits)) c.first_from-from.ensures.parts in
+    let whole : AreWhole s.places.window from = subst (λ (w : WindowSpec). AreWhole w from) (sym c.in_ok-places.ensures.window) (subst (AreWhole c.args.window) (sym (to_z-of_z w128 c.first_from-from.result fits)) c.first_from-from.ensures.whole) in (
       s,
-      inside_first s (subst IsOperator (sym c.in_ok-places.ensures.window) c.requires.operator) c.new.ensures.empty
+      inside_first s (subst IsOperator (sym c.in_ok-places.ensures.window) c.requires.operator) whole c.new.ensures.empty
           (λ q some. parts_before from parts before q (ap is_some (sym (c.in_ok-places.ensures.first q)) ∙ some))
           (λ q some. opened_of_parts c.in_ok-opened.opened.entries parts q (c.in_ok-opened.ensures q) (ap is_some (sym (c.in_ok-places.ensures.first q)) ∙ some)),
     )
