@@ -1,10 +1,10 @@
 //! Why jobs cannot go on from savepoints: what no savepoint that a job left shows.
 
 use job_texts::JobFault;
+use legs::RestoreFault;
 use logical_plan::ReadPlan;
 use plan_model::Plan;
 use restart_places::{Restart, write_places};
-use restore::RestoreFault;
 use savepoint_codec::SaveFault;
 use std::alloc::Global;
 use std::process::Abort;

@@ -8,8 +8,8 @@ use Rattle.layout_rules.specs.declared.fault.ScaleFault.{ScaleFault}
 use Rattle.layout_rules.specs.declared.fault.ScaleFault.TheVariants as scale
 use Rattle.savepoint_codec.specs.declared.fault.SaveFault.{SaveFault}
 use Rattle.savepoint_codec.specs.declared.fault.SaveFault.TheVariants as save
-use Rattle.restore.specs.declared.fault.RestoreFault.{RestoreFault}
-use Rattle.restore.specs.declared.fault.RestoreFault.TheVariants as restore
+use Rattle.legs.specs.declared.restore_fault.RestoreFault.{RestoreFault}
+use Rattle.legs.specs.declared.restore_fault.RestoreFault.TheVariants as restore
 use Rattle.legs.specs.declared.fault.LegFault.{LegFault}
 use Rattle.legs.specs.declared.fault.LegFault.TheVariants as leg
 use Rattle.job_texts.specs.declared.fault.JobFault.{JobFault}

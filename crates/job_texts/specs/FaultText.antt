@@ -12,9 +12,9 @@ use Rattle.layout_rules.specs.FaultLine.{scale_line}
 use Rattle.savepoint_codec.specs.declared.fault.SaveFault.{SaveFault}
 use Rattle.savepoint_codec.specs.declared.fault.SaveFault.TheVariants as save
 use Rattle.savepoint_codec.specs.FaultLine.{save_line}
-use Rattle.restore.specs.declared.fault.RestoreFault.{RestoreFault}
-use Rattle.restore.specs.declared.fault.RestoreFault.TheVariants as restore
-use Rattle.restore.specs.FaultLine.{restore_line}
+use Rattle.legs.specs.declared.restore_fault.RestoreFault.{RestoreFault}
+use Rattle.legs.specs.declared.restore_fault.RestoreFault.TheVariants as restore
+use Rattle.legs.specs.RestoreLine.{restore_line}
 use Rattle.legs.specs.declared.fault.LegFault.{LegFault}
 use Rattle.legs.specs.declared.fault.LegFault.TheVariants as leg
 use Rattle.legs.specs.FaultLine.{leg_line}

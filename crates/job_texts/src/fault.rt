@@ -4,9 +4,8 @@ ghost use Rattle.job_texts.specs.Fault.{plan_fault, input_fault, scale_fault, sa
 
 use input_texts::InputFault;
 use layout_rules::ScaleFault;
-use legs::LegFault;
+use legs::{LegFault, RestoreFault};
 use logical_plan::PlanFault;
-use restore::RestoreFault;
 use savepoint_codec::SaveFault;
 use std::alloc::{AllocError, AllocFailed};
 use std::fmt;

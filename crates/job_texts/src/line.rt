@@ -6,9 +6,8 @@ ghost use Rattle.job_texts.specs.FaultText.{fault_text, status};
 use crate::fault::JobFault;
 use input_texts::InputFault;
 use layout_rules::ScaleFault;
-use legs::LegFault;
+use legs::{LegFault, RestoreFault};
 use logical_plan::PlanFault;
-use restore::RestoreFault;
 use savepoint_codec::SaveFault;
 use std::alloc::{AllocError, Global};
 

@@ -1,3 +1,4 @@
 pub mod Stops
 pub mod Requirements
 pub mod FaultLine
+pub mod RestoreLine

@@ -1,4 +1,5 @@
-//! How far a leg of a job goes, to the end of its input or to a cut of it, and in which order its steps are made.
+//! How far a leg of a job goes, to the end of its input or to a cut of it, in which order its steps are made, and why there is no such
+//! leg: by what it is to do, or by the savepoint that it is to go on from.
 #![tactic(auto)]
 
 mod choice;
@@ -8,6 +9,7 @@ mod fault;
 mod leg;
 mod limits;
 mod requirements;
+mod restore_fault;
 mod stop;
 mod until;
 
@@ -18,5 +20,6 @@ pub use fault::LegFault;
 pub use leg::LegSpec;
 pub use limits::{MOST_LEGS, MOST_SAVES};
 pub use requirements::are_legs;
+pub use restore_fault::RestoreFault;
 pub use stop::Stop;
 pub use until::Until;

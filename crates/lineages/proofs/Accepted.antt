@@ -46,7 +46,7 @@ use Rattle.stream_model.specs.InputData.{InputData}
 use Rattle.redistribute.specs.StartData.{StartData}
 use Rattle.packed_parts.specs.Packing.{part_of}
 use Rattle.redistribute.specs.Parts.{windows_of}
-use Rattle.restore.specs.declared.fault.RestoreFault.TheVariants.{MaxParallelism, UnknownUid, MissingUid, PlanChanged}
+use Rattle.legs.specs.declared.restore_fault.RestoreFault.TheVariants.{MaxParallelism, UnknownUid, MissingUid, PlanChanged}
 use Rattle.restore.specs.Answer.{start_of, start_or_fault}
 use Rattle.restore.specs.Requirements.{are_kinds, has_max, has_known_uids, has_all_uids, has_plan, plan_requirements}
 use Rattle.restore.specs.Saved.{saved_under}

@@ -21,7 +21,7 @@ use Rattle.savepoint_index.specs.Layout.{Spells}
 use Rattle.gather.specs.Saved.{savepoint_of}
 use Rattle.restore.specs.Answer.{start_of, start_or_fault}
 use Rattle.restore.specs.Requirements.{every_partition, has_max, has_known_uids, has_all_uids, has_plan, has_partitions, has_offsets, has_watermarks, has_groups, has_open_windows, has_counts, has_number, is_watermark, plan_requirements, input_requirements}
-use Rattle.restore.specs.declared.fault.RestoreFault.TheVariants.{MaxParallelism, UnknownUid, MissingUid, PlanChanged, Partitions, Offset, Watermark, WrongGroup, ClosedWindow, Count, Number}
+use Rattle.legs.specs.declared.restore_fault.RestoreFault.TheVariants.{MaxParallelism, UnknownUid, MissingUid, PlanChanged, Partitions, Offset, Watermark, WrongGroup, ClosedWindow, Count, Number}
 use Rattle.restarts.specs.Laws.{SnapshotsRestart, savepoint_at}
 use Rattle.leg_tasks.specs.Saved.{IsSavedAt}
 use Rattle.lineages.specs.Lineage.{GoesOnFrom}

@@ -3,7 +3,7 @@ use Rattle.std.proofs.Common.{◌≡◌, Bool, true, false, Result, Ok, Err, ref
 use Rattle.answers.specs.Answer.{unless}
 use Rattle.plan_record.specs.Laws.{AscendingIsInOrder}
 use Rattle.redistribute.specs.StartData.{StartData}
-use Rattle.restore.specs.declared.fault.RestoreFault.{RestoreFault}
+use Rattle.legs.specs.declared.restore_fault.RestoreFault.{RestoreFault}
 use Rattle.restore.specs.Answer.{is_memory, start_of}
 use Rattle.restarts.specs.Laws.{ChecksGoOn, IsStartAt, savepoint_at}
 use Rattle.restarts.proofs.Passing.{snapshots_pass}

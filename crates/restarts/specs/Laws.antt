@@ -15,7 +15,7 @@ use Rattle.stream_model.specs.PlanRows.{snapshot}
 use Rattle.redistribute.specs.StartData.{StartData, offsets_of}
 use Rattle.redistribute.specs.Begins.{IsStartIn, HasSnapshot}
 use Rattle.redistribute.specs.Snapshots.{saved_sources}
-use Rattle.restore.specs.declared.fault.RestoreFault.{RestoreFault}
+use Rattle.legs.specs.declared.restore_fault.RestoreFault.{RestoreFault}
 use Rattle.restore.specs.Answer.{Gives, is_memory, start_of, start_or_fault}
 use Rattle.restore.specs.Sound.{IsSoundGroup}
 use Rattle.gather.specs.Laws.{HasGroups}

@@ -6,9 +6,10 @@ ghost use Rattle.restarts.specs.Laws.{IsStartAt};
 ghost use Rattle.restarts.specs.Restart.{CanRestart};
 
 use crate::laws::checks_go_on;
+use legs::RestoreFault;
 use plan_model::Plan;
 use redistribute::Start;
-use restore::{RestoreFault, check};
+use restore::check;
 use savepoint_codec::Savepoint;
 use std::alloc::{AllocError, Global};
 use stream_model::Input;

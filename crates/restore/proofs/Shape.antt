@@ -12,8 +12,8 @@ use Rattle.plan_model.specs.PlanData.{PlanData}
 use Rattle.savepoint_codec.specs.declared.savepoint.SavedSource.{SavedSource}
 use Rattle.savepoint_codec.specs.declared.savepoint.Contents.{Contents}
 use Rattle.redistribute.specs.StartData.{StartData, IsStartOf}
-use Rattle.restore.specs.declared.fault.RestoreFault.{RestoreFault}
-use Rattle.restore.specs.declared.fault.RestoreFault.TheVariants.{MaxParallelism, UnknownUid, MissingUid, PlanChanged, Partitions}
+use Rattle.legs.specs.declared.restore_fault.RestoreFault.{RestoreFault}
+use Rattle.legs.specs.declared.restore_fault.RestoreFault.TheVariants.{MaxParallelism, UnknownUid, MissingUid, PlanChanged, Partitions}
 use Rattle.restore.specs.Saved.{saved_under}
 use Rattle.restore.specs.Requirements.{has_max, has_known_uids, has_all_uids, has_plan, has_partitions, plan_requirements}
 use Rattle.restore.specs.Answer.{met_or_fault, start_of, is_memory}

@@ -27,7 +27,7 @@ use Rattle.stream_model.specs.InputData.{InputData, BelongsTo}
 use Rattle.stream_model.specs.Watermarks.{IsCut, partition_watermark, merged_watermark, records_before}
 use Rattle.redistribute.specs.Begins.{IsStartIn, IsOpenEntry, AreOpenGroups}
 use Rattle.redistribute.specs.Snapshots.{saved_source, saved_sources}
-use Rattle.restore.specs.declared.fault.RestoreFault.TheVariants.{MaxParallelism, UnknownUid, MissingUid, PlanChanged, Offset, Watermark, WrongGroup, ClosedWindow, Count as TooMany, Number}
+use Rattle.legs.specs.declared.restore_fault.RestoreFault.TheVariants.{MaxParallelism, UnknownUid, MissingUid, PlanChanged, Offset, Watermark, WrongGroup, ClosedWindow, Count as TooMany, Number}
 use Rattle.restore.specs.Answer.{start_of, met_or_fault}
 use Rattle.restore.specs.Requirements.{has_max, has_known_uids, has_all_uids, has_plan, has_offsets, has_watermarks, has_groups, has_open_windows, has_counts, has_number, plan_requirements, input_requirements, are_kinds, every_partition, every_entry, is_within, is_watermark, is_in_group, is_reached, is_open}
 use Rattle.restore.specs.Saved.{saved_sources as saved_of, cut_of}

@@ -6,8 +6,8 @@ use Rattle.plan_model.specs.PlanData.{PlanData}
 use Rattle.savepoint_codec.specs.declared.savepoint.Contents.{Contents}
 use Rattle.stream_model.specs.InputData.{InputData}
 use Rattle.redistribute.specs.StartData.{StartData}
-use Rattle.restore.specs.declared.fault.RestoreFault.{RestoreFault}
-use Rattle.restore.specs.declared.fault.RestoreFault.TheVariants.{Memory}
+use Rattle.legs.specs.declared.restore_fault.RestoreFault.{RestoreFault}
+use Rattle.legs.specs.declared.restore_fault.RestoreFault.TheVariants.{Memory}
 use Rattle.restore.specs.Saved.{saved_sources}
 use Rattle.restore.specs.Requirements.{requirements}
 

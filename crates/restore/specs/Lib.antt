@@ -4,4 +4,3 @@ pub mod Reached
 pub mod Requirements
 pub mod EntryTest
 pub mod Answer
-pub mod FaultLine

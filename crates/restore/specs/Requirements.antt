@@ -21,8 +21,8 @@ use Rattle.savepoint_codec.specs.declared.savepoint.Contents.{Contents}
 use Rattle.stream_model.specs.declared.entry.Marked.{Marked}
 use Rattle.stream_model.specs.InputData.{InputData}
 use Rattle.stream_model.specs.Watermarks.{partition_watermark, merged_watermark, records_before}
-use Rattle.restore.specs.declared.fault.RestoreFault.{RestoreFault}
-use Rattle.restore.specs.declared.fault.RestoreFault.TheVariants.{MaxParallelism, UnknownUid, MissingUid, PlanChanged, Partitions, Offset, Watermark, WrongGroup, ClosedWindow, Count, Number}
+use Rattle.legs.specs.declared.restore_fault.RestoreFault.{RestoreFault}
+use Rattle.legs.specs.declared.restore_fault.RestoreFault.TheVariants.{MaxParallelism, UnknownUid, MissingUid, PlanChanged, Partitions, Offset, Watermark, WrongGroup, ClosedWindow, Count, Number}
 use Rattle.restore.specs.Saved.{saved_under, saved_sources, cut_of}
 
 -- the plan has as many key groups

@@ -15,11 +15,11 @@ ghost use Rattle.restore.specs.Requirements.{plan_requirements, input_requiremen
 
 use crate::copying::copy_groups;
 use crate::entries::{EntryTest, every_entry};
-use crate::fault::RestoreFault;
 use crate::partitions::{Reached, all_partitions, have_offsets, have_watermarks};
 use crate::requirements;
 use crate::saved::saved_sources;
 use key_groups::MaxParallelism;
+use legs::RestoreFault;
 use plain_data::Items;
 use plan_model::Plan;
 use redistribute::Start;

@@ -7,10 +7,8 @@
 mod checking;
 mod copying;
 mod entries;
-mod fault;
 mod partitions;
 mod requirements;
 mod saved;
 
 pub use checking::check;
-pub use fault::RestoreFault;

@@ -1,7 +1,7 @@
 //! Why a job cannot go on from a savepoint.
 
 ghost use Rattle.std.specs.Prelude.{◌≡◌};
-ghost use Rattle.restore.specs.declared.fault.RestoreFault.TheVariants.{Memory};
+ghost use Rattle.legs.specs.declared.restore_fault.RestoreFault.TheVariants.{Memory};
 
 use std::alloc::AllocError;
 use std::fmt;
@@ -39,7 +39,7 @@ pub enum RestoreFault {
 
 impl fmt::Display for RestoreFault {
     ghost use Rattle.std.specs.Prelude.{Some};
-    ghost use Rattle.restore.specs.FaultLine.{restore_line};
+    ghost use Rattle.legs.specs.RestoreLine.{restore_line};
 
     ghost output = { λ fault. Some (restore_line fault) };
 

@@ -1,7 +1,7 @@
--- The line of a fault: its code and name.
+-- The line of a fault of a restore: its code and name.
 use Rattle.std.specs.Prelude.{ℕ, List, codes}
-use Rattle.restore.specs.declared.fault.RestoreFault.{RestoreFault}
-use Rattle.restore.specs.declared.fault.RestoreFault.TheVariants as restore
+use Rattle.legs.specs.declared.restore_fault.RestoreFault.{RestoreFault}
+use Rattle.legs.specs.declared.restore_fault.RestoreFault.TheVariants as restore
 
 abbrev pub restore_line : RestoreFault → List ℕ
 restore_line restore.MaxParallelism = codes "Q1 MaxParallelism"
