@@ -1,13 +1,14 @@
 -- Slices of time, and what those of a window come to.
-use Rattle.std.specs.Prelude.{◌≡◌, ℤ, ◌^◌, ◌≤◌, ◌<◌, ◌≤ℤ◌, map, Bool, List, [], ◌∷◌, Option, Some, None, if◌then◌else◌}
+use Rattle.std.specs.Prelude.{◌≡◌, ℤ, ◌^◌, ◌≤◌, ◌<◌, ◌≤ℤ◌, ◌&&◌, map, Bool, List, [], ◌∷◌, Option, Some, None, if◌then◌else◌}
 use Rattle.std.specs.Global.{Vec}
 use Rattle.std.specs.List.{All, list_any}
 use Rattle.std.specs.Map.{lookup}
 use Rattle.std.specs.Ordering.{int_eq}
 use Rattle.plan_model.specs.declared.spec.WindowSpec.{WindowSpec}
 use Rattle.plan_model.specs.declared.spec.Pane.{Pane}
-use Rattle.plan_model.specs.Aggregates.{Aggregated, merge}
-use Rattle.plan_model.specs.Windows.{is_start, is_within}
+use Rattle.plain_data.specs.Record.{Record}
+use Rattle.plan_model.specs.Aggregates.{Aggregated, aggregate_of, merge}
+use Rattle.plan_model.specs.Windows.{is_start, is_within, is_window_of}
 use Rattle.aggregates.specs.Kinds.{AccData, kind_of}
 use Rattle.window_slices.specs.declared.key_slices.Slice.{Slice}
 
@@ -60,6 +61,16 @@ AreSlices w keyed = (k : ℤ) → All (IsSliceOf w) (slices_of keyed k)
 -- a slice that starts at b can take one record more
 abbrev pub CanTakeOne : ℤ → List Slice → Type 0
 CanTakeOne b xs = All (λ x. x.start ≡ b → x.acc.total.count < 2 ^ 41) xs
+
+-- a record has come into a slice that starts at b
+abbrev pub TakesOne : WindowSpec → ℤ → Record → List Slice → List Slice → Type 0
+TakesOne w b r old new =
+    (s : ℤ) → slices_total w s new ≡ (if is_within w s b then merge w.aggregates (slices_total w s old) (aggregate_of w.aggregates (r ∷ [])) else slices_total w s old)
+
+-- and so into each pane of the slice's key whose window has where the slice starts
+abbrev pub PanesTakeOne : WindowSpec → Pane → Record → (Pane → Option Aggregated) → (Pane → Option Aggregated) → Type 0
+PanesTakeOne w slice r old new =
+    (q : Pane) → new q ≡ (if int_eq slice.key q.key && is_window_of w slice.start q.start then merge w.aggregates (old q) (aggregate_of w.aggregates (r ∷ [])) else old q)
 
 -- what records come to, of at most 2^41
 abbrev pub IsCounted : Option Aggregated → Type 0

@@ -1,16 +1,13 @@
 //! Slices of time: what the records of a key come to between two cuts. Time is cut where a window starts and where one ends.
 
-ghost use Rattle.std.specs.Prelude.{◌≡◌, ◌⊎◌, ℤ, pos, true, false, ◌<◌, ◌≤◌, ◌<ℤ◌, ◌≤ℤ◌, ◌-ℤ◌, ◌&&◌, [], ◌∷◌, length, slice_index_or, Some, OnOk, OnErr, IfSome, IfNone, if◌then◌else◌};
+ghost use Rattle.std.specs.Prelude.{◌≡◌, ◌⊎◌, ℤ, pos, true, false, ◌<◌, ◌≤◌, ◌<ℤ◌, ◌≤ℤ◌, ◌-ℤ◌, [], length, slice_index_or, Some, OnOk, OnErr, IfSome, IfNone};
 ghost use Rattle.std.specs.List.{All, HoldsAt};
 ghost use Rattle.std.specs.Int.{int_rem_euclid};
 ghost use Rattle.std.specs.Option.{option_map};
-ghost use Rattle.std.specs.Ordering.{int_eq};
-ghost use Rattle.plan_model.specs.declared.spec.Pane.{Pane as PaneValue};
 ghost use Rattle.plan_model.specs.declared.limits.TheConstants.{MOST_AGGREGATES};
 ghost use Rattle.plan_model.specs.PlanData.{has_column};
-ghost use Rattle.plan_model.specs.Aggregates.{aggregate_of, merge};
 ghost use Rattle.plan_model.specs.Windows as times;
-ghost use Rattle.window_slices.specs.KeySlices.{IsSliceOf, AreSlices, CanTakeOne, IsCounted, IsUpTo, IsFrom, acc_with, has_start, slices_of, slices_total, sliced};
+ghost use Rattle.window_slices.specs.KeySlices.{IsSliceOf, AreSlices, CanTakeOne, IsCounted, IsUpTo, IsFrom, TakesOne, PanesTakeOne, acc_with, has_start, slices_of, slices_total, sliced};
 
 use aggregates::Acc;
 use columns::Batch;
@@ -146,9 +143,7 @@ fn add_there(slices: &mut Vec<Slice>, w: &WindowSpec, start: i64, batch: &Batch,
     requires kinds { All (IsSliceOf w.now) slices.old.items }
     requires room { CanTakeOne start slices.old.items }
     ensures there { result ≡ has_start start slices.old.items }
-    ensures added { result ≡ true → (s : ℤ) → slices_total w.now s slices.new.items
-        ≡ (if times.is_within w.now s start then merge w.now.aggregates (slices_total w.now s slices.old.items) (aggregate_of w.now.aggregates (slice_index_or batch.now.rows row [] ∷ []))
-        else slices_total w.now s slices.old.items) }
+    ensures added { result ≡ true → TakesOne w.now start (slice_index_or batch.now.rows row []) slices.old.items slices.new.items }
     ensures kinds { All (IsSliceOf w.now) slices.new.items }
     ensures same { result ≡ false → slices.new.items ≡ slices.old.items }
 {
@@ -175,9 +170,7 @@ fn add_to(
     requires few { length w.now.aggregates ≤ MOST_AGGREGATES }
     requires kinds { All (IsSliceOf w.now) slices.old.items }
     requires room { CanTakeOne start slices.old.items }
-    ensures added { OnOk result ((s : ℤ) → slices_total w.now s slices.new.items
-        ≡ (if times.is_within w.now s start then merge w.now.aggregates (slices_total w.now s slices.old.items) (aggregate_of w.now.aggregates (slice_index_or batch.now.rows row [] ∷ []))
-        else slices_total w.now s slices.old.items)) }
+    ensures added { OnOk result (TakesOne w.now start (slice_index_or batch.now.rows row []) slices.old.items slices.new.items) }
     ensures kinds { All (IsSliceOf w.now) slices.new.items }
     ensures err { OnErr result (slices.new.items ≡ slices.old.items) }
 {
@@ -205,10 +198,7 @@ pub(crate) fn add_to_known(
     requires kinds { AreSlices w.now slices.old.entries }
     requires room { CanTakeOne slice.start (slices_of slices.old.entries slice.key) }
     ensures there { result ≡ has_start slice.start (slices_of slices.old.entries slice.key) }
-    ensures added { result ≡ true → (q : PaneValue) → sliced w.now slices.new.entries q
-        ≡ (if int_eq slice.key q.key && times.is_window_of w.now slice.start q.start
-        then merge w.now.aggregates (sliced w.now slices.old.entries q) (aggregate_of w.now.aggregates (slice_index_or batch.now.rows row [] ∷ []))
-        else sliced w.now slices.old.entries q) }
+    ensures added { result ≡ true → PanesTakeOne w.now slice (slice_index_or batch.now.rows row []) (sliced w.now slices.old.entries) (sliced w.now slices.new.entries) }
     ensures kinds { AreSlices w.now slices.new.entries }
     ensures same { result ≡ false → (k : ℤ) → slices_of slices.new.entries k ≡ slices_of slices.old.entries k }
 {
@@ -233,10 +223,7 @@ pub(crate) fn add_slice(
     requires few { length w.now.aggregates ≤ MOST_AGGREGATES }
     requires kinds { AreSlices w.now slices.old.entries }
     requires room { CanTakeOne slice.start (slices_of slices.old.entries slice.key) }
-    ensures added { OnOk result ((q : PaneValue) → sliced w.now slices.new.entries q
-        ≡ (if int_eq slice.key q.key && times.is_window_of w.now slice.start q.start
-        then merge w.now.aggregates (sliced w.now slices.old.entries q) (aggregate_of w.now.aggregates (slice_index_or batch.now.rows row [] ∷ []))
-        else sliced w.now slices.old.entries q)) }
+    ensures added { OnOk result (PanesTakeOne w.now slice (slice_index_or batch.now.rows row []) (sliced w.now slices.old.entries) (sliced w.now slices.new.entries)) }
     ensures kinds { AreSlices w.now slices.new.entries }
     ensures err { OnErr result ((k : ℤ) → slices_of slices.new.entries k ≡ slices_of slices.old.entries k) }
 {

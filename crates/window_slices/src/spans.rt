@@ -1,15 +1,12 @@
 //! Spans of time, each as long as a window: a window lies in two of them, so that a row looks at the slices of two.
 
-ghost use Rattle.std.specs.Prelude.{◌≡◌, ℤ, true, false, ◌<◌, ◌≤◌, ◌<ℤ◌, ◌≤ℤ◌, ◌+ℤ◌, ◌&&◌, [], ◌∷◌, int_le, length, slice_index_or, OnOk, OnErr, if◌then◌else◌};
+ghost use Rattle.std.specs.Prelude.{◌≡◌, ℤ, true, false, ◌<◌, ◌≤◌, ◌<ℤ◌, ◌≤ℤ◌, ◌+ℤ◌, [], int_le, length, slice_index_or, OnOk, OnErr};
 ghost use Rattle.std.specs.List.{All};
 ghost use Rattle.std.specs.Option.{option_map};
-ghost use Rattle.std.specs.Ordering.{int_eq};
 ghost use Rattle.plan_model.specs.declared.spec.Pane.{Pane as PaneValue};
 ghost use Rattle.plan_model.specs.declared.limits.TheConstants.{MOST_AGGREGATES};
 ghost use Rattle.plan_model.specs.PlanData.{IsWindow, has_column};
-ghost use Rattle.plan_model.specs.Aggregates.{aggregate_of, merge};
-ghost use Rattle.plan_model.specs.Windows.{is_window_of};
-ghost use Rattle.window_slices.specs.KeySlices.{CanTakeOne, IsCounted, acc_with, has_start, slices_of};
+ghost use Rattle.window_slices.specs.KeySlices.{CanTakeOne, IsCounted, PanesTakeOne, acc_with, has_start, slices_of};
 ghost use Rattle.window_slices.specs.Spans.{AreInSpans, in_spans, keyed_at, span_start};
 
 use crate::key_slices::{
@@ -57,10 +54,7 @@ pub fn add_to_slice(
     requires kinds { AreInSpans w.now spans.old.entries }
     requires room { CanTakeOne slice.start (slices_of (keyed_at spans.old.entries (span_start w.now slice.start)) slice.key) }
     ensures there { result ≡ has_start slice.start (slices_of (keyed_at spans.old.entries (span_start w.now slice.start)) slice.key) }
-    ensures added { result ≡ true → (q : PaneValue) → in_spans w.now spans.new.entries q
-        ≡ (if int_eq slice.key q.key && is_window_of w.now slice.start q.start
-        then merge w.now.aggregates (in_spans w.now spans.old.entries q) (aggregate_of w.now.aggregates (slice_index_or batch.now.rows row [] ∷ []))
-        else in_spans w.now spans.old.entries q) }
+    ensures added { result ≡ true → PanesTakeOne w.now slice (slice_index_or batch.now.rows row []) (in_spans w.now spans.old.entries) (in_spans w.now spans.new.entries) }
     ensures kinds { AreInSpans w.now spans.new.entries }
     ensures same { result ≡ false → (b k : ℤ) → slices_of (keyed_at spans.new.entries b) k ≡ slices_of (keyed_at spans.old.entries b) k }
 {
@@ -90,10 +84,7 @@ pub fn add_in_span(
     requires few { length w.now.aggregates ≤ MOST_AGGREGATES }
     requires kinds { AreInSpans w.now spans.old.entries }
     requires room { CanTakeOne slice.start (slices_of (keyed_at spans.old.entries (span_start w.now slice.start)) slice.key) }
-    ensures added { OnOk result ((q : PaneValue) → in_spans w.now spans.new.entries q
-        ≡ (if int_eq slice.key q.key && is_window_of w.now slice.start q.start
-        then merge w.now.aggregates (in_spans w.now spans.old.entries q) (aggregate_of w.now.aggregates (slice_index_or batch.now.rows row [] ∷ []))
-        else in_spans w.now spans.old.entries q)) }
+    ensures added { OnOk result (PanesTakeOne w.now slice (slice_index_or batch.now.rows row []) (in_spans w.now spans.old.entries) (in_spans w.now spans.new.entries)) }
     ensures kinds { AreInSpans w.now spans.new.entries }
     ensures err { OnErr result ((b k : ℤ) → slices_of (keyed_at spans.new.entries b) k ≡ slices_of (keyed_at spans.old.entries b) k) }
 {

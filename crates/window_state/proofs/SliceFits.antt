@@ -1,5 +1,5 @@
 -- A record brought in at the slice of its time: its windows, the room in its slice, and the open windows after it.
-use Rattle.std.proofs.Common.{◌≡◌, ℕ, zero, suc, ℤ, pos, neg_ℤ, ◌+ℤ◌, ◌-ℤ◌, ◌<ℤ◌, ◌≤ℤ◌, ◌+◌, ◌^◌, ◌<◌, ◌≤◌, Bool, true, false, cond, ◌&&◌, ◌||◌, List, [], ◌∷◌, length, slice_index_or, refl, sym, ap, subst, ◌∙◌, inl, inr, arith, Option, Some, None, is_some, FitsSigned, to_z, of_z, if◌then◌else◌}
+use Rattle.std.proofs.Common.{◌≡◌, ℕ, zero, suc, ℤ, pos, neg_ℤ, ◌+ℤ◌, ◌-ℤ◌, ◌<ℤ◌, ◌≤ℤ◌, ◌+◌, ◌^◌, ◌<◌, ◌≤◌, Bool, true, false, cond, ◌&&◌, ◌||◌, List, [], ◌∷◌, length, slice_index_or, refl, sym, ap, subst, ◌∙◌, inl, inr, arith, Option, Some, None, is_some, FitsSigned, to_z, of_z}
 use Rattle.std.specs.FinMap.{get, from_entries}
 use Rattle.std.specs.BTreeMap.{BTreeMap}
 use Rattle.std.specs.Global.{Vec}
@@ -27,10 +27,10 @@ use Rattle.window_state.specs.Open.{has_open, open_panes}
 use Rattle.window_state.specs.Parts.{entries_at}
 use Rattle.window_slices.specs.KeySlices.{CanTakeOne, IsCounted, has_slice, has_start, sliced, slices_of, slices_total}
 use Rattle.window_slices.specs.Spans.{AreInSpans, in_spans, keyed_at, span_start}
-use Rattle.window_state.specs.State.{OpenWindows, HasRoomFor}
+use Rattle.window_state.specs.State.{OpenWindows, HasRoomFor, TakesInLater}
 use Rattle.window_state.specs.StateView.{standing, windows_view, IsWindowsInside}
 use Rattle.window_state.specs.Windows.{IsOperator, IsStart, acc_at, total_at}
-use Rattle.window_state.proofs.Slides.{sliding_by, held, start_is, fits_start, fits_window}
+use Rattle.window_state.proofs.Slides.{sliding_by, held, start_is, slice_at, key_is, fits_start, fits_window}
 use Rattle.window_slices.proofs.Facts.{some_in_span, count_in_span}
 use Rattle.window_state.proofs.Openings.{has_at}
 use Rattle.window_state.proofs.Standing.{get-view, standing_before, standing_later, whole_kept}
@@ -126,12 +126,8 @@ brings s v r first inside view range time rest room = record {
   room = subst (λ (x : OpenWindows). HasRoomFor x.window (r ∷ []) x.totals) (sym view) room;
 }
 
--- what stands in the panes after the record
-abbrev pub Added : OpenWindows → OpenWindows → Record → Type 0
-Added old new r = (q : Pane) → get new.totals q ≡ (if int_lt q.start old.from then get old.totals q else merge old.window.aggregates (get old.totals q) (aggregate_at old.window (r ∷ []) q))
-
 -- where none of its windows begins at `from` or later
-pub stays : (v : OpenWindows) (r : Record) → ((q : Pane) → int_lt q.start v.from ≡ false → is_window_of v.window (at v.window.time r) q.start ≡ false) → Added v v r
+pub stays : (v : OpenWindows) (r : Record) → ((q : Pane) → int_lt q.start v.from ≡ false → is_window_of v.window (at v.window.time r) q.start ≡ false) → TakesInLater r v v
 stays v r none q = side (int_lt q.start v.from) refl
   where
     side : (b : Bool) → int_lt q.start v.from ≡ b → get v.totals q ≡ cond b (get v.totals q) (merge v.window.aggregates (get v.totals q) (aggregate_at v.window (r ∷ []) q))
@@ -252,6 +248,39 @@ module _ (s : Inside) (r : Record) (first : ℕ) (b : Brings s r first) where
       let all : count_or (sliced w keyed q) ≡ count_or (slices_total w q.start xs) = ap (λ x. count_or (cond x (slices_total w q.start xs) None)) parts.0 in
       let half = count_in_span w s.spans.entries q start b.range.sized has in
       omega (arith, count_in w q.start xs k d inside within, less, all, half)
+
+-- the slice of a record, where the code finds it
+pub record IsFound (s : Inside) (r : Record) (first : ℕ) (v : WindowSpec) (slice : Pane) : Type 0 where
+  pub start : slice.start ≡ slice_start s.places.window (at s.places.window.time r)
+  pub key : slice.key ≡ at s.places.window.key r
+  pub room : int_le s.places.window.size (pos first) ≡ false → CanTakeOne slice.start (slices_of (keyed_at s.spans.entries (span_start v slice.start)) slice.key)
+
+-- by a copy of the window operator, and the record's time and key as the code reads them
+module _ (s : Inside) (r : Record) (first : ℕ) (b : Brings s r first) (v : WindowSpec) (x : ℤ) (same : v ≡ s.places.window) (fits : FitsSigned w64 x) (is : x ≡ at v.time r) where
+  time_is : x ≡ at s.places.window.time r
+  time_is = is ∙ ap (λ (u : WindowSpec). at u.time r) same
+
+  few : first ≤ 2 ^ 40
+  few = small_first s.places.window r first b.range b.rest
+
+  pub late_found : (test : Bool) → FitsSigned w128 s.from → int_lt (to_z w128 (of_z w128 (narrow (narrow x -ℤ to_z w64 first)))) (to_z w128 (of_z w128 s.from)) ≡ test
+      → int_lt (at s.places.window.time r -ℤ pos first) s.from ≡ test
+  late_found test from_fits lt = from_test (at s.places.window.time r) x s.from first test fits time_is b.time few from_fits lt
+
+  pub long_found : (test : Bool) → int_le (narrow v.size) (narrow (narrow x -ℤ narrow (narrow x -ℤ to_z w64 first))) ≡ test → int_le s.places.window.size (pos first) ≡ test
+  long_found test le = size_test s.places.window v (at s.places.window.time r) x first test same b.range fits time_is b.time few le
+
+  pub slice_found : (y : ℤ) → FitsSigned w64 y → y ≡ at v.key r → int_lt (at s.places.window.time r -ℤ pos first) s.from ≡ false
+      → IsFound s r first v (record { start = narrow (narrow x -ℤ to_z w64 first); key = narrow y })
+  slice_found y key_fits key late =
+      let start = slice_at s.places.window (at s.places.window.time r) x first fits time_is b.time few b.range (whole_late s r first b late) b.rest in
+      let own = key_is (at s.places.window.key r) y key_fits (key ∙ ap (λ (u : WindowSpec). at u.key r) same) in
+      record {
+        start = start;
+        key = own;
+        room = λ long. subst (λ (u : WindowSpec). CanTakeOne (narrow (narrow x -ℤ to_z w64 first)) (slices_of (keyed_at s.spans.entries (span_start u (narrow (narrow x -ℤ to_z w64 first)))) (narrow y)))
+            (sym same) (can_take s r first b _ _ start own late long);
+      }
 
 -- ---- what is known after it
 
@@ -380,7 +409,7 @@ module _ (s t : Inside) (r : Record) (first : ℕ) (b : Brings s r first) (a : A
     starts = λ q late some. starts q (ap (int_lt q.start) (sym a.from) ∙ late) some;
   }
 
-  pub added_view : Added (windows_view s) (windows_view t) r
+  pub added_view : TakesInLater r (windows_view s) (windows_view t)
   added_view q = get-view t inside_more q ∙ side (int_lt q.start s.from) refl ∙ (λ i. let o = sym (get-view s b.inside q) i in cond (int_lt q.start s.from) o (merge operator.aggregates o (one q)))
     where
       side : (x : Bool) → int_lt q.start s.from ≡ x → standing t q ≡ cond x (standing s q) (merge operator.aggregates (standing s q) (one q))

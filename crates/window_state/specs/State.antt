@@ -1,5 +1,5 @@
 -- A window state as contracts see it.
-use Rattle.std.specs.Prelude.{◌≡◌, true, int_lt, ℤ, ◌+◌, ◌^◌, ◌≤◌, Bool, List, Option, Some, None, option_map, if◌then◌else◌}
+use Rattle.std.specs.Prelude.{◌≡◌, true, int_lt, ℤ, ◌+◌, ◌^◌, ◌≤◌, Bool, List, [], ◌∷◌, Option, Some, None, option_map, if◌then◌else◌}
 use Rattle.std.specs.FinMap.{FinMap, get}
 use Rattle.plain_data.specs.Record.{Record}
 use Rattle.plan_model.specs.declared.spec.WindowSpec.{WindowSpec}
@@ -36,3 +36,9 @@ fired w watermark f q = if is_due w watermark q.start then option_map (row_at w 
 -- each record has come into each window of its time
 abbrev pub TakesIn : List Record → OpenWindows → OpenWindows → Type 0
 TakesIn records old new = (q : Pane) → get new.totals q ≡ merge old.window.aggregates (get old.totals q) (aggregate_at old.window records q)
+
+-- a record has come into each window of its time that begins at `from` or later, and into no other
+abbrev pub TakesInLater : Record → OpenWindows → OpenWindows → Type 0
+TakesInLater r old new =
+    (q : Pane) → get new.totals q
+    ≡ (if int_lt q.start old.from then get old.totals q else merge old.window.aggregates (get old.totals q) (aggregate_at old.window (r ∷ []) q))

@@ -9,12 +9,12 @@ ghost use Rattle.plan_model.specs.declared.spec.Pane.{Pane as PaneValue};
 ghost use Rattle.plan_model.specs.Windows.{IsTime};
 ghost use Rattle.plan_model.specs.Aggregates.{Aggregated, aggregate_of, merge};
 ghost use Rattle.plan_model.specs.Rows.{aggregate_at};
-ghost use Rattle.window_state.specs.State.{HasRoomBefore, HasRoomFor, TakesIn};
+ghost use Rattle.window_state.specs.State.{HasRoomBefore, HasRoomFor, TakesIn, TakesInLater};
 ghost use Rattle.window_state.specs.Windows.{CanAggregate, IsStart, is_pane};
 
 use crate::windows::Windows;
 use columns::Batch;
-use plan_model::{Pane, WindowSpec};
+use plan_model::Pane;
 use std::alloc::AllocError;
 use window_slices::back_to_start;
 
@@ -77,9 +77,7 @@ fn add_later(windows: &mut Windows, batch: &Batch, row: usize, first: u64) -> Re
     requires room { HasRoomFor windows.old.window (slice_index_or batch.now.rows row [] ∷ []) windows.old.totals }
     ensures window_stays { windows.new.window ≡ windows.old.window }
     ensures from_stays { windows.new.from ≡ windows.old.from }
-    ensures added { OnOk result ((q : PaneValue) → map.get windows.new.totals q
-        ≡ (if int_lt q.start windows.old.from then map.get windows.old.totals q
-        else merge windows.old.window.aggregates (map.get windows.old.totals q) (aggregate_at windows.old.window (slice_index_or batch.now.rows row [] ∷ []) q))) }
+    ensures added { OnOk result (TakesInLater (slice_index_or batch.now.rows row []) windows.old windows.new) }
 {
     let time = batch.value(row, windows.window().time as usize);
     if (time as i128) < windows.from {

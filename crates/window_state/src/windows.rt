@@ -8,12 +8,11 @@ ghost use Rattle.std.specs.Option.{option_map};
 ghost use Rattle.plain_data.specs.Record.{at};
 ghost use Rattle.plan_model.specs.declared.spec.Pane.{Pane as PaneValue};
 ghost use Rattle.plan_model.specs.Windows.{IsTime};
-ghost use Rattle.plan_model.specs.Aggregates.{Aggregated, aggregate_of, merge};
-ghost use Rattle.plan_model.specs.Rows.{aggregate_at};
+ghost use Rattle.plan_model.specs.Aggregates.{Aggregated, aggregate_of};
 ghost use Rattle.aggregates.specs.Kinds.{kind_of};
 ghost use Rattle.window_state.specs.Open.{has_open};
 ghost use Rattle.window_slices.specs.KeySlices.{acc_with};
-ghost use Rattle.window_state.specs.State.{HasRoomFor};
+ghost use Rattle.window_state.specs.State.{HasRoomFor, TakesInLater};
 ghost use Rattle.window_state.specs.Windows.{AreWhole, IsOperator, CanAggregate, IsStart, acc_at, has_pane, is_pane};
 ghost use Rattle.window_state.specs.Parts.{accs_in, entries_of, panes_in, IsPartOf};
 
@@ -27,9 +26,7 @@ use plan_model::{Numbers, Pane, WindowSpec};
 use std::alloc::{AllocError, Global};
 use std::collections::BTreeMap;
 use std::marker::Model;
-use window_slices::{
-    Spans, add_in_span, add_to_slice, pane_total, slices_in, span_of,
-};
+use window_slices::{Spans, add_in_span, add_to_slice, pane_total, slices_in, span_of};
 
 /// For how many windows of a time a record goes to a slice of time instead of to each of them. With fewer there is nothing to
 /// gain. The slide has to divide the size, so that spans begin where windows do.
@@ -172,9 +169,7 @@ impl Windows {
         requires room { HasRoomFor self.old.window (slice_index_or batch.now.rows row [] ∷ []) self.old.totals }
         ensures window_stays { self.new.window ≡ self.old.window }
         ensures from_stays { self.new.from ≡ self.old.from }
-        ensures added { OnOk result ((q : PaneValue) → map_of.get self.new.totals q
-            ≡ (if int_lt q.start self.old.from then map_of.get self.old.totals q
-            else merge self.old.window.aggregates (map_of.get self.old.totals q) (aggregate_at self.old.window (slice_index_or batch.now.rows row [] ∷ []) q))) }
+        ensures added { OnOk result (TakesInLater (slice_index_or batch.now.rows row []) self.old self.new) }
     {
         let w = self.places.window();
         let time = batch.value(row, w.time as usize);
@@ -211,9 +206,7 @@ impl Windows {
         requires room { HasRoomFor self.old.window (slice_index_or batch.now.rows row [] ∷ []) self.old.totals }
         ensures window_stays { self.new.window ≡ self.old.window }
         ensures from_stays { self.new.from ≡ self.old.from }
-        ensures added { OnOk result ((q : PaneValue) → map_of.get self.new.totals q
-            ≡ (if int_lt q.start self.old.from then map_of.get self.old.totals q
-            else merge self.old.window.aggregates (map_of.get self.old.totals q) (aggregate_at self.old.window (slice_index_or batch.now.rows row [] ∷ []) q))) }
+        ensures added { OnOk result (TakesInLater (slice_index_or batch.now.rows row []) self.old self.new) }
     {
         let w = self.places.window();
         let time = batch.value(row, w.time as usize);

@@ -1,4 +1,4 @@
-use Rattle.std.proofs.Common.{◌∙◌, ◌-ℤ◌, pos, true, false, [], ◌∷◌, get_or, refl, sym, ap, subst, rules, FitsSigned, to_z, of_z}
+use Rattle.std.proofs.Common.{◌∙◌, ◌-ℤ◌, pos, true, false, [], ◌∷◌, get_or, refl, sym, ap, subst, rules, FitsSigned}
 use Rattle.std.specs.Int.{w64, w128}
 use Rattle.std.specs.Prelude.{OnOk}
 use Rattle.std.specs.List.{All}
@@ -8,12 +8,10 @@ use Rattle.plain_data.specs.Record.{Record, at}
 use Rattle.plan_model.specs.declared.spec.WindowSpec.{WindowSpec}
 use Rattle.window_state.specs.declared.windows.Windows.TheInside.{Inside}
 use Rattle.window_state.specs.Open.{has_open}
-use Rattle.window_slices.specs.KeySlices.{CanTakeOne, slices_of}
-use Rattle.window_slices.specs.Spans.{AreInSpans, keyed_at, span_start}
-use Rattle.window_state.specs.State.{OpenWindows, HasRoomFor}
+use Rattle.window_slices.specs.Spans.{AreInSpans}
+use Rattle.window_state.specs.State.{OpenWindows, HasRoomFor, TakesInLater}
 use Rattle.window_state.specs.StateView.{windows_view}
-use Rattle.window_state.proofs.Slides.{key_is, slice_at}
-use Rattle.window_state.proofs.SliceFits.{view_same, slice_there, Brings, AddsOne, Added, brings, stays, small_first, back_fits, size_test, from_test, none_later, none_long, whole_late, can_take, inside_same, inside_more, added_view, adds_one}
+use Rattle.window_state.proofs.SliceFits.{view_same, slice_there, Brings, AddsOne, brings, stays, small_first, back_fits, size_test, from_test, none_later, none_long, late_found, long_found, slice_found, inside_same, inside_more, added_view, adds_one}
 use Rattle.window_state.proofs.windows.Windows.add_to_slice.Goals as goal
 use Rattle.window_state.proofs.windows.Windows.add_to_slice.Goals.{then-last-self-via-then-last-self, then-last-self-via-else-last-self+then-w-time}
 
@@ -55,23 +53,14 @@ add_to_slice-requires-clause-kinds c = subst (λ (x : WindowSpec). AreInSpans x 
 pub add_to_slice-requires-clause-room : goal.add_to_slice-requires-clause-room
 add_to_slice-requires-clause-room c =
     let s = c.self.inside in
-    let v = c.args.self.now in
     let r : Record = get_or c.args.batch.now.rows c.args.row [] in
-    let range = c.requires.window.operator.range in
+    let v = c.window-w.result.now in
     let fits : FitsSigned w64 c.value-time.result = search rules in
     let key_fits : FitsSigned w64 c.value-key.result = search rules in
-    let from : FitsSigned w128 s.from = search rules in
-    let window = c.window-w.ensures in
-    let time = c.value-time.ensures ∙ ap (λ (x : WindowSpec). at x.time r) window in
-    let key = key_is (at s.places.window.key r) c.value-key.result key_fits (c.value-key.ensures ∙ ap (λ (x : WindowSpec). at x.key r) window) in
-    let b = brings s v r c.args.first c.self.invariant c.self.view_is range c.requires.time c.requires.rest c.requires.room in
-    let small = small_first s.places.window r c.args.first b.range b.rest in
-    let late = from_test (at s.places.window.time r) c.value-time.result s.from c.args.first false fits time b.time small from c.if-last-self.false in
-    let start = slice_at s.places.window (at s.places.window.time r) c.value-time.result c.args.first fits time b.time small b.range (whole_late s r c.args.first b late) b.rest in
-    let at_start = to_z w64 (of_z w64 (to_z w64 (of_z w64 c.value-time.result) -ℤ to_z w64 c.args.first)) in
-    let at_key = to_z w64 (of_z w64 c.value-key.result) in
-    subst (λ (x : WindowSpec). CanTakeOne at_start (slices_of (keyed_at s.spans.entries (span_start x at_start)) at_key)) (sym window) (can_take s r c.args.first b at_start at_key start key late
-    (size_test s.places.window c.window-w.result.now (at s.places.window.time r) c.value-time.result c.args.first false window b.range fits time b.time small c.if-w-time.false))
+    let b = brings s c.args.self.now r c.args.first c.self.invariant c.self.view_is c.requires.window.operator.range c.requires.time c.requires.rest c.requires.room in
+    let late = late_found s r c.args.first b v c.value-time.result c.window-w.ensures fits c.value-time.ensures false (search rules) c.if-last-self.false in
+    (slice_found s r c.args.first b v c.value-time.result c.window-w.ensures fits c.value-time.ensures c.value-key.result key_fits c.value-key.ensures late).room
+    (long_found s r c.args.first b v c.value-time.result c.window-w.ensures fits c.value-time.ensures false c.if-w-time.false)
 
 -- what is before the last step and after it
 abbrev after : (c : goal.Then-add_to_slice) → Inside
@@ -90,20 +79,16 @@ adds c =
     let fits : FitsSigned w64 c.value-time.result = search rules in
     let key_fits : FitsSigned w64 c.value-key.result = search rules in
     let same = c.window-w.ensures in
-    let time = c.value-time.ensures ∙ ap (λ (x : WindowSpec). at x.time r) same in
-    let from : FitsSigned w128 s.from = search rules in
-    let b = bring c in
-    let small = small_first w r c.args.first b.range b.rest in
-    let late = from_test (at w.time r) c.value-time.result s.from c.args.first false fits time b.time small from c.if-last-self.false in
-    let start = slice_at w (at w.time r) c.value-time.result c.args.first fits time b.time small b.range (whole_late s r c.args.first b late) b.rest in
-    let key = key_is (at w.key r) c.value-key.result key_fits (c.value-key.ensures ∙ ap (λ (x : WindowSpec). at x.key r) same) in
+    let late = late_found s r c.args.first (bring c) v c.value-time.result same fits c.value-time.ensures false (search rules) c.if-last-self.false in
+    let found = slice_found s r c.args.first (bring c) v c.value-time.result same fits c.value-time.ensures c.value-key.result key_fits c.value-key.ensures late in
     record {
       places = refl;
       from = refl;
       kinds = subst (λ (x : WindowSpec). AreInSpans x c.add_to_slice.new.spans.entries) same c.add_to_slice.ensures.kinds;
-      added = adds_one w v r _ _ s.spans.entries c.add_to_slice.new.spans.entries (bring c).range.slides same start key (c.add_to_slice.ensures.added yes);
+      added = adds_one w v r _ _ s.spans.entries c.add_to_slice.new.spans.entries (bring c).range.slides same found.start found.key (c.add_to_slice.ensures.added yes);
       still = λ q h. h;
-      opened = λ q keyed window late. slice_there w v (at w.time r) _ _ (at w.key r) (has_open s.opened.entries) s.spans.entries (bring c).range.slides same start key (sym c.add_to_slice.ensures.there ∙ yes) q keyed window;
+      opened = λ q keyed window late.
+          slice_there w v (at w.time r) _ _ (at w.key r) (has_open s.opened.entries) s.spans.entries (bring c).range.slides same found.start found.key (sym c.add_to_slice.ensures.there ∙ yes) q keyed window;
     }
 
 pub invariant_of-self : goal.invariant_of-self
@@ -112,7 +97,7 @@ invariant_of-self c = inside_more c.self.inside (after c) _ c.args.first (bring 
 pub returns-then-add_to_slice-clause-added : goal.returns-then-add_to_slice-clause-added
 returns-then-add_to_slice-clause-added c =
     let r : Record = get_or c.args.batch.now.rows c.args.row [] in
-    subst (λ (v : OpenWindows). Added v (windows_view (after c)) r) c.self.view_is (added_view c.self.inside (after c) r c.args.first (bring c) (adds c))
+    subst (λ (v : OpenWindows). TakesInLater r v (windows_view (after c))) c.self.view_is (added_view c.self.inside (after c) r c.args.first (bring c) (adds c))
 
 pub invariant_of-self-2 : goal.invariant_of-self-2
 invariant_of-self-2 c =
@@ -122,25 +107,18 @@ invariant_of-self-2 c =
 pub begin_slice-requires-clause-late : goal.begin_slice-requires-clause-late
 begin_slice-requires-clause-late c =
     let s = c.self.inside in
-    let v = c.args.self.now in
     let r : Record = get_or c.args.batch.now.rows c.args.row [] in
-    let w = s.places.window in
     let fits : FitsSigned w64 c.value-time.result = search rules in
-    let from : FitsSigned w128 s.from = search rules in
-    let time = c.value-time.ensures ∙ ap (λ (x : WindowSpec). at x.time r) c.window-w.ensures in
-    let b = brings s v r c.args.first c.self.invariant c.self.view_is c.requires.window.operator.range c.requires.time c.requires.rest c.requires.room in
-    from_test (at w.time r) c.value-time.result s.from c.args.first false fits time b.time (small_first w r c.args.first b.range b.rest) from c.if-last-self.false
+    let b = brings s c.args.self.now r c.args.first c.self.invariant c.self.view_is c.requires.window.operator.range c.requires.time c.requires.rest c.requires.room in
+    late_found s r c.args.first b c.window-w.result.now c.value-time.result c.window-w.ensures fits c.value-time.ensures false (search rules) c.if-last-self.false
 
 pub begin_slice-requires-clause-long : goal.begin_slice-requires-clause-long
 begin_slice-requires-clause-long c =
     let s = c.self.inside in
-    let v = c.args.self.now in
     let r : Record = get_or c.args.batch.now.rows c.args.row [] in
-    let w = s.places.window in
     let fits : FitsSigned w64 c.value-time.result = search rules in
-    let time = c.value-time.ensures ∙ ap (λ (x : WindowSpec). at x.time r) c.window-w.ensures in
-    let b = brings s v r c.args.first c.self.invariant c.self.view_is c.requires.window.operator.range c.requires.time c.requires.rest c.requires.room in
-    size_test w c.window-w.result.now (at w.time r) c.value-time.result c.args.first false c.window-w.ensures b.range fits time b.time (small_first w r c.args.first b.range b.rest) c.if-w-time.false
+    let b = brings s c.args.self.now r c.args.first c.self.invariant c.self.view_is c.requires.window.operator.range c.requires.time c.requires.rest c.requires.room in
+    long_found s r c.args.first b c.window-w.result.now c.value-time.result c.window-w.ensures fits c.value-time.ensures false c.if-w-time.false
 
 pub begin_slice-requires-clause-room : goal.begin_slice-requires-clause-room
 begin_slice-requires-clause-room c =
@@ -156,4 +134,4 @@ returns-clause-added c =
     let r : Record = get_or c.args.batch.now.rows c.args.row [] in
     let after : Inside = record s { spans = c.add_to_slice.new.spans } in
     let view = view_same s after refl refl refl (c.add_to_slice.ensures.same c.if-add_to_slice.false) ∙ c.self.view_is in
-    subst (λ (v : OpenWindows). OnOk c.begin_slice.result (Added v c.begin_slice.new.self r)) view c.begin_slice.ensures.added
+    subst (λ (v : OpenWindows). OnOk c.begin_slice.result (TakesInLater r v c.begin_slice.new.self)) view c.begin_slice.ensures.added

@@ -1,4 +1,4 @@
-use Rattle.std.proofs.Common.{◌≡◌, ◌∙◌, ◌-ℤ◌, pos, [], get_or, refl, sym, ap, subst, rules, FitsSigned, to_z, of_z}
+use Rattle.std.proofs.Common.{◌≡◌, ◌∙◌, ◌-ℤ◌, pos, [], get_or, refl, sym, ap, subst, rules, FitsSigned}
 use Rattle.std.specs.Int.{w64, w128, int_rem_euclid}
 use Rattle.std.specs.Int.RustNames.{int_lt, int_le}
 use Rattle.std.proofs.lemmas.Int.{to_z-of_z}
@@ -7,14 +7,12 @@ use Rattle.plan_model.specs.declared.spec.WindowSpec.{WindowSpec}
 use Rattle.plan_model.specs.Windows.{IsTime}
 use Rattle.window_state.specs.declared.windows.Windows.TheInside.{Inside}
 use Rattle.window_state.specs.Open.{has_open}
-use Rattle.window_slices.specs.KeySlices.{CanTakeOne, slices_of}
-use Rattle.window_slices.specs.Spans.{AreInSpans, keyed_at, span_start}
-use Rattle.window_state.specs.State.{OpenWindows}
+use Rattle.window_slices.specs.Spans.{AreInSpans}
+use Rattle.window_state.specs.State.{OpenWindows, TakesInLater}
 use Rattle.window_state.specs.StateView.{windows_view}
 use Rattle.window_state.proofs.Openings.{back_fits}
-use Rattle.window_state.proofs.Slides.{key_is, slice_at}
 use Rattle.window_state.proofs.Standing.{opened_more}
-use Rattle.window_state.proofs.SliceFits.{Brings, AddsOne, Added, brings, can_take, small_first, whole_late, inside_same, inside_more, added_view, slices_beside, beside, opens_new, adds_one}
+use Rattle.window_state.proofs.SliceFits.{Brings, AddsOne, brings, slice_found, small_first, whole_late, inside_same, inside_more, added_view, slices_beside, beside, opens_new, adds_one}
 use Rattle.window_state.proofs.windows.Windows.begin_slice.Goals as goal
 
 pub invariant_of-self : goal.invariant_of-self
@@ -43,21 +41,13 @@ add_in_span-requires-clause-kinds c = subst (λ (x : WindowSpec). AreInSpans x c
 pub add_in_span-requires-clause-room : goal.add_in_span-requires-clause-room
 add_in_span-requires-clause-room c =
     let s = c.self.inside in
-    let v = c.args.self.now in
     let r : Record = get_or c.args.batch.now.rows c.args.row [] in
-    let range = c.requires.window.operator.range in
     let fits : FitsSigned w64 c.value-time.result = search rules in
     let key_fits : FitsSigned w64 c.value-key.result = search rules in
-    let from : FitsSigned w128 s.from = search rules in
-    let window = c.window-w.ensures in
-    let time = c.value-time.ensures ∙ ap (λ (x : WindowSpec). at x.time r) window in
-    let key = key_is (at s.places.window.key r) c.value-key.result key_fits (c.value-key.ensures ∙ ap (λ (x : WindowSpec). at x.key r) window) in
-    let b = brings s v r c.args.first c.self.invariant c.self.view_is range c.requires.time c.requires.rest c.requires.room in
+    let b = brings s c.args.self.now r c.args.first c.self.invariant c.self.view_is c.requires.window.operator.range c.requires.time c.requires.rest c.requires.room in
     let late = ap (λ (x : OpenWindows). int_lt (at x.window.time r -ℤ pos c.args.first) x.from) c.self.view_is ∙ c.requires.late in
-    let start = slice_at s.places.window (at s.places.window.time r) c.value-time.result c.args.first fits time b.time (small_first s.places.window r c.args.first b.range b.rest) b.range (whole_late s r c.args.first b late) b.rest in
-    let at_start = to_z w64 (of_z w64 (to_z w64 (of_z w64 c.value-time.result) -ℤ to_z w64 c.args.first)) in
-    let at_key = to_z w64 (of_z w64 c.value-key.result) in
-    subst (λ (x : WindowSpec). CanTakeOne at_start (slices_of (keyed_at s.spans.entries (span_start x at_start)) at_key)) (sym window) (can_take s r c.args.first b at_start at_key start key late (ap (λ (x : OpenWindows). int_le x.window.size (pos c.args.first)) c.self.view_is ∙ c.requires.long))
+    (slice_found s r c.args.first b c.window-w.result.now c.value-time.result c.window-w.ensures fits c.value-time.ensures c.value-key.result key_fits c.value-key.ensures late).room
+    (ap (λ (x : OpenWindows). int_le x.window.size (pos c.args.first)) c.self.view_is ∙ c.requires.long)
 
 pub invariant_of-self-in_err-add_in_span : goal.invariant_of-self-in_err-add_in_span
 invariant_of-self-in_err-add_in_span c =
@@ -83,18 +73,17 @@ adds c =
     let span_fits : FitsSigned w128 c.span_of.result = search rules in
     let same = c.window-w.ensures in
     let time = c.value-time.ensures ∙ ap (λ (x : WindowSpec). at x.time r) same in
-    let b = bring c in
     let late = ap (λ (x : OpenWindows). int_lt (at x.window.time r -ℤ pos c.args.first) x.from) c.self.view_is ∙ c.requires.late in
-    let start = slice_at w (at w.time r) c.value-time.result c.args.first fits time b.time (small_first w r c.args.first b.range b.rest) b.range (whole_late s r c.args.first b late) b.rest in
-    let key = key_is (at w.key r) c.value-key.result key_fits (c.value-key.ensures ∙ ap (λ (x : WindowSpec). at x.key r) same) in
+    let found = slice_found s r c.args.first (bring c) v c.value-time.result same fits c.value-time.ensures c.value-key.result key_fits c.value-key.ensures late in
     record {
       places = refl;
       from = refl;
       kinds = subst (λ (x : WindowSpec). AreInSpans x c.add_in_span.new.spans.entries) same c.in_ok-add_in_span.ensures.kinds;
-      added = adds_one w v r _ _ s.spans.entries c.add_in_span.new.spans.entries (bring c).range.slides same start key c.in_ok-add_in_span.ensures.added;
+      added = adds_one w v r _ _ s.spans.entries c.add_in_span.new.spans.entries (bring c).range.slides same found.start found.key c.in_ok-add_in_span.ensures.added;
       still = c.in_ok-open_new.ensures.still;
       opened = opens_new w v (at w.time r) _ (at w.key r) _ s.from _ (has_open c.open_new.new.opened.entries) (slices_beside w s.spans.entries (at w.time r)) c.slices_in-slices.result.now same
-          (to_z-of_z w64 c.value-time.result fits ∙ time) key (to_z-of_z w128 s.from from) (beside w v (at w.time r) _ _ _ _ s.spans.entries same start (to_z-of_z w128 c.span_of.result span_fits ∙ c.span_of.ensures) c.slices_in-slices.ensures) c.in_ok-open_new.ensures.opened;
+          (to_z-of_z w64 c.value-time.result fits ∙ time) found.key (to_z-of_z w128 s.from from)
+          (beside w v (at w.time r) _ _ _ _ s.spans.entries same found.start (to_z-of_z w128 c.span_of.result span_fits ∙ c.span_of.ensures) c.slices_in-slices.ensures) c.in_ok-open_new.ensures.opened;
     }
 
 pub invariant_of-self-2 : goal.invariant_of-self-2
@@ -103,4 +92,4 @@ invariant_of-self-2 c = inside_more c.self.inside (after c) _ c.args.first (brin
 pub returns-clause-added : goal.returns-clause-added
 returns-clause-added c =
     let r : Record = get_or c.args.batch.now.rows c.args.row [] in
-    subst (λ (v : OpenWindows). Added v (windows_view (after c)) r) c.self.view_is (added_view c.self.inside (after c) r c.args.first (bring c) (adds c))
+    subst (λ (v : OpenWindows). TakesInLater r v (windows_view (after c))) c.self.view_is (added_view c.self.inside (after c) r c.args.first (bring c) (adds c))
