@@ -14,7 +14,7 @@ ghost use Rattle.core_steps.specs.Ending.{IsEndOf, IsWholeRun};
 
 use crate::given::Given;
 use crate::sealing::{Sealed, sealed_of};
-use leg_tasks::save;
+use leg_tasks::{parts_left, save_parts};
 use legs::Until;
 use plain_data::Items;
 use plan_model::Row;
@@ -87,6 +87,9 @@ pub fn finish_of(
         let sealed = sealed_of(alloc, given, until, tasks.as_slice())?;
         return Ok(Finish::Ended(sink_rows(tasks), sealed));
     }
-    let savepoint = save(alloc, plan, layout, tasks.as_slice(), Moment::Now, number)?;
-    Ok(Finish::Stopped(sink_rows(tasks), savepoint))
+    let parts = parts_left(alloc, plan, layout, tasks.as_slice(), Moment::Now)?;
+    // The tasks go before the savepoint is put together, so that their windows do not stand beside it.
+    let rows = sink_rows(tasks);
+    let savepoint = save_parts(alloc, plan, layout, parts, number)?;
+    Ok(Finish::Stopped(rows, savepoint))
 }

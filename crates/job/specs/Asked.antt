@@ -13,7 +13,8 @@ use Rattle.job.specs.Ends.{Ends, Does, OnThreads}
 use Rattle.job.specs.declared.leg.Aims.{Aims as ThreadAims}
 use Rattle.job.specs.Leg.{LegAims, LegJob, LegLeft, LegRuns, LegWords, IsLegEnd, IsLegDone, words}
 
--- the words that say where a leg takes savepoints and stops, and whether it may be asked to stop; then it takes none on its way
+-- the words that say where a leg takes savepoints and stops, and whether it may be asked to stop; then it takes none on
+-- its way
 abbrev pub words_of : LegStop → LegWords
 words_of (Spelled saves stop) = words (option_map (λ w. w.now) saves) (option_map (λ w. w.now) stop)
 words_of (Asked word) = words None None
@@ -58,6 +59,8 @@ IsEndSo asked job end = EndsSo asked (λ leg. IsLegEnd leg end) job
 abbrev pub EndsLeg : Bool → Result LegJob JobFault → Result LegEnd JobFault → Type 0
 EndsLeg asked said result = Ends OnThreads LegRuns (IsEndSo asked) said result
 
--- where the answer is Ok, all is done that a leg does that goes to the end of the input, or all that one does that is to stop at some cut at which it can; else the refusal is the first that the texts give, or one of the job that they say
+-- where the answer is Ok, all is done that a leg does that goes to the end of the input, or all that one does that is
+-- to stop at some cut at which it can; else the refusal is the first that the texts give, or one of the job that they
+-- say
 abbrev pub TellsAskedLeg : {X : Type 0} → (X → LegLeft) → Result LegJob JobFault → Result X JobFault → Option (List ℕ) → Option (List ℕ) → Type 0
 TellsAskedLeg view said result old new = Does OnThreads LegRuns (λ job left. EndsSo true (λ leg. IsLegDone old new leg (view left)) job) said result

@@ -26,7 +26,8 @@ cut_line counts = cut_text counts ++ 10 ∷ []
 abbrev pub until_said : InputData → List ℕ → Result (List ℕ) JobFault
 until_said i word = option_map_or (λ time. Ok (cut_line (first_cut (watermark_before time) i.sources))) (time_said word) (Err Number)
 
--- how far each partition goes; the first cut at which every window that ends by a time is due; or the last cut that leaves an entry of each partition
+-- how far each partition goes; the first cut at which every window that ends by a time is due; or the last cut that
+-- leaves an entry of each partition
 unfoldable pub cuts_of : PlanData → InputData → CutQuestion → Result (List ℕ) JobFault
 cuts_of p i Extents = Ok (extents_text p.sources (map (map (extent_of i.time)) i.sources))
 cuts_of p i (Until word) = until_said i word.now
@@ -36,7 +37,8 @@ cuts_of p i Open = Ok (cut_line (open_cut i.sources))
 unfoldable pub cuts_by : PlanData → List ℕ → CutQuestion → Result (List ℕ) JobFault
 cuts_by p input question = and_then (λ i. cuts_of p i question) (as_job Input (input_of_bytes p input))
 
--- of the plan and the input that the bytes are, or the first refusal: the plan's, else the input's, else that a word is no time
+-- of the plan and the input that the bytes are, or the first refusal: the plan's, else the input's, else that a word is
+-- no time
 unfoldable pub cuts_said : List ℕ → List ℕ → CutQuestion → Result (List ℕ) JobFault
 cuts_said plan input question = and_then (λ p. cuts_by p input question) (as_job Plan (plan_of_bytes plan))
 

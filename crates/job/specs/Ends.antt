@@ -28,7 +28,9 @@ OnThreads fault = fault ≡ Leg Threads
 abbrev pub IsHalted : {J : Type 0} → (JobFault → Type 0) → (J → Option LegFault → Type 0) → J → JobFault → Type 0
 IsHalted Other Runs job fault = ((why : LegFault) × (fault ≡ Leg why) × Runs job (Some why)) ⊎ Other fault
 
--- where the answer is Ok, it is of the job that texts say, whose legs can run so; else the refusal is the first that the texts give, or that of a job that does not run. Runs says of a job that it can run so, and with a fault that it cannot, and that this is why
+-- where the answer is Ok, it is of the job that texts say, whose legs can run so; else the refusal is the first that
+-- the texts give, or that of a job that does not run. Runs says of a job that it can run so, and with a fault that it
+-- cannot, and that this is why
 abbrev pub Ends : {J X : Type 0} → (JobFault → Type 0) → (J → Option LegFault → Type 0) → (J → X → Type 0) → Result J JobFault → Result X JobFault → Type 0
 Ends {J} Other Runs Is said (Ok x) = (job : J) × (said ≡ Ok job) × Runs job None × Is job x
 Ends {J} Other Runs Is said (Err fault) = unless (is_memory fault) ((said ≡ Err fault) ⊎ ((job : J) × (said ≡ Ok job) × IsHalted Other Runs job fault))
@@ -42,7 +44,8 @@ always job (Some fault) = ⊥
 abbrev pub IsLate : {J : Type 0} → (JobFault → Type 0) → (J → Option LegFault → Type 0) → J → JobFault → Type 0
 IsLate Other Runs job fault = IsHalted Other Runs job fault ⊎ ((fault ≡ Write) × Runs job None)
 
--- where the answer is Ok, the job is done; else the refusal is the first that the texts give, or one of the job that they say
+-- where the answer is Ok, the job is done; else the refusal is the first that the texts give, or one of the job that
+-- they say
 abbrev pub Does : {J X : Type 0} → (JobFault → Type 0) → (J → Option LegFault → Type 0) → (J → X → Type 0) → Result J JobFault → Result X JobFault → Type 0
 Does {J} Other Runs Done said (Ok x) = (job : J) × (said ≡ Ok job) × Runs job None × Done job x
 Does {J} Other Runs Done said (Err fault) = unless (is_memory fault) ((said ≡ Err fault) ⊎ ((job : J) × (said ≡ Ok job) × IsLate Other Runs job fault))

@@ -15,7 +15,8 @@ use Rattle.job.specs.Ends.{and_then, as_job}
 unfoldable pub layout_by : PlanData → List ℕ → Result (List ℕ) JobFault
 layout_by p scale = and_then (λ s. Ok (layout_text p (layout_of p s))) (as_job Scale (scale_of_bytes p scale))
 
--- the text of the layout that the rules give of the plan and the scale that the bytes are, or the first refusal: the plan's, else the scale's
+-- the text of the layout that the rules give of the plan and the scale that the bytes are, or the first refusal: the
+-- plan's, else the scale's
 unfoldable pub layout_said : List ℕ → List ℕ → Result (List ℕ) JobFault
 layout_said plan scale = and_then (λ p. layout_by p scale) (as_job Plan (plan_of_bytes plan))
 

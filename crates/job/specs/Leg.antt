@@ -116,7 +116,8 @@ IsTextTo job cut text = HasSnapshot job.plan job.input job.start → IsTextOf (d
 abbrev pub leg_end : LegJob → List (List ℕ)
 leg_end job = cut_to job.input (until_of job.stop)
 
--- a savepoint that the leg leaves at a cut, after so many others: where it starts with the snapshot of its cut, that of the cut, numbered so
+-- a savepoint that the leg leaves at a cut, after so many others: where it starts with the snapshot of its cut, that of
+-- the cut, numbered so
 pub record IsLegSavepoint (job : LegJob) (cut : List (List ℕ)) (others : ℕ) (s : Contents) : Type 0 where
   pub sound : IsSavepoint s
   pub saved : HasSnapshot job.plan job.input job.start → IsSavedAt job.plan job.input cut (job.start.number + suc others) s
@@ -126,7 +127,8 @@ abbrev pub IsLeft : LegJob → List (List ℕ) → ℕ → Option Contents → T
 IsLeft job cut others None = ⊥
 IsLeft job cut others (Some s) = IsLegSavepoint job cut others s
 
--- at the end of the input the leg leaves the last savepoint of those at these cuts on its way, of which so many stand before them
+-- at the end of the input the leg leaves the last savepoint of those at these cuts on its way, of which so many stand
+-- before them
 abbrev pub IsLastOf : LegJob → ℕ → List Cut → Option Contents → Type 0
 IsLastOf job others [] saved = saved ≡ None
 IsLastOf job others (cut ∷ []) saved = IsLeft job cut.counts others saved
@@ -137,7 +139,8 @@ abbrev pub IsSavedBy : LegJob → Stop → Option Contents → Type 0
 IsSavedBy job Never saved = IsLastOf job 0 job.saves saved
 IsSavedBy job (At cut) saved = IsLeft job cut.counts (length job.saves) saved
 
--- a leg gives rows and a savepoint: of where it comes to, or where it was given up, those of one of its savepoints on the way
+-- a leg gives rows and a savepoint: of where it comes to, or where it was given up, those of one of its savepoints on
+-- the way
 abbrev pub AreLegRows : Bool → LegJob → List Row → Option Contents → Type 0
 AreLegRows false job rows saved = AreRowsTo job (leg_end job) rows × IsSavedBy job job.stop saved
 AreLegRows true job rows saved = (passed : ℕ) × (passed < length job.saves) × AreRowsTo job (slice_index_or (counts_of job.saves) passed []) rows × IsLeft job (slice_index_or (counts_of job.saves) passed []) passed saved
@@ -187,6 +190,7 @@ left_in out = record { savepoint = option_map (λ bytes. bytes.items) out.savepo
 abbrev pub IsLegDone : Option (List ℕ) → Option (List ℕ) → LegJob → LegLeft → Type 0
 IsLegDone old new job left = (text : List ℕ) × IsLegTold left.abandoned job text left.savepoint × Appends old new text
 
--- where the answer is Ok, the leg is done; else the refusal is the first that the texts give, or one of the job that they say
+-- where the answer is Ok, the leg is done; else the refusal is the first that the texts give, or one of the job that
+-- they say
 abbrev pub TellsLeg : {X : Type 0} → (X → LegLeft) → Result LegJob JobFault → Result X JobFault → Option (List ℕ) → Option (List ℕ) → Type 0
 TellsLeg view said result old new = Does OnThreads LegRuns (λ job left. IsLegDone old new job (view left)) said result

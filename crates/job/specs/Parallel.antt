@@ -13,7 +13,8 @@ use Rattle.job_texts.specs.declared.fault.JobFault.TheVariants.{Plan, Input, Sca
 use Rattle.job.specs.Ends.{and_then, as_job}
 use Rattle.job.specs.Run.{RunJob, run_job}
 
--- the scale that a word of 1 to 5 digits asks for, or why it asks for none: it is no such word, or there is no such scale
+-- the scale that a word of 1 to 5 digits asks for, or why it asks for none: it is no such word, or there is no such
+-- scale
 unfoldable pub scale_said : PlanData → List ℕ → Result ScaleData JobFault
 scale_said p word = option_map_or (λ n. as_job Scale (scale_at p n)) (number_said 5 0 99999 word) (Err Number)
 

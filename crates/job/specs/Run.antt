@@ -47,7 +47,8 @@ run_with p i (Some bytes) choices = legs_in p i bytes choices
 unfoldable pub run_by : PlanData → List ℕ → Option (List ℕ) → Option (List ℕ) → Result RunJob JobFault
 run_by p input legs choices = and_then (λ i. run_with p i legs choices) (as_job Input (input_of_bytes p input))
 
--- what the texts say, or the first refusal: the plan's, else the input's, else that of the list of legs, else that of the choices
+-- what the texts say, or the first refusal: the plan's, else the input's, else that of the list of legs, else that of
+-- the choices
 unfoldable pub run_said : List ℕ → List ℕ → Option (List ℕ) → Option (List ℕ) → Result RunJob JobFault
 run_said plan input legs choices = and_then (λ p. run_by p input legs choices) (as_job Plan (plan_of_bytes plan))
 
@@ -84,7 +85,8 @@ WritesRows old new job = (text : List ℕ) × IsRunText job text × Appends old 
 abbrev pub Answers : (JobFault → Type 0) → Result RunJob JobFault → Result (Unit {0}) JobFault → Option (List ℕ) → Option (List ℕ) → Type 0
 Answers Other said result old new = Does Other RunRuns (λ job _. WritesRows old new job) said result
 
--- bytes are a plan and an input of it, and what a writer held has grown by exactly the lines of the plan's rows on the input, one for each key and nonempty window that its conditions keep, in the order of start and key
+-- bytes are a plan and an input of it, and what a writer held has grown by exactly the lines of the plan's rows on the
+-- input, one for each key and nonempty window that its conditions keep, in the order of start and key
 pub record WritesPlanRows (plan input : List ℕ) (old new : Option (List ℕ)) : Type 0 where
   pub read_plan : PlanData
   pub read_input : InputData

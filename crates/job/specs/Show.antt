@@ -22,8 +22,8 @@ show_said bytes = and_then (λ s. Ok (savepoint_text s)) (as_job Save (savepoint
 abbrev pub TellsSavepoint : Result (List ℕ) JobFault → Result (Unit {0}) JobFault → Option (List ℕ) → Option (List ℕ) → Type 0
 TellsSavepoint said result old new = Tells (λ text. Appends old new text) said result
 
--- of bytes that spell a savepoint with an index, the lines of a key group; of bytes that do not begin as such, why: also where
--- they spell one without an index. Of other bytes nothing is said but that no word is refused
+-- of bytes that spell a savepoint with an index, the lines of a key group; of bytes that do not begin as such, why:
+-- also where they spell one without an index. Of other bytes nothing is said but that no word is refused
 pub record OfGroup {T : Type 0} (answers : Result (List ℕ) JobFault → Result T JobFault → Type 0) (group : ℕ) (bytes : List ℕ) (result : Result T JobFault) : Type 0 where
   pub entries : (s : Contents) → IsSavepoint s → bytes ≡ savepoint_bytes s → answers (Ok (group_text group s)) result
   pub marked : (fault : FieldFault) → (mark (codes "WSP2")).read bytes ≡ Err fault → result ≡ Err (Save (saves.save_fault fault))

@@ -108,13 +108,13 @@ fn text_of_texts(
     text_by_plan(alloc, &plan, input, question)
 }
 
-/// Writes how far each partition of an input goes, or the word of a cut of it: the first at which every window that ends by a time is
-/// due, or the last that leaves an entry of each partition to be read.
+/// Writes how far each partition of an input goes, or the word of a cut of it: the first at which every window that
+/// ends by a time is due, or the last that leaves an entry of each partition to be read.
 ///
 /// # Errors
 ///
-/// The plan's fault, else the input's; `Number` where the word of a time spells none; `Write` where the writer refuses the text;
-/// `Memory`.
+/// The plan's fault, else the input's; `Number` where the word of a time spells none; `Write` where the writer refuses
+/// the text; `Memory`.
 pub fn job_cuts<W: Write>(
     alloc: Global,
     plan: &[u8],

@@ -58,10 +58,25 @@ pub fn start_of(
     Ok(check(alloc, plan, input, &savepoint)?)
 }
 
+/// The same, and the bytes are let go: they may take as much memory as the windows that they fill.
+fn start_from(
+    alloc: Global,
+    plan: &Plan,
+    input: &Input,
+    from: Option<Vec<u8>>,
+) -> Result<Start, JobFault>
+    requires { BelongsTo plan.now input.now }
+    ensures reads { Gives is_memory (λ start. start) result (start_said plan.now input.now (option_map (λ bytes. bytes.items) from)) }
+    ensures in_input { IfOk result (λ start. IsStartIn plan.now input.now start) }
+{
+    start_of(alloc, plan, input, from.as_deref())
+}
+
 /// Where a leg is to take savepoints on its way, and to stop.
 #[derive(Drop)]
 enum LegStop<'a> {
-    /// Savepoints at the cuts that the first word spells, or none, and a stop at the cut that the second spells, or never.
+    /// Savepoints at the cuts that the first word spells, or none, and a stop at the cut that the second spells, or
+    /// never.
     Spelled(Option<&'a str>, Option<&'a str>),
     /// No savepoint on the way, and a stop where it has come once this word is set.
     Asked(Arc<AtomicBool>),
@@ -117,7 +132,8 @@ fn aims_of(alloc: Global, stop: LegStop<'_>) -> Result<Aims, JobFault>
     }
 }
 
-/// The rows that a leg delivers, in the order in which they came, the savepoint that it leaves, and whether it was given up.
+/// The rows that a leg delivers, in the order in which they came, the savepoint that it leaves, and whether it was
+/// given up.
 #[derive(Drop)]
 struct LegRows {
     rows: Vec<Row>,
@@ -188,10 +204,11 @@ fn leg_rows<R: Threads + Wait + Clock + Sync, G: Gate>(
 /// What a leg leaves besides its rows.
 #[derive(Drop)]
 pub struct LegOut {
-    /// The bytes of its savepoint: that of the cut where it stops; where it does not stop or was given up, the last of those on its
-    /// way that it has taken, if it has taken one.
+    /// The bytes of its savepoint: that of the cut where it stops; where it does not stop or was given up, the last of
+    /// those on its way that it has taken, if it has taken one.
     pub savepoint: Option<Vec<u8>>,
-    /// Whether it was given up for want of memory. Its rows are then those up to the savepoint's cut, and a leg from there goes on.
+    /// Whether it was given up for want of memory. Its rows are then those up to the savepoint's cut, and a leg from
+    /// there goes on.
     pub abandoned: bool,
 }
 
@@ -239,15 +256,15 @@ fn leg_at_scale<R: Threads + Wait + Clock + Sync, G: Gate>(
     plan: &Plan,
     input: &Input,
     scale: &Scale,
-    from: Option<&[u8]>,
+    from: Option<Vec<u8>>,
     stop: LegStop<'_>,
     gate: &G,
 ) -> Result<LegEnd, JobFault>
     requires belongs { BelongsTo plan.now input.now }
     requires scale { IsScale plan.now scale.now }
-    ensures { EndsLeg (is_asked stop.entry) (job_with plan.now input.now (option_map (λ bytes. bytes.now) from.entry) (words_of stop.entry)) result }
+    ensures { EndsLeg (is_asked stop.entry) (job_with plan.now input.now (option_map (λ bytes. bytes.items) from) (words_of stop.entry)) result }
 {
-    let start = start_of(alloc, plan, input, from)?;
+    let start = start_from(alloc, plan, input, from)?;
     let aims = aims_of(alloc, stop)?;
     leg_end(rt, alloc, keys, plan, input, scale, &start, aims, gate)
 }
@@ -260,12 +277,12 @@ fn leg_on_input<R: Threads + Wait + Clock + Sync, G: Gate>(
     plan: &Plan,
     input: &Input,
     scale: &[u8],
-    from: Option<&[u8]>,
+    from: Option<Vec<u8>>,
     stop: LegStop<'_>,
     gate: &G,
 ) -> Result<LegEnd, JobFault>
     requires { BelongsTo plan.now input.now }
-    ensures { EndsLeg (is_asked stop.entry) (leg_on plan.now input.now scale.now (option_map (λ bytes. bytes.now) from.entry) (words_of stop.entry)) result }
+    ensures { EndsLeg (is_asked stop.entry) (leg_on plan.now input.now scale.now (option_map (λ bytes. bytes.items) from) (words_of stop.entry)) result }
 {
     let scale = Scale::read(alloc, plan, scale)?;
     leg_at_scale(rt, alloc, keys, plan, input, &scale, from, stop, gate)
@@ -279,11 +296,11 @@ fn leg_of_plan<R: Threads + Wait + Clock + Sync, G: Gate>(
     plan: &Plan,
     input: Vec<u8>,
     scale: &[u8],
-    from: Option<&[u8]>,
+    from: Option<Vec<u8>>,
     stop: LegStop<'_>,
     gate: &G,
 ) -> Result<LegEnd, JobFault>
-    ensures { EndsLeg (is_asked stop.entry) (leg_by plan.now input.items scale.now (option_map (λ bytes. bytes.now) from.entry) (words_of stop.entry)) result }
+    ensures { EndsLeg (is_asked stop.entry) (leg_by plan.now input.items scale.now (option_map (λ bytes. bytes.items) from) (words_of stop.entry)) result }
 {
     let input = read_input(alloc, plan, input)?;
     leg_on_input(rt, alloc, keys, plan, &input, scale, from, stop, gate)
@@ -297,28 +314,29 @@ fn leg_of_texts<R: Threads + Wait + Clock + Sync, G: Gate>(
     plan: &[u8],
     input: Vec<u8>,
     scale: &[u8],
-    from: Option<&[u8]>,
+    from: Option<Vec<u8>>,
     stop: LegStop<'_>,
     gate: &G,
 ) -> Result<LegEnd, JobFault>
-    ensures { EndsLeg (is_asked stop.entry) (leg_said plan.now input.items scale.now (option_map (λ bytes. bytes.now) from.entry) (words_of stop.entry)) result }
+    ensures { EndsLeg (is_asked stop.entry) (leg_said plan.now input.items scale.now (option_map (λ bytes. bytes.items) from) (words_of stop.entry)) result }
 {
     let plan = Plan::read(alloc, plan)?;
     leg_of_plan(rt, alloc, keys, &plan, input, scale, from, stop, gate)
 }
 
-/// Runs one leg of a job at a scale, from nothing or from the savepoint that `from` has the bytes of, to the end of the input
-/// or to the cut that the word `stop` spells, and writes the text of its rows: those that become due on the way, one line
-/// each, in the order of start and key. On its way it takes savepoints at the cuts that the word `saves` spells, with a `+` between
-/// them, and goes on. Where memory runs out behind one of them that is complete, the leg is given up: it writes the rows up to that
-/// one's cut, and leaves that savepoint. Each of its tasks runs in a thread of its own, and passes the gate before each of its
-/// steps.
+/// Runs one leg of a job at a scale, from nothing or from the savepoint that `from` has the bytes of, to the end of the
+/// input or to the cut that the word `stop` spells, and writes the text of its rows: those that become due on the way,
+/// one line each, in the order of start and key. On its way it takes savepoints at the cuts that the word `saves`
+/// spells, with a `+` between them, and goes on. Where memory runs out behind one of them that is complete, the leg is
+/// given up: it writes the rows up to that one's cut, and leaves that savepoint. Each of its tasks runs in a thread of
+/// its own, and passes the gate before each of its steps.
 ///
 /// # Errors
 ///
-/// The plan's fault, else the input's, the scale's, the savepoint's, `Restore` where the job cannot go on from it, `Cut`;
-/// then `Leg` with `StopRange` where a leg from there cannot stop so, else with `SaveRange` where it cannot take its savepoints on
-/// the way there, or with `Threads` where a thread was refused; `Write` where the writer refuses the text; `Memory`.
+/// The plan's fault, else the input's, the scale's, the savepoint's, `Restore` where the job cannot go on from it,
+/// `Cut`; then `Leg` with `StopRange` where a leg from there cannot stop so, else with `SaveRange` where it cannot take
+/// its savepoints on the way there, or with `Threads` where a thread was refused; `Write` where the writer refuses the
+/// text; `Memory`.
 pub fn job_leg<R: Threads + Wait + Clock + Sync, G: Gate, W: Write>(
     rt: &R,
     alloc: Global,
@@ -326,13 +344,13 @@ pub fn job_leg<R: Threads + Wait + Clock + Sync, G: Gate, W: Write>(
     plan: &[u8],
     input: Vec<u8>,
     scale: &[u8],
-    from: Option<&[u8]>,
+    from: Option<Vec<u8>>,
     saves: Option<&str>,
     stop: Option<&str>,
     gate: &G,
     out: &mut W,
 ) -> Result<LegOut, JobFault>
-    ensures answers { TellsLeg left_in (leg_said plan.now input.items scale.now (option_map (λ bytes. bytes.now) from.entry) (words (option_map (λ word. word.now) saves.entry) (option_map (λ word. word.now) stop.entry))) result (W.contents out.old) (W.contents out.new) }
+    ensures answers { TellsLeg left_in (leg_said plan.now input.items scale.now (option_map (λ bytes. bytes.items) from) (words (option_map (λ word. word.now) saves.entry) (option_map (λ word. word.now) stop.entry))) result (W.contents out.old) (W.contents out.new) }
     ensures kept { KeepsWriter result (W.contents out.old) (W.contents out.new) }
 {
     let stop = LegStop::Spelled(saves, stop);
@@ -341,15 +359,15 @@ pub fn job_leg<R: Threads + Wait + Clock + Sync, G: Gate, W: Write>(
     Ok(end.out)
 }
 
-/// Runs one leg of a job as [`job_leg`] does, but to the end of the input or, once the word `asked` is set, to where it has come then.
-/// It takes no savepoint on its way. Where it stops it gives the bytes of the savepoint that it leaves there: at a cut of the input that no one knows before, and it has
-/// written the text of just those rows that a leg writes that is to stop at that cut. A word that is set before stops the leg where
-/// it begins.
+/// Runs one leg of a job as [`job_leg`] does, but to the end of the input or, once the word `asked` is set, to where it
+/// has come then. It takes no savepoint on its way. Where it stops it gives the bytes of the savepoint that it leaves
+/// there: at a cut of the input that no one knows before, and it has written the text of just those rows that a leg
+/// writes that is to stop at that cut. A word that is set before stops the leg where it begins.
 ///
 /// # Errors
 ///
-/// The plan's fault, else the input's, the scale's, the savepoint's, `Restore` where the job cannot go on from it; then `Leg` with
-/// `Threads` where a thread was refused; `Write` where the writer refuses the text; `Memory`.
+/// The plan's fault, else the input's, the scale's, the savepoint's, `Restore` where the job cannot go on from it; then
+/// `Leg` with `Threads` where a thread was refused; `Write` where the writer refuses the text; `Memory`.
 pub fn job_leg_asked<R: Threads + Wait + Clock + Sync, G: Gate, W: Write>(
     rt: &R,
     alloc: Global,
@@ -357,12 +375,12 @@ pub fn job_leg_asked<R: Threads + Wait + Clock + Sync, G: Gate, W: Write>(
     plan: &[u8],
     input: Vec<u8>,
     scale: &[u8],
-    from: Option<&[u8]>,
+    from: Option<Vec<u8>>,
     asked: Arc<AtomicBool>,
     gate: &G,
     out: &mut W,
 ) -> Result<LegOut, JobFault>
-    ensures answers { TellsAskedLeg left_in (leg_said plan.now input.items scale.now (option_map (λ bytes. bytes.now) from.entry) (words None None)) result (W.contents out.old) (W.contents out.new) }
+    ensures answers { TellsAskedLeg left_in (leg_said plan.now input.items scale.now (option_map (λ bytes. bytes.items) from) (words None None)) result (W.contents out.old) (W.contents out.new) }
     ensures kept { KeepsWriter result (W.contents out.old) (W.contents out.new) }
 {
     let stop = LegStop::Asked(asked);

@@ -86,15 +86,16 @@ fn parallel_of_texts<R: Threads + Wait + Clock + Sync, G: Gate>(
     parallel_of_plan(rt, alloc, keys, &plan, input, parallelism, gate)
 }
 
-/// Runs a plan on a bounded input in as many subtasks as a word spells, and writes the text of the rows that `job_run` writes
-/// without a list of legs: the window has so many, each source too, but no more than partitions, and each filter as many as the
-/// source with the most. Each task runs in a thread of its own, and passes the gate before each of its steps.
+/// Runs a plan on a bounded input in as many subtasks as a word spells, and writes the text of the rows that `job_run`
+/// writes without a list of legs: the window has so many, each source too, but no more than partitions, and each filter
+/// as many as the source with the most. Each task runs in a thread of its own, and passes the gate before each of its
+/// steps.
 ///
 /// # Errors
 ///
-/// The plan's fault, else the input's, else `Number` where the word is not 1 to 5 digits, or `Scale` with `Parallelism` where it
-/// is 0, over 64 or over the plan's key groups, and with `Tasks` where there were more than 256 tasks; then `Leg` with `Threads`
-/// where a thread was refused; `Write` where the writer refuses the text; `Memory`.
+/// The plan's fault, else the input's, else `Number` where the word is not 1 to 5 digits, or `Scale` with `Parallelism`
+/// where it is 0, over 64 or over the plan's key groups, and with `Tasks` where there were more than 256 tasks; then
+/// `Leg` with `Threads` where a thread was refused; `Write` where the writer refuses the text; `Memory`.
 pub fn job_run_parallel<R: Threads + Wait + Clock + Sync, G: Gate, W: Write>(
     rt: &R,
     alloc: Global,

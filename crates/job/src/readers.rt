@@ -73,8 +73,8 @@ fn add_piece<R: Read>(
     }
 }
 
-/// All bytes of a reader, of which it takes one more than [`MOST_BYTES`] at most. The memory that they take is at most twice as
-/// much, beside a small piece.
+/// All bytes of a reader, of which it takes one more than [`MOST_BYTES`] at most. The memory that they take is at most
+/// twice as much, beside a small piece.
 ///
 /// # Errors
 ///

@@ -131,16 +131,16 @@ fn run_of_texts<R: Threads + Wait + Clock + Sync, G: Gate>(
     run_of_plan(rt, alloc, keys, &plan, input, legs, gate)
 }
 
-/// Runs a plan on a bounded input, in legs where a list of them is given, each from what the one before left, and writes the
-/// text of the rows: one line for each key and nonempty window that the having conditions keep, in the order of start and key.
-/// Where the last leg stops at a cut, these are the rows that are due there. Each task of a leg runs in a thread of its own, and
-/// passes the gate before each of its steps.
+/// Runs a plan on a bounded input, in legs where a list of them is given, each from what the one before left, and
+/// writes the text of the rows: one line for each key and nonempty window that the having conditions keep, in the order
+/// of start and key. Where the last leg stops at a cut, these are the rows that are due there. Each task of a leg runs
+/// in a thread of its own, and passes the gate before each of its steps.
 ///
 /// # Errors
 ///
-/// The plan's fault, else the input's, else that of the list of legs; then `Leg` with `StopRange` where a leg cannot stop as it
-/// is to, from where the one before stopped, or with `Threads` where a thread was refused; `Write` where the writer refuses the
-/// text; `Memory`.
+/// The plan's fault, else the input's, else that of the list of legs; then `Leg` with `StopRange` where a leg cannot
+/// stop as it is to, from where the one before stopped, or with `Threads` where a thread was refused; `Write` where the
+/// writer refuses the text; `Memory`.
 pub fn job_run<R: Threads + Wait + Clock + Sync, G: Gate, W: Write>(
     rt: &R,
     alloc: Global,

@@ -105,14 +105,15 @@ fn simulated_of_texts(
     simulated_of_plan(alloc, keys, &plan, input, legs, choices)
 }
 
-/// Runs a plan on a bounded input in the legs of a list, as `job_run` does, by an order of steps that choices pick: a list of
-/// them for each leg. Whatever they are, the text that it writes is the same. It needs no thread besides the one that it is in.
+/// Runs a plan on a bounded input in the legs of a list, as `job_run` does, by an order of steps that choices pick: a
+/// list of them for each leg. Whatever they are, the text that it writes is the same. It needs no thread besides the
+/// one that it is in.
 ///
 /// # Errors
 ///
-/// The plan's fault, else the input's, else that of the list of legs, else `Leg` with `Choices` where the choices are no list for
-/// each leg; then `Leg` with `StopRange` where a leg cannot stop as it is to, from where the one before stopped; `Write` where
-/// the writer refuses the text; `Memory`.
+/// The plan's fault, else the input's, else that of the list of legs, else `Leg` with `Choices` where the choices are
+/// no list for each leg; then `Leg` with `StopRange` where a leg cannot stop as it is to, from where the one before
+/// stopped; `Write` where the writer refuses the text; `Memory`.
 pub fn job_simulate<W: Write>(
     alloc: Global,
     keys: HashKeys,

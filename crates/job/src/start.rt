@@ -36,13 +36,13 @@ fn check_stop(input: &Input, start: &Start, stop: &Stop) -> Result<(), JobFault>
     Ok(start.check_stop(input, stop)?)
 }
 
-/// Whether a leg of a job can begin, from nothing or at the savepoint that `from` has the bytes of, and go to the end of the input
-/// or to the cut that the word `stop` spells. Nothing is run.
+/// Whether a leg of a job can begin, from nothing or at the savepoint that `from` has the bytes of, and go to the end
+/// of the input or to the cut that the word `stop` spells. Nothing is run.
 ///
 /// # Errors
 ///
-/// What `job_leg` answers at any scale of the plan before its first step: the savepoint's fault, `Restore` where the job cannot go
-/// on from it, `Cut`; then `Leg` with `StopRange` where a leg from there cannot stop so; `Memory`.
+/// What `job_leg` answers at any scale of the plan before its first step: the savepoint's fault, `Restore` where the
+/// job cannot go on from it, `Cut`; then `Leg` with `StopRange` where a leg from there cannot stop so; `Memory`.
 pub fn job_start(
     alloc: Global,
     plan: &Plan,

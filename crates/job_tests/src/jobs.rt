@@ -52,12 +52,12 @@ pub fn rows_of_run<G: Gate>(
     Ok(out)
 }
 
-/// What a leg of the job writes at a scale, from the bytes of a savepoint where there are some, and the savepoint that it leaves
-/// where it is to stop.
+/// What a leg of the job writes at a scale, from the bytes of a savepoint where there are some, and the savepoint that
+/// it leaves where it is to stop.
 pub fn rows_of_leg<G: Gate>(
     rt: &(impl AllocGlobal + RandomSource + Threads + Wait + Clock + Sync),
     scale: &str,
-    from: Option<&[u8]>,
+    from: Option<Vec<u8>>,
     stop: Option<&str>,
     gate: &G,
 ) -> Result<(Vec<u8>, Option<Vec<u8>>), Fail> {

@@ -32,7 +32,7 @@ fn halfway<R: AllocGlobal + Abort + RandomSource + Threads + Wait + Clock + Sync
 #[test]
 fn a_leg_goes_on_from_a_savepoint_without_an_index(rt: HostRuntime) -> Result<(), Fail> {
     let (rows, _, unindexed) = halfway(&rt)?;
-    let (later, _) = rows_of_leg(&rt, SCALE_OF_TWO, Some(&unindexed), None, &OpenGate)?;
+    let (later, _) = rows_of_leg(&rt, SCALE_OF_TWO, Some(unindexed), None, &OpenGate)?;
     let mut all = Vec::from_slice(rt.alloc(), &rows)?;
     all.extend_from_slice(&later)?;
     assert_eq!(rt; all.as_slice(), ROWS.as_bytes());
@@ -42,8 +42,8 @@ fn a_leg_goes_on_from_a_savepoint_without_an_index(rt: HostRuntime) -> Result<()
 #[test]
 fn legs_from_both_layouts_come_to_the_same(rt: HostRuntime) -> Result<(), Fail> {
     let (_, indexed, unindexed) = halfway(&rt)?;
-    let (rows, saved) = rows_of_leg(&rt, SCALE_OF_TWO, Some(&indexed), Some("3,3"), &OpenGate)?;
-    let (same, left) = rows_of_leg(&rt, SCALE_OF_TWO, Some(&unindexed), Some("3,3"), &OpenGate)?;
+    let (rows, saved) = rows_of_leg(&rt, SCALE_OF_TWO, Some(indexed), Some("3,3"), &OpenGate)?;
+    let (same, left) = rows_of_leg(&rt, SCALE_OF_TWO, Some(unindexed), Some("3,3"), &OpenGate)?;
     assert_eq!(rt; rows.as_slice(), same.as_slice());
     assert!(rt; saved.is_some());
     assert!(rt; saved == left);

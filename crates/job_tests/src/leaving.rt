@@ -126,7 +126,7 @@ fn a_world_that_is_left_goes_on_from_what_it_has_sealed(rt: HostRuntime) -> Resu
     let (stopped, saved) = rows_of_leg(&rt, SCALE, None, Some("2,2"), &OpenGate)?;
     assert_eq!(rt; rows.as_bytes(), stopped.as_slice());
     assert_eq!(rt; saved.as_ref(), Some(&bytes));
-    let (later, _) = rows_of_leg(&rt, SCALE_OF_TWO, Some(&bytes), None, &OpenGate)?;
+    let (later, _) = rows_of_leg(&rt, SCALE_OF_TWO, Some(bytes), None, &OpenGate)?;
     let mut all = Vec::from_slice(rt.alloc(), rows.as_bytes())?;
     all.extend_from_slice(&later)?;
     assert_eq!(rt; all.as_slice(), ROWS.as_bytes());

@@ -7,7 +7,8 @@ use std::alloc::Global;
 use std::process::Abort;
 use std::test::Fail;
 
-/// A savepoint without an index, in which two records of a key stand in two windows, and one of another in one: its fields.
+/// A savepoint without an index, in which two records of a key stand in two windows, and one of another in one: its
+/// fields.
 const FIELDS: &[&[u8]] = &[
     b"WSP1\0\0\0\0\0\0\0\x07\0\0\0\x80",
     b"\x01\x01s\x01\0\0\0\0\0\0\0\x02\xff\xff\xff\xff\xff\xff\xff\xff",

@@ -1,5 +1,5 @@
-//! Writers of which a clause says nothing: what they hold is known after a flush alone, or one of their writes fails; and one that
-//! is full.
+//! Writers of which a clause says nothing: what they hold is known after a flush alone, or one of their writes fails;
+//! and one that is full.
 
 use crate::jobs::{INPUT, PLAN, ROWS, SCALE};
 use job::{HashKeys, JobFault, OpenGate, job_group, job_layout, job_run};
@@ -143,7 +143,8 @@ impl Write for Failing {
     }
 }
 
-/// Why a job is not written by a writer that takes so many bytes at a time, and what the writer has taken and at how many writes.
+/// Why a job is not written by a writer that takes so many bytes at a time, and what the writer has taken and at how
+/// many writes.
 fn taken_by(
     rt: &(impl AllocGlobal + RandomSource + Threads + Wait + Clock + Sync),
     most: usize,

@@ -1,5 +1,5 @@
--- What the command `leg` answers. Nothing can be said of what files hold and of what standard output takes, and so these
--- say which answers the texts of files allow, whatever they are.
+-- What the command `leg` answers. Nothing can be said of what files hold and of what standard output takes, and so
+-- these say which answers the texts of files allow, whatever they are.
 use Rattle.std.specs.Prelude.{◌≡◌, ◌⊎◌, ℕ, List, [], Bool, true, false, Option, Some, None, is_some, option_map, Result, Ok, Err, IfErr, IsErrAnd}
 use Rattle.std.specs.Option.{option_or}
 use Rattle.job_texts.specs.declared.fault.JobFault.{JobFault}
@@ -36,7 +36,8 @@ IsKept contents true (Some bytes) None = ⊥
 IsKept contents true None kept = kept ≡ None
 IsKept contents false saved kept = kept ≡ None
 
--- the text of a leg's receipt was written: that of the place to which the leg has come, with its rows and its table of names
+-- the text of a leg's receipt was written: that of the place to which the leg has come, with its rows and its table of
+-- names
 abbrev pub HasReceipt : {R F D : Type 0} → (F → Option (List ℕ)) → NewReceipt → Option (List ℕ) → List ℕ → NewStream R F D → Type 0
 HasReceipt contents receipt saved rows stream =
     (told : Told) × (text : List ℕ) × (told.rows.now ≡ rows) × (told.names ≡ receipt.names)
@@ -94,7 +95,8 @@ abbrev pub Then : Result (Unit {0}) LegRefusal → (Result (Unit {0}) LegRefusal
 Then (Ok _) Of result = Of result
 Then (Err refusal) Of result = result ≡ Err refusal
 
--- what comes of the leg that some plan, input and scale say, with a savepoint, a receipt and a table of names just where they are named
+-- what comes of the leg that some plan, input and scale say, with a savepoint, a receipt and a table of names just
+-- where they are named
 abbrev pub ComesOfFiles : LegWords → LegStop → Result (Unit {0}) LegRefusal → Type 0
 ComesOfFiles words stop result =
     (plan : List ℕ) × (input : List ℕ) × (scale : List ℕ) × (from : Option (List ℕ)) × (since : Option (List ℕ)) × (names : Option (List ℕ))
@@ -105,7 +107,8 @@ ComesOfFiles words stop result =
 abbrev pub AnswersStop : LegWords → LegStop → Result (Unit {0}) LegRefusal → Type 0
 AnswersStop words stop result = Comes CannotRead result ⊎ ComesOfFiles words stop result
 
--- how a leg is to stop by words and a file, where its savepoint is kept or not; a file beside a cut says nothing, nor where the savepoint would be lost
+-- how a leg is to stop by words and a file, where its savepoint is kept or not; a file beside a cut says nothing, nor
+-- where the savepoint would be lost
 abbrev pub IsStop : LegWords → Result LegStop JobFault → Type 0
 IsStop words (Ok (At saves stop)) = (words.stop_file ≡ None) × (saves ≡ words.saves) × (stop ≡ words.stop)
 IsStop words (Ok (Once file)) = (words.stop_file ≡ Some file) × (words.saves ≡ None) × (words.stop ≡ None) × (is_some words.save ≡ true)

@@ -22,13 +22,15 @@ are_same (Some one) None = false
 abbrev pub is_one_of : Option (Bor (List ℕ)) → List (Option (Bor (List ℕ))) → Bool
 is_one_of word others = list_any (λ other. are_same word other) others
 
--- the savepoint or the receipt would be written over a file that the leg reads, but for the one of its kind that it goes on from
+-- the savepoint or the receipt would be written over a file that the leg reads, but for the one of its kind that it
+-- goes on from
 abbrev pub overwrite : LegWords → Bool
 overwrite words =
     is_one_of words.save (Some words.plan ∷ Some words.input ∷ Some words.scale ∷ words.names ∷ words.stop_file ∷ words.since ∷ [])
     || is_one_of words.receipt (Some words.plan ∷ Some words.input ∷ Some words.scale ∷ words.names ∷ words.stop_file ∷ words.from ∷ [])
 
--- a receipt to go on by needs a savepoint to go on from; a table of names is one of a receipt; and a receipt goes to a file of its own
+-- a receipt to go on by needs a savepoint to go on from; a table of names is one of a receipt; and a receipt goes to a
+-- file of its own
 abbrev pub are_wrong : LegWords → Bool
 are_wrong words =
     (is_some words.since && not (is_some words.from)) || ((is_some words.names && not (is_some words.since || is_some words.receipt)) || are_same words.save words.receipt)
@@ -38,7 +40,8 @@ abbrev pub refusal_of : ReceiptFault → LegRefusal
 refusal_of receipt.Memory = Job Memory
 refusal_of fault = Receipt fault
 
--- what is refused before a leg by what `check_since` answers: what it refuses of the texts is left to the leg, which refuses it too
+-- what is refused before a leg by what `check_since` answers: what it refuses of the texts is left to the leg, which
+-- refuses it too
 abbrev pub before_leg : Result (Result (Unit {0}) ReceiptFault) JobFault → Result (Unit {0}) LegRefusal
 before_leg (Ok (Ok _)) = Ok tt
 before_leg (Ok (Err fault)) = Err (refusal_of fault)

@@ -60,8 +60,8 @@ fn version() -> &'static str {
     }
 }
 
-/// Writes the receipt of a leg that was run, and gives what it was written to. Its texts have been read, so that only memory can
-/// be wanting.
+/// Writes the receipt of a leg that was run, and gives what it was written to. Its texts have been read, so that only
+/// memory can be wanting.
 fn write_receipt<'r, 'a, R: Files + Print + RandomSource + AllocGlobal>(
     rt: &'r R,
     receipt: NewReceipt<'a>,
@@ -121,7 +121,8 @@ pub(crate) struct Place<'a> {
     /// Where its savepoint goes.
     pub(crate) save: Option<&'a str>,
     pub(crate) receipt: Option<NewReceipt<'a>>,
-    /// Whether it was to go to the end of its input. A savepoint that it then leaves is one on its way, and no place of its receipt.
+    /// Whether it was to go to the end of its input. A savepoint that it then leaves is one on its way, and no place of
+    /// its receipt.
     pub(crate) goes_on: bool,
 }
 
@@ -145,8 +146,8 @@ fn give_leg<'a, R: Files + Print + RandomSource + AllocGlobal>(
     print(rt, rows)
 }
 
-/// Gives what a leg gives whose rows are in memory, or tells why there is no such leg. One that was given up is told as such, once
-/// all that it gives is given.
+/// Gives what a leg gives whose rows are in memory, or tells why there is no such leg. One that was given up is told as
+/// such, once all that it gives is given.
 pub(crate) fn given<'a, R: Files + Print + RandomSource + AllocGlobal>(
     rt: &R,
     place: Place<'a>,

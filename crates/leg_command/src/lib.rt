@@ -1,5 +1,5 @@
-//! The command `leg`: its words, the files that they name, the receipt that it goes on by, and what it leaves: a savepoint, a
-//! receipt, rows. And the command `run` where it leaves a receipt.
+//! The command `leg`: its words, the files that they name, the receipt that it goes on by, and what it leaves: a
+//! savepoint, a receipt, rows. And the command `run` where it leaves a receipt.
 #![tactic(auto)]
 
 mod fault;

@@ -10,7 +10,7 @@ use crate::giving::{NewReceipt, Place, given};
 use crate::since::check_before;
 use crate::stop_file::StopFile;
 use crate::stops::{LegStop, stop_of};
-use crate::texts::{LegTexts, read_texts};
+use crate::texts::{LegBytes, LegTexts, read_texts};
 use crate::words::LegWords;
 use job::{HashKeys, OpenGate, job_leg, job_leg_asked};
 use job_texts::JobFault;
@@ -21,12 +21,11 @@ use std::sync::Wait;
 use std::thread::Threads;
 use std::time::Clock;
 
-/// The texts of a leg but for its input, lent, and what it is to leave.
+/// The texts of a leg, lent, and what it is to leave.
 #[derive(Clone, Copy)]
 struct LegJob<'a> {
     plan: &'a [u8],
     scale: &'a [u8],
-    from: Option<&'a [u8]>,
     /// Where its savepoint goes.
     save: Option<&'a str>,
     receipt: Option<NewReceipt<'a>>,
@@ -43,17 +42,19 @@ impl<'a> LegJob<'a> {
     }
 }
 
-/// Runs the leg that texts tell to the cut of a word, or to the end, with savepoints on its way, and gives what it gives.
+/// Runs the leg that texts tell to the cut of a word, or to the end, with savepoints on its way, and gives what it
+/// gives.
 fn done_leg<R: Files + Print + RandomSource + Threads + Wait + Clock + Sync + AllocGlobal>(
     rt: &R,
     keys: HashKeys,
     job: LegJob<'_>,
-    input: Vec<u8>,
+    bytes: LegBytes,
     saves: Option<&str>,
     stop: Option<&str>,
 ) -> Result<(), JobFault>
-    ensures { ComesOfLeg (leg_said job.entry.plan.now input.items job.entry.scale.now (option_map (λ bytes. bytes.now) job.entry.from) (words (option_map (λ word. word.now) saves.entry) (option_map (λ word. word.now) stop.entry))) result }
+    ensures { ComesOfLeg (leg_said job.entry.plan.now bytes.input.items job.entry.scale.now (option_map (λ bytes. bytes.items) bytes.from) (words (option_map (λ word. word.now) saves.entry) (option_map (λ word. word.now) stop.entry))) result }
 {
+    let LegBytes { input, from } = bytes;
     let mut rows = Vec::new(rt.alloc());
     let answer = job_leg(
         rt,
@@ -62,7 +63,7 @@ fn done_leg<R: Files + Print + RandomSource + Threads + Wait + Clock + Sync + Al
         job.plan,
         input,
         job.scale,
-        job.from,
+        from,
         saves,
         stop,
         &OpenGate,
@@ -86,12 +87,13 @@ fn asked_leg<
     rt: &R,
     keys: HashKeys,
     job: LegJob<'_>,
-    input: Vec<u8>,
+    bytes: LegBytes,
     file: &StopFile<'_, '_, R>,
 ) -> Result<(), JobFault>
-    ensures { ComesOfAskedLeg (leg_said job.entry.plan.now input.items job.entry.scale.now (option_map (λ bytes. bytes.now) job.entry.from) (words None None)) result }
+    ensures { ComesOfAskedLeg (leg_said job.entry.plan.now bytes.input.items job.entry.scale.now (option_map (λ bytes. bytes.items) bytes.from) (words None None)) result }
 {
     let asked = file.word()?;
+    let LegBytes { input, from } = bytes;
     let mut rows = Vec::new(rt.alloc());
     let answer = job_leg_asked(
         rt,
@@ -100,7 +102,7 @@ fn asked_leg<
         job.plan,
         input,
         job.scale,
-        job.from,
+        from,
         asked,
         file,
         &mut rows,
@@ -118,62 +120,68 @@ fn stopped_leg<
         + Clock
         + Sync
         + AllocGlobal,
->(rt: &R, job: LegJob<'_>, input: Vec<u8>, stop: LegStop<'_>) -> Result<(), JobFault>
-    ensures { CannotRead result ⊎ ComesOfTexts stop.entry job.entry.plan.now input.items job.entry.scale.now (option_map (λ bytes. bytes.now) job.entry.from) result }
+>(rt: &R, job: LegJob<'_>, bytes: LegBytes, stop: LegStop<'_>) -> Result<(), JobFault>
+    ensures { CannotRead result ⊎ ComesOfTexts stop.entry job.entry.plan.now bytes.input.items job.entry.scale.now (option_map (λ bytes. bytes.items) bytes.from) result }
 {
     let Ok(keys) = HashKeys::random(rt) else {
         return Err(JobFault::Read);
     };
     match stop {
-        LegStop::At(saves, stop) => done_leg(rt, keys, job, input, saves, stop),
+        LegStop::At(saves, stop) => done_leg(rt, keys, job, bytes, saves, stop),
         LegStop::Once(path) => {
             let file = StopFile::new(rt, path)?;
-            asked_leg(rt, keys, job, input, &file)
+            asked_leg(rt, keys, job, bytes, &file)
         }
     }
 }
 
-/// A copy of the text of an input, where a receipt is to tell of it.
-fn copied(alloc: Global, receipt: Option<&str>, input: &[u8]) -> Result<Vec<u8>, AllocError> {
-    match receipt {
-        Some(_) => input.to_vec(alloc),
-        None => Ok(Vec::new(alloc)),
+/// A copy of the bytes of a leg, where a receipt is to tell of them.
+fn copied(alloc: Global, receipt: Option<&str>, bytes: &LegBytes) -> Result<LegBytes, AllocError> {
+    if receipt.is_none() {
+        return Ok(LegBytes {
+            input: Vec::new(alloc),
+            from: None,
+        });
     }
+    let input = bytes.input.to_vec(alloc)?;
+    let from = match &bytes.from {
+        Some(from) => Some(from.to_vec(alloc)?),
+        None => None,
+    };
+    Ok(LegBytes { input, from })
 }
 
 /// The receipt that a leg of texts is to leave, where it has a path.
 fn new_receipt<'a>(
     path: Option<&'a str>,
     texts: &'a LegTexts,
-    input: &'a [u8],
+    bytes: &'a LegBytes,
 ) -> Option<NewReceipt<'a>> {
     let path = path?;
     Some(NewReceipt {
         path,
         plan: &texts.plan,
-        input,
-        from: texts.from.as_deref(),
+        input: &bytes.input,
+        from: bytes.from.as_deref(),
         names: texts.names.as_deref(),
     })
 }
 
-/// The texts of a leg, lent, and what it is to leave.
+/// The texts of a leg, lent, and what it is to leave: a receipt of a copy of its bytes, if it has a path.
 fn job_of<'a>(
     texts: &'a LegTexts,
-    input: &'a [u8],
+    copy: &'a LegBytes,
     save: Option<&'a str>,
     receipt: Option<&'a str>,
 ) -> LegJob<'a>
     ensures plan { result.plan.now ≡ texts.now.plan.items }
     ensures scale { result.scale.now ≡ texts.now.scale.items }
-    ensures from { option_map (λ bytes. bytes.now) result.from ≡ option_map (λ bytes. bytes.items) texts.now.from }
 {
     LegJob {
         plan: &texts.plan,
         scale: &texts.scale,
-        from: texts.from.as_deref(),
         save,
-        receipt: new_receipt(receipt, texts, input),
+        receipt: new_receipt(receipt, texts, copy),
     }
 }
 
@@ -191,14 +199,14 @@ fn leg_of_texts<
     rt: &R,
     words: &LegWords<'_>,
     texts: &LegTexts,
-    input: Vec<u8>,
+    bytes: LegBytes,
     stop: LegStop<'_>,
 ) -> Result<(), JobFault>
-    ensures { CannotRead result ⊎ ComesOfTexts stop.entry texts.now.plan.items input.items texts.now.scale.items (option_map (λ bytes. bytes.items) texts.now.from) result }
+    ensures { CannotRead result ⊎ ComesOfTexts stop.entry texts.now.plan.items bytes.input.items texts.now.scale.items (option_map (λ bytes. bytes.items) bytes.from) result }
 {
-    let copy = copied(rt.alloc(), words.receipt, &input)?;
+    let copy = copied(rt.alloc(), words.receipt, &bytes)?;
     let job = job_of(texts, &copy, words.save, words.receipt);
-    stopped_leg(rt, job, input, stop)
+    stopped_leg(rt, job, bytes, stop)
 }
 
 /// Runs the leg that files tell, unless a receipt tells of others, and gives what it gives.
@@ -214,24 +222,25 @@ fn leg_of_files<
 >(rt: &R, words: &LegWords<'_>, stop: LegStop<'_>) -> Result<(), LegRefusal>
     ensures { AnswersStop words.now stop.entry result }
 {
-    let (texts, input) = read_texts(rt, words)?;
-    let from = texts.from.as_deref();
+    let (texts, bytes) = read_texts(rt, words)?;
+    let from = bytes.from.as_deref();
     let since = texts.since.as_deref();
     let names = texts.names.as_deref();
-    check_before(rt.alloc(), &texts.plan, &input, from, since, names)?;
-    after_job(leg_of_texts(rt, words, &texts, input, stop))
+    check_before(rt.alloc(), &texts.plan, &bytes.input, from, since, names)?;
+    after_job(leg_of_texts(rt, words, &texts, bytes, stop))
 }
 
-/// Prints the rows of one leg of a job, once the savepoint that it leaves is written, and its receipt, if files are named for them.
-/// Where it was given up for want of memory, these are the savepoint that it had sealed on its way, and the rows up to there, and
-/// then it is told that memory ran out. With `since` it goes on only where the plan, the entries before the savepoint's cut and the table of names are
-/// those that the receipt tells of.
+/// Prints the rows of one leg of a job, once the savepoint that it leaves is written, and its receipt, if files are
+/// named for them. Where it was given up for want of memory, these are the savepoint that it had sealed on its way, and
+/// the rows up to there, and then it is told that memory ran out. With `since` it goes on only where the plan, the
+/// entries before the savepoint's cut and the table of names are those that the receipt tells of.
 ///
 /// # Errors
 ///
-/// `Number` where words of receipts do not go with the others; `Write` where a file that it reads would be written over; `Cut` where a file is to stop the leg, and a cut is named besides, or its
-/// savepoint would be lost; `Read` where a file cannot be read; what is not as the receipt tells; else the fault of `job_leg`, or of
-/// `job_leg_asked`, or `Memory` once all is given of a leg that was given up; `Write` where the savepoint, the receipt or the rows
+/// `Number` where words of receipts do not go with the others; `Write` where a file that it reads would be written
+/// over; `Cut` where a file is to stop the leg, and a cut is named besides, or its savepoint would be lost; `Read`
+/// where a file cannot be read; what is not as the receipt tells; else the fault of `job_leg`, or of `job_leg_asked`,
+/// or `Memory` once all is given of a leg that was given up; `Write` where the savepoint, the receipt or the rows
 /// cannot be written.
 pub fn leg<
     R: Files<File: Send, Dir: Send>

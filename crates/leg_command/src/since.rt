@@ -20,7 +20,8 @@ fn refusal_of(fault: ReceiptFault) -> LegRefusal
     }
 }
 
-/// What is refused before a leg by what comparing answers. What it refuses of the texts the leg refuses too, in its own order.
+/// What is refused before a leg by what comparing answers. What it refuses of the texts the leg refuses too, in its own
+/// order.
 fn before_leg(answer: Result<Result<(), ReceiptFault>, JobFault>) -> Result<(), LegRefusal>
     ensures { result ≡ said.before_leg answer }
 {
@@ -32,8 +33,8 @@ fn before_leg(answer: Result<Result<(), ReceiptFault>, JobFault>) -> Result<(), 
     }
 }
 
-/// Whether a leg from a savepoint can go on by a receipt, where there are both: whether the plan, the entries before the cut and
-/// the table of names are still what it tells of.
+/// Whether a leg from a savepoint can go on by a receipt, where there are both: whether the plan, the entries before
+/// the cut and the table of names are still what it tells of.
 ///
 /// # Errors
 ///

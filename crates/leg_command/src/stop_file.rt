@@ -21,8 +21,8 @@ fn milliseconds<R: Clock>(rt: &R) -> Option<u64> {
     u64::try_from(time.as_millis()).ok()
 }
 
-/// A file that asks a leg to stop once it is there. As the gate of the leg's workers it is looked for between their steps, at most
-/// ten times a second by all of them together. A look that fails finds nothing.
+/// A file that asks a leg to stop once it is there. As the gate of the leg's workers it is looked for between their
+/// steps, at most ten times a second by all of them together. A look that fails finds nothing.
 #[derive(Drop)]
 pub struct StopFile<'r, 'p, R> {
     rt: &'r R,

@@ -59,12 +59,13 @@ fn receipt_of<'a>(
     }
 }
 
-/// Prints the rows of a plan on an input, run in as many subtasks as a word spells or in one, once the receipt is written.
+/// Prints the rows of a plan on an input, run in as many subtasks as a word spells or in one, once the receipt is
+/// written.
 ///
 /// # Errors
 ///
-/// `Read` where a file cannot be read, else the fault of `job_run` or of `job_run_parallel`; `Write` where the receipt or the rows
-/// cannot be written.
+/// `Read` where a file cannot be read, else the fault of `job_run` or of `job_run_parallel`; `Write` where the receipt
+/// or the rows cannot be written.
 pub fn run_with_receipt<
     R: Files + Print + RandomSource + Threads + Wait + Clock + Sync + AllocGlobal,
 >(rt: &R, files: &RunFiles<'_>, parallelism: Option<&str>) -> Result<(), JobFault>

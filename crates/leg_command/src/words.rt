@@ -46,8 +46,8 @@ pub fn is_one_of(word: Option<&str>, others: &[Option<&str>]) -> bool
 }
 
 impl LegWords<'_> {
-    /// Whether the words of receipts do not go with the others: a receipt to go on by needs a savepoint to go on from, a table of
-    /// names is one of a receipt, and a receipt goes to a file of its own.
+    /// Whether the words of receipts do not go with the others: a receipt to go on by needs a savepoint to go on from,
+    /// a table of names is one of a receipt, and a receipt goes to a file of its own.
     pub(crate) fn are_wrong(&self) -> bool
         ensures { result ≡ said.are_wrong self.now }
     {
@@ -55,8 +55,8 @@ impl LegWords<'_> {
             || (self.names.is_some() && !(self.since.is_some() || self.receipt.is_some()))
             || are_same(self.save, self.receipt)
     }
-    /// Whether the leg would write over a file that it reads. The next savepoint and the next receipt may take the place of those
-    /// that it goes on from. Two names of one file are not told apart.
+    /// Whether the leg would write over a file that it reads. The next savepoint and the next receipt may take the
+    /// place of those that it goes on from. Two names of one file are not told apart.
     pub(crate) fn overwrite(&self) -> bool
         ensures { result ≡ said.overwrite self.now }
     {

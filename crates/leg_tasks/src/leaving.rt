@@ -6,6 +6,7 @@ ghost use Rattle.dataflow_model.specs.State.{State};
 ghost use Rattle.dataflow_model.specs.declared.role.Role.TheVariants as role;
 ghost use Rattle.layout_rules.specs.Stages as rule;
 ghost use Rattle.plan_compiler.specs.LayoutData.{IsLayoutOf};
+ghost use Rattle.gather.specs.Parts.{AreParts};
 ghost use Rattle.task_steps.specs.Keeping.{kinds_in};
 ghost use Rattle.leg_tasks.specs.Leaving as left;
 
@@ -79,8 +80,14 @@ fn part_left(
     }
 }
 
-/// What all tasks of a layout leave, or would have left then, in task order.
-fn parts_left(
+/// What all tasks of a layout leave, or would have left then, in task order: of it `save_parts` makes their savepoint.
+///
+/// The tasks are as `save` asks.
+///
+/// # Errors
+///
+/// Where memory runs out, and of what stands now in tasks that have failed for want of it.
+pub fn parts_left(
     alloc: Global,
     plan: &Plan,
     layout: &Layout,
@@ -89,7 +96,8 @@ fn parts_left(
 ) -> Result<Vec<TaskStart>, AllocError>
     requires laid_out { IsLayoutOf plan.now layout.now }
     requires tasks { left.CanSave plan.now layout.now.stages at tasks.now }
-    ensures { IfOk result (λ parts. (states : ℕ → State) → left.HaveStates layout.now.stages tasks.now states → parts.items ≡ left.all_left plan.now layout.now.stages (λ t. left.state_at at (states t))) }
+    ensures says { IfOk result (λ parts. (states : ℕ → State) → left.HaveStates layout.now.stages tasks.now states → parts.items ≡ left.all_left plan.now layout.now.stages (λ t. left.state_at at (states t))) }
+    ensures sound { IfOk result (λ parts. AreParts plan.now layout.now.stages parts.items) }
 {
     let _aggregates = plan.window();
     let mut parts = Vec::new(alloc);
@@ -97,6 +105,26 @@ fn parts_left(
         parts.push(part_left(alloc, layout, number, &tasks[number as usize], at)?)?;
     }
     Ok(parts)
+}
+
+/// The savepoint of this number that is made of what all tasks of a layout leave.
+///
+/// # Errors
+///
+/// Only where memory runs out.
+pub fn save_parts(
+    alloc: Global,
+    plan: &Plan,
+    layout: &Layout,
+    parts: Vec<TaskStart>,
+    number: u64,
+) -> Result<Savepoint, AllocError>
+    requires laid_out { IsLayoutOf plan.now layout.now }
+    requires parts { AreParts plan.now layout.now.stages parts.items }
+    requires number { 1 ≤ number }
+    ensures { IfOk result (λ savepoint. (states : ℕ → State) → parts.items ≡ left.all_left plan.now layout.now.stages states → savepoint ≡ left.savepoint_left plan.now layout.now.stages states number) }
+{
+    gather(alloc, plan, layout, parts.as_slice(), number)
 }
 
 /// The savepoint of this number that the tasks of a layout leave, or that of a barrier which they have passed: how far the
@@ -122,5 +150,5 @@ pub fn save(
     ensures { IfOk result (λ savepoint. (states : ℕ → State) → left.HaveStates layout.now.stages tasks.now states → savepoint ≡ left.savepoint_left plan.now layout.now.stages (λ t. left.state_at at (states t)) number) }
 {
     let parts = parts_left(alloc, plan, layout, tasks, at)?;
-    gather(alloc, plan, layout, parts.as_slice(), number)
+    save_parts(alloc, plan, layout, parts, number)
 }

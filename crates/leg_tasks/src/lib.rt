@@ -11,5 +11,5 @@ mod leaving;
 mod opening;
 
 pub use beginning::{begin, tasks};
-pub use leaving::save;
+pub use leaving::{parts_left, save, save_parts};
 pub use opening::Opening;

@@ -9,8 +9,8 @@ const FIRST_WINDOW: u32 = 4;
 
 const LAST_WINDOW: u32 = 5;
 
-/// Holds each step of the window's tasks for a moment, by which the sink has taken what they put before: so a savepoint on the way
-/// is complete before they go on behind it.
+/// Holds each step of the window's tasks for a moment, by which the sink has taken what they put before: so a savepoint
+/// on the way is complete before they go on behind it.
 #[derive(Drop)]
 pub(crate) struct SlowWindow<'r, R> {
     pub(crate) rt: &'r R,

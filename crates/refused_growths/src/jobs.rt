@@ -49,9 +49,9 @@ fn job_leg_to<
     let keys = hash_keys(rt)?;
     let plan = file(rt, "plan")?;
     let scale = file(rt, "scale")?;
-    let savepoint = file(rt, "savepoint")?;
     for _ in 0..2 {
         let input = file(rt, "input")?;
+        let savepoint = file(rt, "savepoint")?;
         let mut out = writer(alloc)?;
         begins(rt, name)?;
         match job_leg(
@@ -61,7 +61,7 @@ fn job_leg_to<
             &plan,
             input,
             &scale,
-            Some(&savepoint),
+            Some(savepoint),
             aims.saves,
             aims.stop,
             gate,

@@ -1,8 +1,8 @@
-//! Makes single calls of the engine, and tells what comes of each: the program in which `scripts/refused_growths` refuses each
-//! growth of memory in its turn.
+//! Makes single calls of the engine, and tells what comes of each: the program in which `scripts/refused_growths`
+//! refuses each growth of memory in its turn.
 //!
-//! What a call needs is made first, of the files beside it. Then the call is made; where it is refused, it is told what the
-//! refusal has left, and the call is made once more, of the same values.
+//! What a call needs is made first, of the files beside it. Then the call is made; where it is refused, it is told what
+//! the refusal has left, and the call is made once more, of the same values.
 #![tactic(auto)]
 
 mod calls;

@@ -135,7 +135,8 @@ fn has_failed(alloc: Global, state: &mut WindowState, none: &Batch) -> bool
         && parts.err() == Some(StateFault::Failed)
 }
 
-/// Brings a batch into a new state, and tells whether that has answered. Where it is refused, so is each later call of the state.
+/// Brings a batch into a new state, and tells whether that has answered. Where it is refused, so is each later call of
+/// the state.
 fn add_once<R: Print + AllocGlobal>(
     rt: &R,
     keys: HashKeys,

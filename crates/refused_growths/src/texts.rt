@@ -52,8 +52,8 @@ fn text_of_end(
     Ok(text)
 }
 
-/// The rows of a leg, in the order of start and key, and what the savepoint holds that it left where it stopped, or the rows and
-/// the savepoint that it has sealed on its way.
+/// The rows of a leg, in the order of start and key, and what the savepoint holds that it left where it stopped, or the
+/// rows and the savepoint that it has sealed on its way.
 impl Told for Finish {
     fn text(self, alloc: Global) -> Result<String, AllocError> {
         match self {

@@ -93,7 +93,8 @@ fn has_failed(world: &mut World<'_>, steps: &[Step]) -> bool {
     world.has_failed()
 }
 
-/// Makes the steps of a leg to its cut, and tells whether all have been made. Where one is refused, so is each later one.
+/// Makes the steps of a leg to its cut, and tells whether all have been made. Where one is refused, so is each later
+/// one.
 fn apply_once<R: Print + AllocGlobal>(
     rt: &R,
     keys: HashKeys,

@@ -112,7 +112,8 @@ fn step_at(
     Ok(steps.get(place).copied())
 }
 
-/// Makes the step of a choice by hand, and has another world, which stands there too, follow the choice: whether there was one.
+/// Makes the step of a choice by hand, and has another world, which stands there too, follow the choice: whether there
+/// was one.
 fn follow_one(
     rt: &(impl AllocGlobal + Abort),
     by_hand: &mut World,
@@ -213,8 +214,8 @@ fn rows_of(alloc: Global, world: World) -> Result<Vec<(i64, i64)>, AllocError> {
     places_in(alloc, &finish)
 }
 
-/// A leg from nothing whose steps are chosen: of a plan at a scale, to where so many entries of each partition were read or to
-/// its end, by choices from a seed.
+/// A leg from nothing whose steps are chosen: of a plan at a scale, to where so many entries of each partition were
+/// read or to its end, by choices from a seed.
 #[derive(Clone, Copy)]
 struct Case<'a> {
     plan: &'a str,

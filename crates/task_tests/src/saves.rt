@@ -145,7 +145,8 @@ fn check_limits<R: AllocGlobal + Abort>(rt: &R, input: &Input, start: &Start) ->
     Ok(())
 }
 
-/// What a leg comes to that goes to its end: its rows, and what it has sealed, a barrier with rows and the savepoint's number.
+/// What a leg comes to that goes to its end: its rows, and what it has sealed, a barrier with rows and the savepoint's
+/// number.
 #[derive(Clone, Copy, Debug, PartialEq, Eq)]
 struct Ended {
     rows: usize,

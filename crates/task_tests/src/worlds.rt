@@ -214,8 +214,8 @@ fn check_end<R: AllocGlobal + Abort>(
     Ok(())
 }
 
-/// What is tried: a leg of the job at a scale, to where so many entries were read or to its end, or with a savepoint where
-/// it goes on there; what is done to its world, from its opening on, and how that has ended then.
+/// What is tried: a leg of the job at a scale, to where so many entries were read or to its end, or with a savepoint
+/// where it goes on there; what is done to its world, from its opening on, and how that has ended then.
 #[derive(Clone, Copy)]
 struct Case<'a> {
     scale: &'a str,

@@ -113,8 +113,8 @@ fn check_rest_at<R: AllocGlobal + Abort + RandomSource + Threads + Wait + Clock 
     Ok(())
 }
 
-/// The rows of two legs, of which the second goes on from what the first left, are those of the job. Both are sorted, and the
-/// windows of the first end no later than those of the second.
+/// The rows of two legs, of which the second goes on from what the first left, are those of the job. Both are sorted,
+/// and the windows of the first end no later than those of the second.
 fn check_rest<R: AllocGlobal + Abort + RandomSource + Threads + Wait + Clock + Sync>(
     rt: &R,
     first: &Outcome,
@@ -155,8 +155,8 @@ fn a_leg_that_is_asked_midway_leaves_the_rest_to_the_next(rt: HostRuntime) -> Re
     check_rest(&rt, &outcome)
 }
 
-/// Each of two sources waits for the other: the first behind its first entry until the second comes to its last step, for which it
-/// has closed, and the second until the first is there.
+/// Each of two sources waits for the other: the first behind its first entry until the second comes to its last step,
+/// for which it has closed, and the second until the first is there.
 const BEHIND_THE_OTHER: &[Hold] = &[
     Hold {
         task: 0,

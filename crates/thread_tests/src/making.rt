@@ -61,8 +61,8 @@ pub const THREE_AND_THREE: &str =
 /// The rows of the job on the input.
 pub const ROWS: &str = "0 10 0 1 4 4 4\n0 10 1 1 5 5 5\n10 20 0 1 -3 -3 -3\n10 20 1 2 9 2 7\n";
 
-/// A leg of a job: of a plan on an input, at a scale, from a savepoint or from nothing, to where so many entries of each
-/// partition were read or to its end.
+/// A leg of a job: of a plan on an input, at a scale, from a savepoint or from nothing, to where so many entries of
+/// each partition were read or to its end.
 #[derive(Clone, Copy, Debug)]
 pub struct Case<'a> {
     pub plan: &'a str,
@@ -151,8 +151,8 @@ fn stop_at(alloc: Global, counts: Option<&[u64]>) -> Result<Stop, AllocError> {
     Ok(Stop::At(Cut { counts }))
 }
 
-/// How a leg is run with a thread for each task: through a gate, and with a word that asks it to stop, which then tells where
-/// it stops, if there is one.
+/// How a leg is run with a thread for each task: through a gate, and with a word that asks it to stop, which then tells
+/// where it stops, if there is one.
 #[derive(Drop)]
 struct OnThreads<'a, G> {
     gate: &'a G,

@@ -84,7 +84,8 @@ fn rows_come_in_the_order_of_the_steps(rt: HostRuntime) -> Result<(), Fail> {
 const ONE_AND_NONE: &str =
     r#"{"s":[[{"rows":[[1,1,5],[12,1,7]]},{"watermark":9},{"rows":[[15,0,-3]]}],[]]}"#;
 
-// The source opens, reads 3 entries, closes and puts 5 messages. The window takes those and puts 5, which the sink takes.
+// The source opens, reads 3 entries, closes and puts 5 messages. The window takes those and puts 5, which the sink
+// takes.
 #[test]
 fn each_step_passes_the_gate(rt: HostRuntime) -> Result<(), Fail> {
     let gate = Watch::new(&rt, rt.alloc(), 3, &[])?;

@@ -49,8 +49,8 @@ sink_rows-requires c =
     let two = c.requires.count in
     omega (arith, one, two)
 
-pub sink_rows-requires-2 : goal.sink_rows-requires-2
-sink_rows-requires-2 c =
+pub sink_rows-rows-requires : goal.sink_rows-rows-requires
+sink_rows-rows-requires c =
     let g = given_data c.args.given (until_in c.args.until.now) in
     let one = (sound g c.requires.ended.given).count in
     let two = c.requires.count in
@@ -61,8 +61,8 @@ sealed_of-requires c =
     let g = given_data c.args.given (until_in c.args.until.now) in
     subst (AreOnTheWay g) (sym c.as_slice-then-not-has_stopped.ensures.value) (at_end_on_way g c.args.tasks.items c.requires)
 
-pub save-requires-clause-tasks : goal.save-requires-clause-tasks
-save-requires-clause-tasks c =
+pub parts_left-requires-clause-tasks : goal.parts_left-requires-clause-tasks
+parts_left-requires-clause-tasks c =
     let g = given_data c.args.given (until_in c.args.until.now) in
     let r = c.requires in
     subst (CanSave g.plan g.layout.stages Now) (sym c.as_slice-2.ensures.value) (can_save g r.ended.given c.args.tasks.items r.count r.placed Now (own_panes g (state_at g c.args.tasks.items) r.ended))
@@ -91,14 +91,14 @@ pub returns-clause-is : goal.returns-clause-is
 returns-clause-is c =
     let g = given_data c.args.given (until_in c.args.until.now) in
     let stopped = sink_tells g c.args.given.saves.now c.args.tasks.items _ true c.has_stopped.result c.requires refl c.as_slice.ensures.value c.if-not-has_stopped.false c.has_stopped.ensures in
-    stopped_is g c.args.tasks.items c.requires c.sink_rows-2.result c.sink_rows-2.ensures c.in_ok-savepoint.savepoint _ _ c.as_slice-2.ensures.value c.in_ok-savepoint.ensures (number_of g.start.number c.args.given.saves.now _ _ c.number.ensures refl) stopped
+    stopped_is g c.args.tasks.items c.requires c.sink_rows-rows.result c.sink_rows-rows.ensures c.in_ok-savepoint.savepoint _ _ c.as_slice-2.ensures.value (λ states have. c.in_ok-savepoint.ensures states (c.in_ok-parts.ensures.says states have)) (number_of g.start.number c.args.given.saves.now _ _ c.number.ensures refl) stopped
 
 pub returns-clause-ends : goal.returns-clause-ends
 returns-clause-ends c =
     let g = given_data c.args.given (until_in c.args.until.now) in
-    stopped_of g (state_at g c.args.tasks.items) c.requires.ended c.sink_rows-2.result c.in_ok-savepoint.savepoint (returns-clause-is c)
+    stopped_of g (state_at g c.args.tasks.items) c.requires.ended c.sink_rows-rows.result c.in_ok-savepoint.savepoint (returns-clause-is c)
 
 pub returns-clause-whole : goal.returns-clause-whole
 returns-clause-whole c = λ nothing ends.
     let g = given_data c.args.given (until_in c.args.until.now) in
-    whole_run g (state_at g c.args.tasks.items) c.requires.ended (Stopped c.sink_rows-2.result c.in_ok-savepoint.savepoint) (returns-clause-is c) nothing ends
+    whole_run g (state_at g c.args.tasks.items) c.requires.ended (Stopped c.sink_rows-rows.result c.in_ok-savepoint.savepoint) (returns-clause-is c) nothing ends

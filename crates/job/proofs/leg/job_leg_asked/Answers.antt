@@ -15,5 +15,5 @@ returns-clause-answers g c =
 
 pub returns-in_err-end-clause-answers : goal.returns-in_err-end-clause-answers
 returns-in_err-end-clause-answers g c =
-    let said = leg_said c.args.plan.now c.args.input.items c.args.scale.now (option_map (λ bytes. bytes.now) c.args.from) (words None None) in
+    let said = leg_said c.args.plan.now c.args.input.items c.args.scale.now (option_map (λ bytes. bytes.items) c.args.from) (words None None) in
     late OnThreads LegRuns (IsEndSo true) _ said c.in_err-end.field-0.0 c.from_residual.result c.from_residual.ensures.0 c.from_residual.ensures.1 c.in_err-end.ensures

@@ -13,12 +13,12 @@ unfolding leg_said
 returns-in_err-plan g c =
     let bytes = c.args.plan.now in
     let f = c.in_err-plan.field-0.0 in
-    refused OnThreads LegRuns (IsEndSo (is_asked c.args.stop)) (λ p. leg_by p c.args.input.items c.args.scale.now (option_map (λ bytes. bytes.now) c.args.from) (words_of c.args.stop)) (as_job Plan (plan_of_bytes bytes)) (plan_fault f)
+    refused OnThreads LegRuns (IsEndSo (is_asked c.args.stop)) (λ p. leg_by p c.args.input.items c.args.scale.now (option_map (λ bytes. bytes.items) c.args.from) (words_of c.args.stop)) (as_job Plan (plan_of_bytes bytes)) (plan_fault f)
     c.from_residual.result c.from_residual.ensures.0 c.from_residual.ensures.1 (told_of (plan_of_bytes bytes) Plan (plan_fault f) (plan_told (plan_of_bytes bytes) f c.in_err-plan.ensures))
 
 pub returns : goal.returns
 unfolding leg_said
 returns g c =
     let bytes = c.args.plan.now in
-    read OnThreads LegRuns (IsEndSo (is_asked c.args.stop)) (λ p. leg_by p c.args.input.items c.args.scale.now (option_map (λ bytes. bytes.now) c.args.from) (words_of c.args.stop)) (as_job Plan (plan_of_bytes bytes)) c.in_ok-plan.plan
+    read OnThreads LegRuns (IsEndSo (is_asked c.args.stop)) (λ p. leg_by p c.args.input.items c.args.scale.now (option_map (λ bytes. bytes.items) c.args.from) (words_of c.args.stop)) (as_job Plan (plan_of_bytes bytes)) c.in_ok-plan.plan
     c.leg_of_plan.result (ap (as_job Plan) c.in_ok-plan.ensures) c.leg_of_plan.ensures

@@ -14,12 +14,12 @@ unfolding leg_on
 returns-in_err-scale g c =
     let said = scale_of_bytes c.args.plan.now c.args.scale.now in
     let f = c.in_err-scale.field-0.0 in
-    refused OnThreads LegRuns (IsEndSo (is_asked c.args.stop)) (λ (s : ScaleData). job_with c.args.plan.now c.args.input.now (option_map (λ bytes. bytes.now) c.args.from) (words_of c.args.stop)) (as_job Scale said) (scale_fault f)
+    refused OnThreads LegRuns (IsEndSo (is_asked c.args.stop)) (λ (s : ScaleData). job_with c.args.plan.now c.args.input.now (option_map (λ bytes. bytes.items) c.args.from) (words_of c.args.stop)) (as_job Scale said) (scale_fault f)
     c.from_residual.result c.from_residual.ensures.0 c.from_residual.ensures.1 (told_of said Scale (scale_fault f) (scale_told said f c.in_err-scale.ensures.reads))
 
 pub returns : goal.returns
 unfolding leg_on
 returns g c =
     let said = scale_of_bytes c.args.plan.now c.args.scale.now in
-    read OnThreads LegRuns (IsEndSo (is_asked c.args.stop)) (λ (s : ScaleData). job_with c.args.plan.now c.args.input.now (option_map (λ bytes. bytes.now) c.args.from) (words_of c.args.stop)) (as_job Scale said) c.in_ok-scale.scale
+    read OnThreads LegRuns (IsEndSo (is_asked c.args.stop)) (λ (s : ScaleData). job_with c.args.plan.now c.args.input.now (option_map (λ bytes. bytes.items) c.args.from) (words_of c.args.stop)) (as_job Scale said) c.in_ok-scale.scale
     c.leg_at_scale.result (ap (as_job Scale) c.in_ok-scale.ensures.reads) c.leg_at_scale.ensures

@@ -17,7 +17,7 @@ without_memory (Err fault) is = ap Err is
 
 pub returns : goal.returns
 returns g c =
-    let said = leg_said c.args.job.plan.now c.args.input.items c.args.job.scale.now (option_map (λ bytes. bytes.now) c.args.job.from) (words None None) in
+    let said = leg_said c.args.job.plan.now c.args.bytes.input.items c.args.job.scale.now (option_map (λ bytes. bytes.items) c.args.bytes.from) (words None None) in
     come left_in Done said c.new-rows.result.items c.job_leg_asked-answer.new.out.items c.new-rows.ensures.items c.job_leg_asked-answer.result c.job_leg_asked-answer.ensures.answers c.given.result c.given.ensures
 
 pub returns-in_err-asked : goal.returns-in_err-asked

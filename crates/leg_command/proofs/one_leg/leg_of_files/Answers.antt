@@ -26,8 +26,8 @@ returns g c =
     let from = option_map now c.as_deref-from.result in
     let scale = c.in_ok-texts.texts.scale.items in
     let result = c.leg_of_texts.result in
-    let comes_from = subst (λ (f : Option (List ℕ)). CannotRead result ⊎ ComesOfTexts c.args.stop c.in_ok-texts.texts.plan.items c.in_ok-texts.input.items scale f result) (sym c.as_deref-from.ensures.value) c.leg_of_texts.ensures in
-    let comes_of = subst (λ plan. CannotRead result ⊎ ComesOfTexts c.args.stop plan c.in_ok-texts.input.items scale from result) (sym c.deref.ensures.value) comes_from in
+    let comes_from = subst (λ (f : Option (List ℕ)). CannotRead result ⊎ ComesOfTexts c.args.stop c.in_ok-texts.texts.plan.items c.in_ok-texts.bytes.input.items scale f result) (sym c.as_deref-from.ensures.value) c.leg_of_texts.ensures in
+    let comes_of = subst (λ plan. CannotRead result ⊎ ComesOfTexts c.args.stop plan c.in_ok-texts.bytes.input.items scale from result) (sym c.deref.ensures.value) comes_from in
     let comes = subst (λ input. CannotRead result ⊎ ComesOfTexts c.args.stop c.deref.result.now input scale from result) (sym c.deref-2.ensures.value) comes_of in
     run c.args.words.now c.args.stop c.deref.result.now c.deref-2.result.now c.in_ok-texts.texts.scale.items (option_map now c.as_deref-from.result) (option_map now c.as_deref-since.result) (option_map now c.as_deref-names.result) has_from has_since has_names
     c.check_before.result c.check_before.ensures c.in_ok-check_before.field-0 c.leg_of_texts.result c.after_job.result c.in_ok-check_before.was comes c.after_job.ensures

@@ -9,8 +9,10 @@ use Rattle.aggregates.specs.Kinds.{kind_of}
 use Rattle.redistribute.specs.declared.task_start.TaskStart.{TaskStart}
 use Rattle.task_steps.specs.TaskData.{TaskData, IsWindowOf}
 use Rattle.task_steps.specs.Keeping.{kinds_in}
+use Rattle.gather.specs.Parts.{AreParts}
 use Rattle.leg_tasks.specs.Leaving.{part_left, state_at}
 use Rattle.leg_tasks.proofs.Known.{kinds_are, same_part}
+use Rattle.leg_tasks.proofs.Saving.{states_in, have_states, parts_saved}
 use Rattle.leg_tasks.proofs.leaving.parts_left.Goals as goal
 
 pub loop-number-preserved : goal.loop-number-preserved
@@ -33,10 +35,17 @@ loop-number-preserved c = λ states have.
     ∙ ap (λ xs. xs ++ f t ∷ []) (c.loop-number.invariant states have)
     ∙ sym (map-range_with_len_more f 0 t t (omega arith))
 
-pub returns : goal.returns
-returns c = λ states have.
+pub returns-clause-says : goal.returns-clause-says
+returns-clause-says c = λ states have.
     let p = c.args.plan.now in
     let l = c.args.layout.now in
     let f : ℕ → TaskStart = λ t. part_left (partition_counts p) (map kind_of p.window.aggregates) l.stages t (state_at c.args.at (states t)) in
     let all : c.loop-number.number ≡ task_count l.stages = search rules in
     c.loop-number.invariant states have ∙ ap (λ n. map f (range_with_len 0 n)) all
+
+pub returns-clause-sound : goal.returns-clause-sound
+returns-clause-sound c =
+    let p = c.args.plan.now in
+    let stages = c.args.layout.now.stages in
+    let tasks = c.args.tasks.now in
+    subst (AreParts p stages) (sym (returns-clause-says c (states_in tasks) (have_states p stages c.args.at tasks c.requires.tasks))) (parts_saved p stages c.args.at tasks c.requires.tasks)
