@@ -117,7 +117,8 @@ version_shape = command_shape (codes "version") []
 abbrev pub top : App
 top = record { top = record (new_shape (codes "streamjob")) { subcommand_required = true }; subs = [] }
 
--- the commands that run a job, with them those on plans and inputs, on texts of rows, and those that show what a job is made of
+-- the commands that run a job, with them those on plans and inputs, on texts of rows, and those that show what a job is
+-- made of
 abbrev pub jobs : App
 jobs = with_subcommand (with_subcommand (with_subcommand top run_shape) simulate_shape) leg_shape
 

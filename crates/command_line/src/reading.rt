@@ -126,7 +126,8 @@ fn leg_words<'m>(words: &'m ArgMatches<'_>) -> LegWords<'m>
     }
 }
 
-/// The command that runs a job, or tells how it is laid out, that a name and the words after it say, if the name is one of such.
+/// The command that runs a job, or tells how it is laid out, that a name and the words after it say, if the name is one
+/// of such.
 fn job_command<'m>(name: &str, words: &'m ArgMatches<'_>) -> Option<Command<'m>>
     ensures { IsReadOf is_job_command name.now (found_of words.now) result }
 {

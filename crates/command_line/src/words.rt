@@ -3,7 +3,8 @@
 ghost use Rattle.std.specs.Prelude.{◌≡◌, IfOk};
 ghost use Rattle.clap.specs.Words.{app_of, new_rule};
 ghost use Rattle.clap.specs.Simple.{new_shape};
-ghost use Rattle.command_line.specs.Words.{AddsRule, IsCommand, required_rule, option_rule, flag_rule, several_rule, run_shape, simulate_shape, leg_files_shape, leg_stops_shape, leg_shape, cuts_shape, layout_shape, check_files_shape, check_shape, import_files_shape, import_names_shape, import_late_shape, import_aside_shape, import_zone_shape, import_parts_shape, import_shape, show_shape, group_shape, explain_shape, version_shape, top, jobs, texts, tables, views, program};
+ghost use Rattle.command_line.specs.Words.{AddsRule, IsCommand};
+ghost use Rattle.command_line.specs.Words as shapes;
 
 use crate::part_words::split_words;
 use crate::table_words::{diff_words, export_words, rows_words};
@@ -24,7 +25,7 @@ pub(crate) fn required<'a>(
     name: &'a str,
     help: &'a str,
 ) -> Result<Command<'a>, AllocError>
-    ensures { IfOk result (λ c. AddsRule (required_rule name.now) command.entry c) }
+    ensures { IfOk result (λ c. AddsRule (shapes.required_rule name.now) command.entry c) }
 {
     command.arg(Arg::new(alloc, name).required(true).help(help))
 }
@@ -48,7 +49,7 @@ pub(crate) fn several<'a>(
     name: &'a str,
     help: &'a str,
 ) -> Result<Command<'a>, AllocError>
-    ensures { IfOk result (λ c. AddsRule (several_rule name.now) command.entry c) }
+    ensures { IfOk result (λ c. AddsRule (shapes.several_rule name.now) command.entry c) }
 {
     let arg = Arg::new(alloc, name).required(true).help(help);
     command.arg(arg.action(ArgAction::Append))
@@ -62,7 +63,7 @@ pub(crate) fn option<'a>(
     value: &'a str,
     help: &'a str,
 ) -> Result<Command<'a>, AllocError>
-    ensures { IfOk result (λ c. AddsRule (option_rule name.now) command.entry c) }
+    ensures { IfOk result (λ c. AddsRule (shapes.option_rule name.now) command.entry c) }
 {
     let arg = Arg::new(alloc, name).long(name).value_name(value);
     command.arg(arg.help(help))
@@ -75,7 +76,7 @@ pub(crate) fn flag<'a>(
     name: &'a str,
     help: &'a str,
 ) -> Result<Command<'a>, AllocError>
-    ensures { IfOk result (λ c. AddsRule (flag_rule name.now) command.entry c) }
+    ensures { IfOk result (λ c. AddsRule (shapes.flag_rule name.now) command.entry c) }
 {
     let arg = Arg::new(alloc, name).long(name).help(help);
     command.arg(arg.action(ArgAction::SetTrue))
@@ -124,7 +125,7 @@ Example: streamjob run plan.json input.json
 Page: docs/GUIDE.md";
 
 fn run_words<'a>(alloc: Global) -> Result<Command<'a>, AllocError>
-    ensures { IfOk result (λ c. IsCommand run_shape c) }
+    ensures { IfOk result (λ c. IsCommand shapes.run_shape c) }
 {
     let command = named(
         alloc,
@@ -152,7 +153,7 @@ Example: streamjob simulate plan.json input.json legs.json choices.json
 Page: docs/FORMATS.md, under List of legs and Choices";
 
 fn simulate_words<'a>(alloc: Global) -> Result<Command<'a>, AllocError>
-    ensures { IfOk result (λ c. IsCommand simulate_shape c) }
+    ensures { IfOk result (λ c. IsCommand shapes.simulate_shape c) }
 {
     let about = "Run a job in legs by an order of steps that you choose, and print its rows";
     let command = named(alloc, "simulate", about, SIMULATE);
@@ -179,7 +180,7 @@ Page: docs/FORMATS.md, under Scale, Cut and Stop file";
 
 /// The files that a leg always reads.
 fn leg_files<'a>(alloc: Global) -> Result<Command<'a>, AllocError>
-    ensures { IfOk result (λ c. IsCommand leg_files_shape c) }
+    ensures { IfOk result (λ c. IsCommand shapes.leg_files_shape c) }
 {
     let command = named(
         alloc,
@@ -194,7 +195,7 @@ fn leg_files<'a>(alloc: Global) -> Result<Command<'a>, AllocError>
 
 /// The same with how it begins and stops.
 fn leg_stops<'a>(alloc: Global) -> Result<Command<'a>, AllocError>
-    ensures { IfOk result (λ c. IsCommand leg_stops_shape c) }
+    ensures { IfOk result (λ c. IsCommand shapes.leg_stops_shape c) }
 {
     let command = leg_files(alloc)?;
     let command = option(
@@ -236,7 +237,7 @@ fn leg_stops<'a>(alloc: Global) -> Result<Command<'a>, AllocError>
 
 /// The same with its receipts.
 fn leg_words<'a>(alloc: Global) -> Result<Command<'a>, AllocError>
-    ensures { IfOk result (λ c. IsCommand leg_shape c) }
+    ensures { IfOk result (λ c. IsCommand shapes.leg_shape c) }
 {
     let command = leg_stops(alloc)?;
     let command = option(
@@ -282,7 +283,7 @@ Example: streamjob cuts plan.json input.json --until 2026-10-21T02:00:00Z
 Page: docs/FORMATS.md, under Cuts";
 
 fn cuts_words<'a>(alloc: Global) -> Result<Command<'a>, AllocError>
-    ensures { IfOk result (λ c. IsCommand cuts_shape c) }
+    ensures { IfOk result (λ c. IsCommand shapes.cuts_shape c) }
 {
     let about = "Print how far the partitions of an input go, or a cut of it";
     let command = named(alloc, "cuts", about, CUTS);
@@ -304,7 +305,7 @@ fn cuts_words<'a>(alloc: Global) -> Result<Command<'a>, AllocError>
 }
 
 fn layout_words<'a>(alloc: Global) -> Result<Command<'a>, AllocError>
-    ensures { IfOk result (λ c. IsCommand layout_shape c) }
+    ensures { IfOk result (λ c. IsCommand shapes.layout_shape c) }
 {
     let about = "Print the stages, edges, partitions and key groups of a plan at a scale";
     let command = named(alloc, "layout", about, LAYOUT);
@@ -328,7 +329,7 @@ Page: docs/FORMATS.md, under Plan, Input and Scale";
 
 /// The files of a check.
 fn check_files<'a>(alloc: Global) -> Result<Command<'a>, AllocError>
-    ensures { IfOk result (λ c. IsCommand check_files_shape c) }
+    ensures { IfOk result (λ c. IsCommand shapes.check_files_shape c) }
 {
     let about = "Print the places at which a plan, an input or a scale is refused";
     let command = named(alloc, "check", about, CHECK);
@@ -346,7 +347,7 @@ fn check_files<'a>(alloc: Global) -> Result<Command<'a>, AllocError>
 
 /// The same with the options of a leg.
 fn check_words<'a>(alloc: Global) -> Result<Command<'a>, AllocError>
-    ensures { IfOk result (λ c. IsCommand check_shape c) }
+    ensures { IfOk result (λ c. IsCommand shapes.check_shape c) }
 {
     let command = check_files(alloc)?;
     let command = option(
@@ -388,7 +389,7 @@ Page: docs/FORMATS.md, under Import";
 
 /// The words of an import that have to be there.
 fn import_files<'a>(alloc: Global) -> Result<Command<'a>, AllocError>
-    ensures { IfOk result (λ c. IsCommand import_files_shape c) }
+    ensures { IfOk result (λ c. IsCommand shapes.import_files_shape c) }
 {
     let about = "Write an input of a plan from CSV or NDJSON files";
     let command = named(alloc, "import", about, IMPORT);
@@ -410,7 +411,7 @@ fn import_files<'a>(alloc: Global) -> Result<Command<'a>, AllocError>
 
 /// The same with two of its options.
 fn import_names<'a>(alloc: Global) -> Result<Command<'a>, AllocError>
-    ensures { IfOk result (λ c. IsCommand import_names_shape c) }
+    ensures { IfOk result (λ c. IsCommand shapes.import_names_shape c) }
 {
     let command = import_files(alloc)?;
     let command = option(
@@ -431,7 +432,7 @@ fn import_names<'a>(alloc: Global) -> Result<Command<'a>, AllocError>
 
 /// The same with those of late records and of entries.
 fn import_late<'a>(alloc: Global) -> Result<Command<'a>, AllocError>
-    ensures { IfOk result (λ c. IsCommand import_late_shape c) }
+    ensures { IfOk result (λ c. IsCommand shapes.import_late_shape c) }
 {
     let command = import_names(alloc)?;
     let command = option(
@@ -458,7 +459,7 @@ fn import_late<'a>(alloc: Global) -> Result<Command<'a>, AllocError>
 
 /// The same with those of records that are no rows.
 fn import_aside<'a>(alloc: Global) -> Result<Command<'a>, AllocError>
-    ensures { IfOk result (λ c. IsCommand import_aside_shape c) }
+    ensures { IfOk result (λ c. IsCommand shapes.import_aside_shape c) }
 {
     let command = import_late(alloc)?;
     let command = option(
@@ -486,7 +487,7 @@ fn import_aside<'a>(alloc: Global) -> Result<Command<'a>, AllocError>
 
 /// The same with those of times that have no zone.
 fn import_zone<'a>(alloc: Global) -> Result<Command<'a>, AllocError>
-    ensures { IfOk result (λ c. IsCommand import_zone_shape c) }
+    ensures { IfOk result (λ c. IsCommand shapes.import_zone_shape c) }
 {
     let command = import_aside(alloc)?;
     let command = option(
@@ -507,7 +508,7 @@ fn import_zone<'a>(alloc: Global) -> Result<Command<'a>, AllocError>
 
 /// The same with that of the parts of the input.
 fn import_parts<'a>(alloc: Global) -> Result<Command<'a>, AllocError>
-    ensures { IfOk result (λ c. IsCommand import_parts_shape c) }
+    ensures { IfOk result (λ c. IsCommand shapes.import_parts_shape c) }
 {
     let command = import_zone(alloc)?;
     option(
@@ -520,7 +521,7 @@ fn import_parts<'a>(alloc: Global) -> Result<Command<'a>, AllocError>
 }
 
 fn import_words<'a>(alloc: Global) -> Result<Command<'a>, AllocError>
-    ensures { IfOk result (λ c. IsCommand import_shape c) }
+    ensures { IfOk result (λ c. IsCommand shapes.import_shape c) }
 {
     let command = import_parts(alloc)?;
     let command = option(
@@ -564,7 +565,7 @@ Example: streamjob show savepoint --group 86
 Page: docs/FORMATS.md, under Show";
 
 fn show_words<'a>(alloc: Global) -> Result<Command<'a>, AllocError>
-    ensures { IfOk result (λ c. IsCommand show_shape c) }
+    ensures { IfOk result (λ c. IsCommand shapes.show_shape c) }
 {
     let command = named(alloc, "show", "Print what a savepoint holds", SHOW);
     let command = required(alloc, command, "SAVEPOINT", "File of the savepoint")?;
@@ -586,7 +587,7 @@ Example: streamjob group -- -1 128 4
 Page: docs/FORMATS.md, under Group";
 
 fn group_words<'a>(alloc: Global) -> Result<Command<'a>, AllocError>
-    ensures { IfOk result (λ c. IsCommand group_shape c) }
+    ensures { IfOk result (λ c. IsCommand shapes.group_shape c) }
 {
     let about = "Print the key group of a key and the subtask that owns the group";
     let command = named(alloc, "group", about, GROUP);
@@ -608,7 +609,7 @@ Example: streamjob explain I5
 Page: docs/FAULTS.md, which has them all";
 
 fn explain_words<'a>(alloc: Global) -> Result<Command<'a>, AllocError>
-    ensures { IfOk result (λ c. IsCommand explain_shape c) }
+    ensures { IfOk result (λ c. IsCommand shapes.explain_shape c) }
 {
     let about = "Print what a refusal means, a text that gives it, and what to do";
     let command = named(alloc, "explain", about, EXPLAIN);
@@ -622,7 +623,7 @@ Example: streamjob version
 Page: README.md, under What is trusted";
 
 fn version_words<'a>(alloc: Global) -> Command<'a>
-    ensures { IsCommand version_shape result }
+    ensures { IsCommand shapes.version_shape result }
 {
     named(
         alloc,
@@ -634,7 +635,7 @@ fn version_words<'a>(alloc: Global) -> Command<'a>
 
 /// The program's own words, without its commands.
 fn program_words<'a>(alloc: Global) -> Command<'a>
-    ensures { app_of result ≡ top }
+    ensures { app_of result ≡ shapes.top }
 {
     let about = "Count and sum records by key, in windows of event time";
     named(alloc, "streamjob", about, PROGRAM).subcommand_required(true)
@@ -642,7 +643,7 @@ fn program_words<'a>(alloc: Global) -> Command<'a>
 
 /// The program's words with the commands that run a job.
 fn with_jobs<'a>(alloc: Global) -> Result<Command<'a>, AllocError>
-    ensures { IfOk result (λ c. app_of c ≡ jobs) }
+    ensures { IfOk result (λ c. app_of c ≡ shapes.jobs) }
 {
     program_words(alloc)
         .subcommand(run_words(alloc)?)?
@@ -652,7 +653,7 @@ fn with_jobs<'a>(alloc: Global) -> Result<Command<'a>, AllocError>
 
 /// The same with the commands on plans and inputs.
 fn with_texts<'a>(alloc: Global) -> Result<Command<'a>, AllocError>
-    ensures { IfOk result (λ c. app_of c ≡ texts) }
+    ensures { IfOk result (λ c. app_of c ≡ shapes.texts) }
 {
     with_jobs(alloc)?
         .subcommand(import_words(alloc)?)?
@@ -664,7 +665,7 @@ fn with_texts<'a>(alloc: Global) -> Result<Command<'a>, AllocError>
 
 /// The same with the commands on texts of rows.
 fn with_tables<'a>(alloc: Global) -> Result<Command<'a>, AllocError>
-    ensures { IfOk result (λ c. app_of c ≡ tables) }
+    ensures { IfOk result (λ c. app_of c ≡ shapes.tables) }
 {
     with_texts(alloc)?
         .subcommand(export_words(alloc)?)?
@@ -674,7 +675,7 @@ fn with_tables<'a>(alloc: Global) -> Result<Command<'a>, AllocError>
 
 /// The same with those that show a savepoint and a key's group.
 fn with_views<'a>(alloc: Global) -> Result<Command<'a>, AllocError>
-    ensures { IfOk result (λ c. app_of c ≡ views) }
+    ensures { IfOk result (λ c. app_of c ≡ shapes.views) }
 {
     with_tables(alloc)?
         .subcommand(show_words(alloc)?)?
@@ -687,7 +688,7 @@ fn with_views<'a>(alloc: Global) -> Result<Command<'a>, AllocError>
 ///
 /// Only where memory runs out.
 pub fn command<'a>(alloc: Global) -> Result<Command<'a>, AllocError>
-    ensures { IfOk result (λ c. app_of c ≡ program) }
+    ensures { IfOk result (λ c. app_of c ≡ shapes.program) }
 {
     with_views(alloc)?
         .subcommand(explain_words(alloc)?)?
