@@ -10,16 +10,10 @@ mod layouts;
 #[cfg(test)]
 mod leaving;
 #[cfg(test)]
-mod lists;
-#[cfg(test)]
 mod meeting;
-#[cfg(test)]
-mod parallel;
 #[cfg(test)]
 mod premises;
 #[cfg(test)]
 mod readers;
-#[cfg(test)]
-mod showing;
 #[cfg(test)]
 mod writers;

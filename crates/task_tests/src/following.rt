@@ -112,26 +112,21 @@ fn step_at(
     Ok(steps.get(place).copied())
 }
 
-/// Makes the step of a choice by hand, and has another world, which stands there too, follow the choice: whether there
-/// was one.
-fn follow_one(
+/// Makes the step of a choice by hand: whether there was one.
+fn make_by_hand(
     rt: &(impl AllocGlobal + Abort),
     by_hand: &mut World,
-    followed: &mut World,
     layout: &Layout,
     choice: Choice,
-) -> Result<bool, Fail>
-    requires { followed.old.has_failed ≡ false }
-{
-    follow(rt.alloc(), followed, layout, &[choice])?;
+) -> Result<bool, Fail> {
     let Some(step) = step_at(rt.alloc(), by_hand, layout, choice)? else {
         return Ok(false);
     };
     let answer = by_hand.apply(step);
-    assert!(rt; !matches!(answer, Err(StepFault::NotEnabled)));
-    let after = all_steps(rt.alloc(), by_hand, layout)?;
-    let others = all_steps(rt.alloc(), followed, layout)?;
-    assert!(rt; after == others, "{step:?} at {choice:?}");
+    assert!(rt;
+        !matches!(answer, Err(StepFault::NotEnabled)),
+        "{step:?} at {choice:?}"
+    );
     Ok(true)
 }
 
@@ -152,12 +147,11 @@ fn catch_up(
     Ok(())
 }
 
-/// Follows choices to the end of a leg: by hand, in calls of one choice, and in calls of nine.
+/// Follows choices to the end of a leg: by hand, and in calls of one to nine.
 fn follow_all(
     rt: &(impl AllocGlobal + Abort),
     by_hand: &mut World,
-    one_by_one: &mut World,
-    by_nine: &mut World,
+    followed: &mut World,
     layout: &Layout,
     seed: u32,
 ) -> Result<(), Fail> {
@@ -165,13 +159,13 @@ fn follow_all(
     let mut number = seed;
     for _ in 0..100000 {
         let choice = Choice { number };
-        if one_by_one.has_failed() || by_nine.has_failed() {
+        if followed.has_failed() {
             return Err(AllocError.into());
         }
-        let is_made = follow_one(rt, by_hand, one_by_one, layout, choice)?;
+        let is_made = make_by_hand(rt, by_hand, layout, choice)?;
         choices.push(choice)?;
-        if choices.len() == 9 || !is_made {
-            catch_up(rt, by_nine, by_hand, layout, &choices)?;
+        if choices.len() > number as usize % 9 || !is_made {
+            catch_up(rt, followed, by_hand, layout, &choices)?;
             choices.clear();
         }
         if !is_made {
@@ -232,25 +226,7 @@ struct Leg<'a> {
     case: &'a Case<'a>,
 }
 
-/// Follows choices in a third world beside two: the rows of the third.
-fn follow_third(
-    rt: &(impl AllocGlobal + Abort),
-    leg: Leg<'_>,
-    by_hand: &mut World,
-    one_by_one: &mut World,
-) -> Result<Vec<(i64, i64)>, Fail>
-    requires belongs { BelongsTo leg.given.plan.now leg.given.input.now }
-    requires starts { IsStartIn leg.given.plan.now leg.given.input.now leg.given.start.now }
-    requires laid_out { IsLayoutOf leg.given.plan.now leg.given.layout.now }
-{
-    let layout = leg.given.layout;
-    let stop = stop_at(rt.alloc(), leg.case.stop)?;
-    let mut by_nine = World::new(rt.alloc(), leg.keys, leg.given, stop)?;
-    follow_all(rt, by_hand, one_by_one, &mut by_nine, layout, leg.case.seed)?;
-    Ok(rows_of(rt.alloc(), by_nine)?)
-}
-
-/// Follows choices in a second world and a third beside one: the rows of the third.
+/// Follows choices in a second world beside one: the rows of the second.
 fn follow_second(
     rt: &(impl AllocGlobal + Abort),
     leg: Leg<'_>,
@@ -261,10 +237,9 @@ fn follow_second(
     requires laid_out { IsLayoutOf leg.given.plan.now leg.given.layout.now }
 {
     let stop = stop_at(rt.alloc(), leg.case.stop)?;
-    let mut one_by_one = World::new(rt.alloc(), leg.keys, leg.given, stop)?;
-    let rows = follow_third(rt, leg, by_hand, &mut one_by_one)?;
-    assert!(rt; one_by_one.is_finished());
-    Ok(rows)
+    let mut followed = World::new(rt.alloc(), leg.keys, leg.given, stop)?;
+    follow_all(rt, by_hand, &mut followed, leg.given.layout, leg.case.seed)?;
+    Ok(rows_of(rt.alloc(), followed)?)
 }
 
 /// The rows of one world have come as these.
@@ -279,7 +254,7 @@ fn check_rows(
     Ok(())
 }
 
-/// Follows choices in three worlds of one leg.
+/// Follows choices in two worlds of one leg.
 fn follow_leg(rt: &(impl AllocGlobal + Abort), leg: Leg<'_>) -> Result<(), Fail>
     requires belongs { BelongsTo leg.given.plan.now leg.given.input.now }
     requires starts { IsStartIn leg.given.plan.now leg.given.input.now leg.given.start.now }

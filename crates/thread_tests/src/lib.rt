@@ -10,8 +10,6 @@ mod making;
 #[cfg(test)]
 mod orders;
 #[cfg(test)]
-mod outcomes;
-#[cfg(test)]
 mod rings;
 #[cfg(test)]
 mod wiring;

@@ -1,4 +1,4 @@
-//! Legs of small jobs, on threads and in one, and what they come to.
+//! Legs of small jobs on threads, and what they come to.
 
 ghost use Rattle.std.specs.Prelude.{IfOk};
 ghost use Rattle.layout_rules.specs.Scale.{IsScale};
@@ -9,7 +9,6 @@ ghost use Rattle.task_setups.specs.Legs.{IsLayoutOf};
 use core_steps::Finish;
 use job_texts::{sort_rows, text_of_rows};
 use layout_rules::Scale;
-use leg_runs::run_leg_by;
 use legs::{Cut, LegFault, Stop};
 use logical_plan::ReadPlan;
 use plain_data::Items;
@@ -29,7 +28,7 @@ use std::thread::Threads;
 use std::time::Clock;
 use stream_input::ReadInput;
 use stream_model::Input;
-use thread_runner::{Gate, OpenGate, run_leg};
+use thread_runner::{Gate, run_leg};
 use window_state::HashKeys;
 
 pub const USAGE: &str =
@@ -90,13 +89,6 @@ impl<'a> Case<'a> {
 pub struct Outcome {
     pub rows: String,
     pub savepoint: Option<Vec<u8>>,
-}
-
-impl Outcome {
-    /// Whether the rows and the savepoint are the same.
-    pub fn is(&self, other: &Outcome) -> bool {
-        self.rows == other.rows && self.savepoint == other.savepoint
-    }
 }
 
 fn lines(alloc: Global, rows: Items<Row>, sorts: bool) -> Result<String, AllocError> {
@@ -170,7 +162,7 @@ fn stop_on_threads(
     }
 }
 
-/// Runs a leg on threads, or, where it is not said how, in this one.
+/// Runs a leg on threads.
 fn run_scaled<R: AllocGlobal + RandomSource + Threads + Wait + Clock + Sync, G: Gate>(
     rt: &R,
     plan: &Plan,
@@ -178,21 +170,27 @@ fn run_scaled<R: AllocGlobal + RandomSource + Threads + Wait + Clock + Sync, G: 
     start: &Start,
     scale: &Scale,
     stop: Stop,
-    threads: Option<OnThreads<'_, G>>,
+    threads: OnThreads<'_, G>,
 ) -> Result<Result<Finish, LegFault>, Fail>
     requires belongs { BelongsTo plan.now input.now }
     requires scale { IsScale plan.now scale.now }
     requires starts { IsStartIn plan.now input.now start.now }
 {
     let keys = HashKeys::random(rt)?;
-    let alloc = rt.alloc();
-    Ok(match threads {
-        Some(OnThreads { gate, word }) => {
-            let stop = stop_on_threads(stop, word)?;
-            run_leg(rt, alloc, keys, plan, input, start, scale, &[], stop, gate)
-        }
-        None => run_leg_by(alloc, keys, plan, input, start, scale, &[], stop, &[]),
-    })
+    let OnThreads { gate, word } = threads;
+    let stop = stop_on_threads(stop, word)?;
+    Ok(run_leg(
+        rt,
+        rt.alloc(),
+        keys,
+        plan,
+        input,
+        start,
+        scale,
+        &[],
+        stop,
+        gate,
+    ))
 }
 
 fn run_started<R: AllocGlobal + RandomSource + Threads + Wait + Clock + Sync, G: Gate>(
@@ -201,7 +199,7 @@ fn run_started<R: AllocGlobal + RandomSource + Threads + Wait + Clock + Sync, G:
     input: &Input,
     start: &Start,
     case: &Case<'_>,
-    threads: Option<OnThreads<'_, G>>,
+    threads: OnThreads<'_, G>,
 ) -> Result<Result<Finish, LegFault>, Fail>
     requires belongs { BelongsTo plan.now input.now }
     requires starts { IsStartIn plan.now input.now start.now }
@@ -228,7 +226,7 @@ fn run_input<R: AllocGlobal + RandomSource + Threads + Wait + Clock + Sync, G: G
     plan: &Plan,
     input: &Input,
     case: &Case<'_>,
-    threads: Option<OnThreads<'_, G>>,
+    threads: OnThreads<'_, G>,
 ) -> Result<Result<Finish, LegFault>, Fail>
     requires { BelongsTo plan.now input.now }
 {
@@ -240,7 +238,7 @@ fn run_plan<R: AllocGlobal + RandomSource + Threads + Wait + Clock + Sync, G: Ga
     rt: &R,
     plan: &Plan,
     case: &Case<'_>,
-    threads: Option<OnThreads<'_, G>>,
+    threads: OnThreads<'_, G>,
 ) -> Result<Result<Finish, LegFault>, Fail> {
     let input = Input::read(rt.alloc(), plan, case.input.as_bytes())?;
     run_input(rt, plan, &input, case, threads)
@@ -249,7 +247,7 @@ fn run_plan<R: AllocGlobal + RandomSource + Threads + Wait + Clock + Sync, G: Ga
 fn run<R: AllocGlobal + RandomSource + Threads + Wait + Clock + Sync, G: Gate>(
     rt: &R,
     case: Case<'_>,
-    threads: Option<OnThreads<'_, G>>,
+    threads: OnThreads<'_, G>,
 ) -> Result<Result<Finish, LegFault>, Fail> {
     let plan = Plan::read(rt.alloc(), case.plan.as_bytes())?;
     run_plan(rt, &plan, &case, threads)
@@ -261,16 +259,7 @@ pub fn run_on_threads<R: AllocGlobal + RandomSource + Threads + Wait + Clock + S
     case: Case<'_>,
     gate: &G,
 ) -> Result<Result<Finish, LegFault>, Fail> {
-    run(rt, case, Some(OnThreads { gate, word: None }))
-}
-
-/// Runs a leg in one thread.
-pub fn run_in_one<R: AllocGlobal + RandomSource + Threads + Wait + Clock + Sync>(
-    rt: &R,
-    case: Case<'_>,
-) -> Result<Result<Finish, LegFault>, Fail> {
-    let threads: Option<OnThreads<'_, OpenGate>> = None;
-    run(rt, case, threads)
+    run(rt, case, OnThreads { gate, word: None })
 }
 
 /// What a leg on threads comes to, with its rows sorted.
@@ -293,5 +282,5 @@ pub fn outcome_asked<R: AllocGlobal + RandomSource + Threads + Wait + Clock + Sy
         gate,
         word: Some(word),
     };
-    Ok(outcome_of(rt.alloc(), run(rt, case, Some(threads))??, true)?)
+    Ok(outcome_of(rt.alloc(), run(rt, case, threads)??, true)?)
 }
