@@ -1,8 +1,8 @@
 """A library that stands before the C library and refuses a program's allocations.
 
-It refuses the allocation number REFUSE_AT, counted from 1, and each of REFUSE_FROM bytes or more. What it refused is told by a byte
-written to the file REFUSE_TOLD, so that a run in which nothing was refused is known. How many bytes the program has asked for, and by how
-many allocations, stand in the files ASKED_TOLD and MADE_TOLD.
+It refuses the allocation number REFUSE_AT, counted from 1, and each of REFUSE_FROM bytes or more. What it refused is
+told by a byte written to the file REFUSE_TOLD, so that a run in which nothing was refused is known. How many bytes the
+program has asked for, and by how many allocations, stand in the files ASKED_TOLD and MADE_TOLD.
 """
 import os
 import subprocess
@@ -104,6 +104,7 @@ def make(folder):
 
 
 def environment(library, told, **refused):
-    """The environment in which what is named by REFUSE_AT, REFUSE_FROM, ASKED_TOLD or MADE_TOLD is done, and a refusal is told in a file."""
+    """The environment in which what is named by REFUSE_AT, REFUSE_FROM, ASKED_TOLD or MADE_TOLD is done, and a refusal
+    is told in a file."""
     named = {name: str(value) for name, value in refused.items()}
     return dict(os.environ) | {"LD_PRELOAD": str(library), "REFUSE_TOLD": str(told)} | named

@@ -1,5 +1,6 @@
 #!/usr/bin/env python3
-"""Imports one file with streamjob and, where they are there, with pandas and Miller, and exports the rows of a job; prints what each took.
+"""Imports one file with streamjob and, where they are there, with pandas and Miller, and exports the rows of a job;
+prints what each took.
 
     bench/import/run.py [--program PROGRAM] [--lines N] [--runs N]
 
@@ -8,11 +9,13 @@ The files, of 1,000,000 lines if N does not say else, in a folder of their own t
 - `usage.csv`: a time in ISO 8601, one of 1,000 names, two whole numbers and a decimal, which become the numbers of
   `time:ms,customer:name,status,bytes,seconds:3`. pandas and Miller do the same (`tables.py`, `records.mlr`), and the
   rows of pandas are compared with those of streamjob.
-- `numbers.csv` and `numbers.ndjson`: three whole numbers, of which streamjob has to make the same input; and the first with
-  `--once` of two fields, which sets nothing aside.
-- `rows.txt`: what `run` prints of the job over `numbers.csv`, a row for each line, which `export` writes as CSV and as JSON.
+- `numbers.csv` and `numbers.ndjson`: three whole numbers, of which streamjob has to make the same input; and the first
+  with `--once` of two fields, which sets nothing aside.
+- `rows.txt`: what `run` prints of the job over `numbers.csv`, a row for each line, which `export` writes as CSV and as
+  JSON.
 
-For each, the least CPU time of user and system, and the greatest peak of memory, of 3 runs or as N says. Ends with status 1 if two answers differ.
+For each, the least CPU time of user and system, and the greatest peak of memory, of 3 runs or as N says. Ends with
+status 1 if two answers differ.
 """
 import argparse
 import json
@@ -60,7 +63,8 @@ def made(folder, lines):
 
 
 def peak_of(child):
-    """The most memory in KB that a program which runs has had at once: its own, while what wait4 tells of begins with this script's."""
+    """The most memory in KB that a program which runs has had at once: its own, while what wait4 tells of begins with
+    this script's."""
     with open(f"/proc/{child}/status") as it:
         return next((int(line.split()[1]) for line in it if line.startswith("VmHWM:")), 0)
 

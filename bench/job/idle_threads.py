@@ -2,10 +2,10 @@
 
     idle_threads.py PROGRAM [SECONDS]
 
-It runs `run --parallelism 4` on an input of 1,000,000 records, and as soon as all tasks have a thread it stops one of them by
-ptrace for SECONDS (10), each task in a run of its own: then no other can go on for long, since a ring fills or stays empty.
-After a second, in which they come to rest, it counts what the process has of CPU time in the others, prints it in percent of
-one core, and lets the thread go on: the rows have to be those of a run that nothing held.
+It runs `run --parallelism 4` on an input of 1,000,000 records, and as soon as all tasks have a thread it stops one of
+them by ptrace for SECONDS (10), each task in a run of its own: then no other can go on for long, since a ring fills or
+stays empty. After a second, in which they come to rest, it counts what the process has of CPU time in the others,
+prints it in percent of one core, and lets the thread go on: the rows have to be those of a run that nothing held.
 """
 
 import ctypes

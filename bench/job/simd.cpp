@@ -1,4 +1,5 @@
-// The job of `generate`'s plan by simdjson's on-demand reader, a hash map of the standard library and a sort at the end.
+// The job of `generate`'s plan by simdjson's on-demand reader, a hash map of the standard library and a sort at the
+// end.
 //
 // `simd INPUT SIZE SLIDE`
 

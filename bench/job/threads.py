@@ -6,9 +6,9 @@ RECORDS is a number of records (1000000), and RUNS how often each command runs (
 input and a list of one leg, and runs `run PLAN INPUT LEGS`, which has a thread for each task, and `simulate PLAN INPUT
 LEGS CHOICES` with no choice, which makes the steps of the same tasks in one thread. It ends where their rows differ.
 
-It prints wall and CPU seconds of both, the least of the runs, and what threads took over one thread: of the whole command,
-and of the leg alone, for which the time of a leg in one thread that stops where it begins, having read the input, is taken
-off both. The last cases have all but two of the processors taken away.
+It prints wall and CPU seconds of both, the least of the runs, and what threads took over one thread: of the whole
+command, and of the leg alone, for which the time of a leg in one thread that stops where it begins, having read the
+input, is taken off both. The last cases have all but two of the processors taken away.
 """
 
 import dataclasses
@@ -28,7 +28,8 @@ MOST_CORES = 64
 
 @dataclasses.dataclass
 class Case:
-    """A job at a scale: the subtasks of each source, of a filter that passes all, if there is one, and of the window."""
+    """A job at a scale: the subtasks of each source, of a filter that passes all, if there is one, and of the
+    window."""
 
     sources: list
     window: int
@@ -113,7 +114,8 @@ def run(command, cores, answer):
 
 
 def least(commands, cores, folder):
-    """The least wall and CPU seconds of the runs of each command, by its name. They run in turn, so that a slow minute is one for all."""
+    """The least wall and CPU seconds of the runs of each command, by its name. They run in turn, so that a slow minute
+    is one for all."""
     took = {name: [] for name in commands}
     for _ in range(int(os.environ.get("RUNS", "3"))):
         for name, command in commands.items():

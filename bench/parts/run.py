@@ -41,7 +41,8 @@ def commands_of(parts):
 
 
 def costs_of(program, folder, commands, runs):
-    """What each command took, by its name. They run in turn, so that a slow minute is one for all; `split` finds no parts."""
+    """What each command took, by its name. They run in turn, so that a slow minute is one for all; `split` finds no
+    parts."""
     costs = {name: Cost() for name, _, _ in commands}
     for _ in range(runs):
         for name, words, out in commands:

@@ -1,8 +1,9 @@
 #!/usr/bin/env python3
-"""Writes a savepoint with so many entries of count, sum, least and greatest, and the job that goes on from it: generate.py FOLDER ENTRIES.
+"""Writes a savepoint with so many entries of count, sum, least and greatest, and the job that goes on from it:
+generate.py FOLDER ENTRIES.
 
-Keys are numbered from 0 and each has one window, so that an entry's group is its key's, as Flink's key groups have it. The job has nothing
-left to read but a watermark, so that a leg from the savepoint prints a row for each entry.
+Keys are numbered from 0 and each has one window, so that an entry's group is its key's, as Flink's key groups have it.
+The job has nothing left to read but a watermark, so that a leg from the savepoint prints a row for each entry.
 """
 import json
 import pathlib
@@ -14,8 +15,8 @@ OFFSET = 10
 # How many bytes the index has of a key group, and an entry of four numbers.
 HEAD_SIZE = 18
 ENTRY_SIZE = 24 + 16 * 4
-# The canonical record of the plan: 3 columns, 128 key groups, time and key; windows of 60,000; the source `s`; no filter;
-# count, and sum, least and greatest of column 2; no having condition.
+# The canonical record of the plan: 3 columns, 128 key groups, time and key; windows of 60,000; the source `s`; no
+# filter; count, and sum, least and greatest of column 2; no having condition.
 RECORD = bytes.fromhex(
     "03 0080 00 01  000000000000ea60 000000000000ea60 0000000000000000  01 01 73  00  04 0000 0102 0202 0302  00"
 )

@@ -1,4 +1,5 @@
-//! A plain program that reads and writes the layout of savepoints: plain decode|encode|show|fire TIMES FILE, or plain group TIMES FILE GROUP.
+//! A plain program that reads and writes the layout of savepoints: plain decode|encode|show|fire TIMES FILE, or
+//! plain group TIMES FILE GROUP.
 use std::collections::HashMap;
 use std::io::Write;
 

@@ -20,7 +20,8 @@ def answer(command, files, *words):
 
 
 def run(files, plan, input_, legs=None, choices=None):
-    """The answer of `run`, in one leg, in those of a list, or with `--parallelism N`, and of `simulate`, which has choices as well."""
+    """The answer of `run`, in one leg, in those of a list, or with `--parallelism N`, and of `simulate`, which has
+    choices as well."""
     if legs == "--parallelism":
         return run_parallel(files, plan, input_, choices)
     plan = read_plan(files[plan])
@@ -48,8 +49,9 @@ def run_parallel(files, plan, input_, parallelism):
 
 
 def run_leg(files, plan, input_, scale, *options):
-    """The answer of `leg`, whose options are `--from FILE`, `--saves CUTS`, `--stop CUT`, `--save FILE`, `--stop-file FILE`, which is there from the first or never, and those
-    of receipts, `--since FILE`, `--receipt FILE` and `--names FILE`."""
+    """The answer of `leg`, whose options are `--from FILE`, `--saves CUTS`, `--stop CUT`, `--save FILE`, `--stop-file
+    FILE`, which is there from the first or never, and those of receipts, `--since FILE`, `--receipt FILE` and `--names
+    FILE`."""
     options = dict(zip(options[::2], options[1::2]))
     require("--since" not in options or "--from" in options, "C2 Number")
     require("--names" not in options or "--since" in options or "--receipt" in options, "C2 Number")
@@ -102,7 +104,8 @@ def require_receipt(files, plan, input_, options):
 
 
 def run_told(files, plan, input_, *options):
-    """The answer of `run` with `--receipt FILE`, `--parallelism N` and `--names FILE`; without a receipt there are no names."""
+    """The answer of `run` with `--receipt FILE`, `--parallelism N` and `--names FILE`; without a receipt there are no
+    names."""
     options = dict(zip(options[::2], options[1::2]))
     require("--names" not in options or "--receipt" in options, "C2 Number")
     require_apart(options.get("--receipt"), [plan, input_, options.get("--names")])
@@ -115,7 +118,8 @@ def run_told(files, plan, input_, *options):
 
 
 def show(files, savepoint, *options):
-    """The answer of `show`, whose option is `--group=G` or two words; with it of bytes that begin as a savepoint with an index and are none any other will do."""
+    """The answer of `show`, whose option is `--group=G` or two words; with it of bytes that begin as a savepoint with
+    an index and are none any other will do."""
     if options:
         word = options[-1].removeprefix("--group=")
         require(re.fullmatch(r"[0-9]{1,5}", word, re.ASCII) and int(word) <= 32767, "C2 Number")
@@ -173,7 +177,8 @@ def layout(files, plan, scale):
 
 
 def group_ranges(groups, parallelism):
-    """The first and the last key group of each subtask of the window: group g is of subtask g * parallelism / groups."""
+    """The first and the last key group of each subtask of the window: group g is of subtask g * parallelism /
+    groups."""
     sizes = collections.Counter(group * parallelism // groups for group in range(groups))
     ends = list(itertools.accumulate(sizes[subtask] for subtask in range(parallelism)))
     return [(end - sizes[subtask], end - 1) for subtask, end in enumerate(ends)]

@@ -1,7 +1,8 @@
 """What streamjob has to answer, worked out from the rules of docs/FORMATS.md and docs/FAULTS.md in the plainest way.
 
-Each command is a function of the bytes of its files and of its words. It gives the text of standard output, or raises the Refusal that
-standard error has. Nothing here is made as the program makes it: there are no subtasks, no messages and no order of steps.
+Each command is a function of the bytes of its files and of its words. It gives the text of standard output, or raises
+the Refusal that standard error has. Nothing here is made as the program makes it: there are no subtasks, no messages
+and no order of steps.
 """
 import dataclasses
 import datetime
@@ -309,7 +310,8 @@ def stages_at(plan, value):
 
 
 def level_stages(plan, word):
-    """The stages of the plan at the scale of a number of subtasks: a source has no more than partitions, a filter no more than the source with the most."""
+    """The stages of the plan at the scale of a number of subtasks: a source has no more than partitions, a filter no
+    more than the source with the most."""
     require(re.fullmatch(r"[0-9]{1,5}", word, re.ASCII), "C2 Number")
     number, most = int(word), max(partitions for _, partitions in plan.sources)
     operators = {plan.uid: number} | {uid: min(number, partitions) for uid, partitions in plan.sources} | {uid: min(number, most) for uid, *_ in plan.filters}
@@ -351,7 +353,8 @@ def leg(plan, sources, start, cut):
 
 
 def leg_with_saves(plan, sources, start, saves, cut):
-    """The rows of a leg that takes savepoints at some cuts on its way, in order, what it leaves, and what the last of these savepoints holds, if there is one."""
+    """The rows of a leg that takes savepoints at some cuts on its way, in order, what it leaves, and what the last of
+    these savepoints holds, if there is one."""
     rows, saved = [], None
     for save in saves:
         more, start = leg(plan, sources, start, save)
@@ -382,7 +385,8 @@ def read_cuts(word):
 
 
 def read_time(word):
-    """A number of 64 bits, with a hyphen or none and 1 to 19 digits, or a time of UTC in whole seconds, in milliseconds since 1970."""
+    """A number of 64 bits, with a hyphen or none and 1 to 19 digits, or a time of UTC in whole seconds, in milliseconds
+    since 1970."""
     if re.fullmatch(r"-?[0-9]{1,19}", word, re.ASCII):
         require(-(2**63) <= int(word) < 2**63, "C2 Number")
         return int(word)
@@ -391,7 +395,8 @@ def read_time(word):
 
 
 def read_legs(plan, data):
-    """The cuts of the savepoints on the way of each leg of a list, and the cut where it stops, of which the last may have none."""
+    """The cuts of the savepoints on the way of each leg of a list, and the cut where it stops, of which the last may
+    have none."""
     legs = json_of(data, "L4 NotJson")
     require(IS_LEGS(legs), "L5 Member")
     for leg_of_list in legs:

@@ -91,7 +91,8 @@ def encode(saved):
 
 
 def encode_unindexed(saved):
-    """The bytes of the layout that is read still, in which the entries of a key group stand behind its number and how many they are."""
+    """The bytes of the layout that is read still, in which the entries of a key group stand behind its number and how
+    many they are."""
     groups = (struct.pack(">HQ", group, len(entries)) + entries_field(entries) for group, entries in saved.groups)
     return front(UNINDEXED, saved) + b"".join(groups)
 

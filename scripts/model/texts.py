@@ -188,9 +188,11 @@ def gone_on(chance, plan, bound, entries):
 
 
 def changed_behind(chance, plan, input_, cut, how):
-    """The input with other entries behind a cut wherever a partition does not end there: those that were there put right or left out, and more.
+    """The input with other entries behind a cut wherever a partition does not end there: those that were there put
+    right or left out, and more.
 
-    So that this is not allowed, `how` is `ended`: partitions that end there go on too; or `before`: entries before the cut are put right.
+    So that this is not allowed, `how` is `ended`: partitions that end there go on too; or `before`: entries before the
+    cut are put right.
     """
     bounds = bounds_of(plan)
 
@@ -384,7 +386,8 @@ def another(chance, plan, input_):
 
 
 def json_text(chance, value):
-    """A JSON text of the value: members in any order, now and then one before that is not to count, and any white space."""
+    """A JSON text of the value: members in any order, now and then one before that is not to count, and any white
+    space."""
     def space():
         return chance.choice(["", "", "", "", " ", "\n", "\t "])
 
@@ -429,7 +432,8 @@ def torn_savepoint(chance, data):
 
 
 def misplaced(chance, saved):
-    """The savepoint with another place, or another count of entries, for one of its key groups, or as it is where it has none."""
+    """The savepoint with another place, or another count of entries, for one of its key groups, or as it is where it
+    has none."""
     data, places = savepoints.encode(saved), savepoints.index_places(saved)
     if not places:
         return data

@@ -27,7 +27,8 @@ abbrev pub merge_all : List Kind → List ℤ → List ℤ → List ℤ
 merge_all (k ∷ ks) (x ∷ xs) (y ∷ ys) = merge_by k x y ∷ merge_all ks xs ys
 merge_all ks xs ys = []
 
--- a number that so many records can come to: the count itself, a sum of at most 2^63 for each, or one of the records' numbers
+-- a number that so many records can come to: the count itself, a sum of at most 2^63 for each, or one of the records'
+-- numbers
 abbrev pub is_number : ℕ → Kind → ℤ → Bool
 is_number count Count z = int_eq z (pos count)
 is_number count Sum z = nat_le (unsigned_abs z) (count * 2 ^ 63)

@@ -7,8 +7,8 @@ ghost use Rattle.asked_fields.specs.Asked.{IsAsked};
 use crate::joint::Joint;
 use std::alloc::{AllocError, Global};
 
-/// A field that a column asks for: that of a name, or, where there is none and the name has parts, the texts of all fields that have
-/// these as their names.
+/// A field that a column asks for: that of a name, or, where there is none and the name has parts, the texts of all
+/// fields that have these as their names.
 #[derive(Drop)]
 pub struct AskedField<'w> {
     pub name: &'w str,

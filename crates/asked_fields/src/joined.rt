@@ -17,8 +17,8 @@ fn push_escaped(joined: &mut Vec<u8>, joint: u8, byte: u8) -> Result<(), AllocEr
     Ok(())
 }
 
-/// Puts a text behind others that were put here, each behind a joint. In it a joint and a backslash stand behind a backslash, so that
-/// other texts are never the same together.
+/// Puts a text behind others that were put here, each behind a joint. In it a joint and a backslash stand behind a
+/// backslash, so that other texts are never the same together.
 ///
 /// # Errors
 ///

@@ -1,5 +1,5 @@
-//! The fields that columns ask for: one of a name, or several whose names have a joint between, and whose texts are put together as
-//! one.
+//! The fields that columns ask for: one of a name, or several whose names have a joint between, and whose texts are put
+//! together as one.
 #![tactic(auto)]
 
 mod asked;

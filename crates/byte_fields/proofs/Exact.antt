@@ -1,5 +1,5 @@
--- A format is exact where what is read is spelled so, and what is spelled so is read. Each combinator keeps that, so a layout
--- that is put together of them is exact by its definition alone.
+-- A format is exact where what is read is spelled so, and what is spelled so is read. Each combinator keeps that, so a
+-- layout that is put together of them is exact by its definition alone.
 use Rattle.std.proofs.Common.{◌≡◌, ℕ, zero, suc, ◌-◌, ◌+◌, ◌*◌, ◌/◌, ◌%◌, ◌^◌, ◌<◌, ◌≤◌, ℤ, pos, negsuc, Bool, true, false, cond, ltb, eqb, ◌&&◌, List, [], ◌∷◌, ◌++◌, length, get_or, take, drop, Option, Some, None, Result, Ok, Err, refl, sym, ap, subst, ◌∙◌, append_assoc, arith, inl, inr}
 use Rattle.std.specs.Prelude.{FitsSigned, nat_le, nat_lt, bytes_eq}
 use Rattle.std.proofs.lemmas.Slice.Eq.{bytes_eq-Decides}

@@ -1,4 +1,5 @@
-//! The civil day, month, year, hour and weekday of an instant in a time zone, as whole numbers, and the zones of the system.
+//! The civil day, month, year, hour and weekday of an instant in a time zone, as whole numbers, and the zones of the
+//! system.
 #![tactic(auto)]
 
 mod number;

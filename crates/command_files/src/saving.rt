@@ -37,8 +37,8 @@ pub fn check_apart<R: Files + AllocGlobal>(rt: &R, path: &str) -> Result<(), Job
     }
 }
 
-/// Writes bytes as the whole of the file at a path, and gives what they were written to: whatever happens meanwhile, the file holds
-/// what it held or all of the bytes.
+/// Writes bytes as the whole of the file at a path, and gives what they were written to: whatever happens meanwhile,
+/// the file holds what it held or all of the bytes.
 ///
 /// # Errors
 ///

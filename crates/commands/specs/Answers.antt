@@ -16,7 +16,8 @@ use Rattle.command_files.specs.Files.{CannotRead}
 use Rattle.fault_pages.specs.Pages.{TellsPage, explained}
 use Rattle.user_texts.specs.declared.writing.TextFault.{TextFault}
 
--- what `job_simulate` answers of some plan, input, list of legs and choices, or that one of them, or random numbers for hashes, were not read
+-- what `job_simulate` answers of some plan, input, list of legs and choices, or that one of them, or random numbers for
+-- hashes, were not read
 abbrev pub AnswersSimulate : Result (Unit {0}) JobFault → Type 0
 AnswersSimulate result = CannotRead result ⊎ ((plan : List ℕ) × (input : List ℕ) × (legs : List ℕ) × (choices : List ℕ) × Answers InOneThread (run_said plan input (Some legs) (Some choices)) result None None)
 
@@ -28,7 +29,8 @@ IsQuestion (Some word) true question = question ≡ None
 IsQuestion (Some word) false None = ⊥
 IsQuestion (Some word) false (Some question) = (spelled : Bor (List ℕ)) × (question ≡ Until spelled) × (spelled.now ≡ word)
 
--- what `job_cuts` answers of some plan and input, or that one of them was not read; that there is no such number, where nothing is asked
+-- what `job_cuts` answers of some plan and input, or that one of them was not read; that there is no such number, where
+-- nothing is asked
 abbrev pub AnswersQuestion : Option CutQuestion → Result (Unit {0}) JobFault → Type 0
 AnswersQuestion None result = result ≡ Err Number
 AnswersQuestion (Some question) result = CannotRead result ⊎ ((plan : List ℕ) × (input : List ℕ) × TellsCuts (cuts_said plan input question) result None None)

@@ -17,7 +17,8 @@ use Rattle.fault_places.specs.Answer as places
 use Rattle.command_files.specs.Files.{CannotRead}
 use Rattle.commands.specs.declared.check_words.CheckWords.{CheckWords}
 
--- what checking one text answers, where there is one: Ok where it meets what is asked, else its first fault, unless memory ran out
+-- what checking one text answers, where there is one: Ok where it meets what is asked, else its first fault, unless
+-- memory ran out
 abbrev pub ChecksPart : {F Y : Type 0} → (F → Bool) → (F → JobFault) → (List ℕ → Result Y F) → Option (List ℕ) → Result (Unit {0}) JobFault → Type 0
 ChecksPart is_memory fault_of said None result = result ≡ Ok tt
 ChecksPart {F} is_memory fault_of said (Some bytes) result = (answer : Result (Unit {0}) F) × places.AnswersCheck is_memory (said bytes) answer × (result ≡ as_job fault_of answer)
@@ -34,7 +35,8 @@ begins_by p input scale from stop = and_then (λ i. begins_on p i scale from sto
 abbrev pub begins_said : List ℕ → List ℕ → Option (List ℕ) → Option (List ℕ) → Result LegJob JobFault
 begins_said plan input from stop = and_then (λ p. begins_by p input None from stop) (as_job Plan (plans.plan_of_bytes plan))
 
--- with an input the answer is that of `leg` for the same texts, before its first step; where no scale is named, but for that
+-- with an input the answer is that of `leg` for the same texts, before its first step; where no scale is named, but for
+-- that
 abbrev pub IsAsLeg : List ℕ → List ℕ → Option (List ℕ) → Option (List ℕ) → Option (List ℕ) → Result (Unit {0}) JobFault → Type 0
 IsAsLeg plan input (Some scale) from stop result = BeginsLeg (leg_said plan input scale from (leg_words None stop)) result
 IsAsLeg plan input None from stop result = BeginsLeg (begins_said plan input from stop) result

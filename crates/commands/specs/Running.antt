@@ -18,7 +18,8 @@ are_wrong words = (is_some words.legs && (is_some words.parallelism || is_some w
 abbrev pub overwrite : RunWords → Bool
 overwrite words = is_one_of words.receipt (Some words.plan ∷ Some words.input ∷ words.names ∷ [])
 
--- what `job_run` answers of some plan and input, with a list of legs just where one is named, or that one of them, or random numbers for hashes, were not read; with the word of a parallelism what `job_run_parallel` answers
+-- what `job_run` answers of some plan and input, with a list of legs just where one is named, or that one of them, or
+-- random numbers for hashes, were not read; with the word of a parallelism what `job_run_parallel` answers
 abbrev pub AnswersRows : Bool → Option (List ℕ) → Result (Unit {0}) JobFault → Type 0
 AnswersRows names_legs None result = CannotRead result ⊎ ((plan : List ℕ) × (input : List ℕ) × (legs : Option (List ℕ)) × (is_some legs ≡ names_legs) × Answers OnThreads (run_said plan input legs None) result None None)
 AnswersRows names_legs (Some word) result = CannotRead result ⊎ ((plan : List ℕ) × (input : List ℕ) × Answers OnThreads (parallel_said plan input word) result None None)

@@ -104,14 +104,14 @@ fn run_told<R: Files + Print + RandomSource + Threads + Wait + Clock + Sync + Al
     run_with_receipt(rt, &files, words.parallelism)
 }
 
-/// Prints the rows of a plan on an input, in legs where a list of them is named, or in so many subtasks, and leaves a receipt where a
-/// file is named for it.
+/// Prints the rows of a plan on an input, in legs where a list of them is named, or in so many subtasks, and leaves a
+/// receipt where a file is named for it.
 ///
 /// # Errors
 ///
-/// `Number` where words do not go together: a parallelism or a receipt beside a list of legs, or a table of names without a
-/// receipt; `Write` where the receipt would be written over a file that is read; `Read` where a file cannot be read; else the fault of
-/// `job_run`, or of `job_run_parallel`; `Write` where the receipt cannot be written.
+/// `Number` where words do not go together: a parallelism or a receipt beside a list of legs, or a table of names
+/// without a receipt; `Write` where the receipt would be written over a file that is read; `Read` where a file cannot
+/// be read; else the fault of `job_run`, or of `job_run_parallel`; `Write` where the receipt cannot be written.
 pub fn run<R: Files + Print + RandomSource + Threads + Wait + Clock + Sync + AllocGlobal>(
     rt: &R,
     words: &RunWords<'_>,
@@ -168,7 +168,8 @@ fn question<'a>(until: Option<&'a str>, stays_open: bool) -> Option<CutQuestion<
 ///
 /// # Errors
 ///
-/// `Number` where both a time and an open cut are asked for; `Read` where a file cannot be read, else the fault of `job_cuts`.
+/// `Number` where both a time and an open cut are asked for; `Read` where a file cannot be read, else the fault of
+/// `job_cuts`.
 pub fn cuts<R: Files + Print + AllocGlobal>(
     rt: &R,
     plan: &str,

@@ -22,7 +22,8 @@ pub struct CheckWords<'a> {
 }
 
 impl<'a> CheckWords<'a> {
-    /// Whether words do not go together: a savepoint or a cut is named, and no input that they are of; or two scales are.
+    /// Whether words do not go together: a savepoint or a cut is named, and no input that they are of; or two scales
+    /// are.
     pub(crate) fn are_wrong(&self) -> bool
         ensures { result ≡ are_wrong self.now }
     {

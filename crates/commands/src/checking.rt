@@ -230,8 +230,8 @@ fn restart_of<'r>(from: Option<Text<'r>>, stop: Option<&'r str>) -> Restart<'r>
     }
 }
 
-/// Prints the places at which an input of the plan is refused, or else its scale, or else a leg over it. Of one that is not refused
-/// it notes whether the text is plain.
+/// Prints the places at which an input of the plan is refused, or else its scale, or else a leg over it. Of one that is
+/// not refused it notes whether the text is plain.
 fn check_job<R: Print + AllocGlobal>(
     rt: &R,
     plan: &Plan,
@@ -298,14 +298,16 @@ fn warn_of_texts<R: Print + AllocGlobal>(rt: &R, texts: Texts<'_>, is_plain_inpu
     }
 }
 
-/// Prints the places at which a plan is refused, or else an input of it, or else a scale, where they are named, or else, with an
-/// input, why a leg cannot begin at the savepoint that is named, or stop at the cut; and then the warnings of each text, and of the
-/// words of a leg. Where there is no memory for the answer it prints nothing. Of a file that cannot be read it prints the name.
+/// Prints the places at which a plan is refused, or else an input of it, or else a scale, where they are named, or
+/// else, with an input, why a leg cannot begin at the savepoint that is named, or stop at the cut; and then the
+/// warnings of each text, and of the words of a leg. Where there is no memory for the answer it prints nothing. Of a
+/// file that cannot be read it prints the name.
 ///
 /// # Errors
 ///
-/// `Number` where a savepoint or a cut is named, and no input, or two scales are; `Read` where a file cannot be read; else what `leg` answers before its
-/// first step: the fault of the plan, the input, the scale, the savepoint or the cut, the first of these; `Memory`.
+/// `Number` where a savepoint or a cut is named, and no input, or two scales are; `Read` where a file cannot be read;
+/// else what `leg` answers before its first step: the fault of the plan, the input, the scale, the savepoint or the
+/// cut, the first of these; `Memory`.
 pub fn check<R: Files + Print + AllocGlobal>(rt: &R, words: &CheckWords<'_>) -> Result<(), JobFault>
     ensures { AnswersCheck words.now result }
 {

@@ -25,7 +25,8 @@ pub enum Command<'a> {
     Leg {
         words: LegWords<'a>,
     },
-    /// Print how far the partitions of an input go, or the first cut for a time, or the last that leaves the input open.
+    /// Print how far the partitions of an input go, or the first cut for a time, or the last that leaves the input
+    /// open.
     Cuts {
         plan: &'a str,
         input: &'a str,

@@ -1,5 +1,5 @@
-//! The commit that an installed program is of. For each call of the system a path is copied onto the stack, so functions that
-//! make one have frames of their own.
+//! The commit that an installed program is of. For each call of the system a path is copied onto the stack, so
+//! functions that make one have frames of their own.
 
 use command_files::file;
 use std::fs;

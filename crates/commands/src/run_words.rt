@@ -20,8 +20,8 @@ pub struct RunWords<'a> {
 }
 
 impl RunWords<'_> {
-    /// Whether words do not go together: beside a list of legs, each of which has a scale of its own and some cut to stop at,
-    /// there is no parallelism and no receipt, and a table of names is one of a receipt.
+    /// Whether words do not go together: beside a list of legs, each of which has a scale of its own and some cut to
+    /// stop at, there is no parallelism and no receipt, and a table of names is one of a receipt.
     pub(crate) fn are_wrong(&self) -> bool
         ensures { result ≡ said.are_wrong self.now }
     {

@@ -37,7 +37,8 @@ has_records (Watermark t) = false
 has_records (Barrier n) = false
 has_records End = false
 
--- what a step for which memory was refused leaves of the world v: all of it, but where the step takes a message that message, which is gone from the ring that it stood in, and where it has records the windows of the task that takes it
+-- what a step for which memory was refused leaves of the world v: all of it, but where the step takes a message that
+-- message, which is gone from the ring that it stood in, and where it has records the windows of the task that takes it
 pub record IsLeftAfter (step : Step) (v : flow.World) (w : WorldData) : Type 0 where
   pub left : IsLeft v w
   pub task : left.task ≡ task_of step
@@ -45,7 +46,8 @@ pub record IsLeftAfter (step : Step) (v : flow.World) (w : WorldData) : Type 0 w
   pub sender : (t i : ℕ) → step ≡ Take t i → left.sender ≡ (layout_in w.given).from t i
   pub spoiled : list_any has_records left.lost ≡ false → left.windows ≡ (v.tasks (task_of step)).windows
 
--- just that move is made; or there is none, and nothing has changed; or memory was refused for it, and the world has failed
+-- just that move is made; or there is none, and nothing has changed; or memory was refused for it, and the world has
+-- failed
 abbrev pub StepAnswers : Step → WorldData → WorldData → Result (Unit {0}) StepFault → Type 0
 StepAnswers step old new (Ok x) = (old.has_failed ≡ false) × (new.has_failed ≡ false) × (new.given ≡ old.given) × LeadsTo old step (world_in new)
 StepAnswers step old new (Err NotEnabled) = (old.has_failed ≡ false) × (new ≡ old) × ((next : flow.World) → LeadsTo old step next → ⊥)

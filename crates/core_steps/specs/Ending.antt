@@ -17,7 +17,9 @@ use Rattle.core_steps.specs.declared.finish.Finish.TheVariants.{Ended, Stopped, 
 use Rattle.core_steps.specs.Finishing.{number_after}
 use Rattle.core_steps.specs.declared.sealing.Sealed.{Sealed}
 
--- a leg that was to take these savepoints on its way has sealed this at one of them: all that it owed up to there, so that where its start had the snapshot of its cut, the rows are those that became due from there to the savepoint's cut, each once, and nothing else, and the savepoint is that cut's, numbered after the start's and those before it
+-- a leg that was to take these savepoints on its way has sealed this at one of them: all that it owed up to there, so
+-- that where its start had the snapshot of its cut, the rows are those that became due from there to the savepoint's
+-- cut, each once, and nothing else, and the savepoint is that cut's, numbered after the start's and those before it
 pub record HasSealed (p : PlanData) (i : InputData) (s : StartData) (saves : List (List (List ℕ))) (x : Sealed) : Type 0 where
   pub passed : ℕ
   pub barrier : x.barrier ≡ suc passed
@@ -27,23 +29,29 @@ pub record HasSealed (p : PlanData) (i : InputData) (s : StartData) (saves : Lis
   pub delivered : HasSnapshot p i s → AreRowsOf (due_between p i.sources (offsets_of s) (slice_index_or saves passed [])) x.rows
   pub saved : HasSnapshot p i s → IsSavedAt p i (slice_index_or saves passed []) (s.number + x.barrier) x.savepoint
 
--- a leg that was to take these savepoints on its way has come to its end, and has sealed so: at the last of them, and nothing just where it was to take none
+-- a leg that was to take these savepoints on its way has come to its end, and has sealed so: at the last of them, and
+-- nothing just where it was to take none
 abbrev pub HasSealedLast : PlanData → InputData → StartData → List (List (List ℕ)) → Option Sealed → Type 0
 HasSealedLast p i s saves sealed = MatchOption sealed (saves ≡ []) (λ x. (x.barrier ≡ length saves) × HasSealed p i s saves x)
 
--- a leg that was to go so far has come to a cut and ended there, stopped or not, and where its start had the snapshot of its cut, these are the rows that became due, each once, and nothing else
+-- a leg that was to go so far has come to a cut and ended there, stopped or not, and where its start had the snapshot
+-- of its cut, these are the rows that became due, each once, and nothing else
 pub record HasGone (p : PlanData) (i : InputData) (s : StartData) (until : Until) (stopped : Bool) (rows : List Row) : Type 0 where
   pub cut : List (List ℕ)
   pub comes : ComesTo i (offsets_of s) until stopped cut
   pub delivered : HasSnapshot p i s → AreRowsOf (due_between p i.sources (offsets_of s) cut) rows
 
--- a leg that was to take these savepoints on its way and to go so far ended so: with its rows, and what it has sealed at the last savepoint on its way; stopped, with the savepoint of the cut that it has come to and the next number; or given up, with what it had sealed
+-- a leg that was to take these savepoints on its way and to go so far ended so: with its rows, and what it has sealed
+-- at the last savepoint on its way; stopped, with the savepoint of the cut that it has come to and the next number; or
+-- given up, with what it had sealed
 abbrev pub IsEndOf : PlanData → InputData → StartData → List (List (List ℕ)) → Until → Finish → Type 0
 IsEndOf p i s saves until (Ended rows sealed) = HasGone p i s until false rows × HasSealedLast p i s saves sealed
 IsEndOf p i s saves until (Stopped rows savepoint) = (gone : HasGone p i s until true rows) × (HasSnapshot p i s → IsSavedAt p i gone.cut (number_after s.number saves) savepoint)
 IsEndOf p i s saves until (Abandoned sealed) = HasSealed p i s saves sealed
 
--- a leg that might be asked to stop ended so: with all rows that become due from where its start is to the end of the input, or stopped with just those up to a cut that is no earlier than the start, and the savepoint of that cut with the next number, each where the start had the snapshot of its cut
+-- a leg that might be asked to stop ended so: with all rows that become due from where its start is to the end of the
+-- input, or stopped with just those up to a cut that is no earlier than the start, and the savepoint of that cut with
+-- the next number, each where the start had the snapshot of its cut
 abbrev pub IsAskedEnd : PlanData → InputData → StartData → Finish → Type 0
 IsAskedEnd p i s (Ended rows sealed) = HasSnapshot p i s → AreRowsOf (due_between p i.sources (offsets_of s) (full_cut i.sources)) rows
 IsAskedEnd p i s (Stopped rows savepoint) = (cut : List (List ℕ)) × IsCut i.sources cut × IsBefore (offsets_of s) cut × (HasSnapshot p i s → AreRowsOf (due_between p i.sources (offsets_of s) cut) rows × IsSavedAt p i cut (s.number + 1) savepoint)

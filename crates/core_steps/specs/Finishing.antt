@@ -18,7 +18,8 @@ use Rattle.core_steps.specs.World.{WorldData, world_in, state_at, IsGiven, IsPla
 abbrev pub rows_of : GivenData → (ℕ → State) → List Row
 rows_of g states = (states (layout_in g).sink).rows
 
--- the number of the savepoint that a leg leaves where it stops: it follows the one that the leg went on from, and those at these cuts on its way
+-- the number of the savepoint that a leg leaves where it stops: it follows the one that the leg went on from, and those
+-- at these cuts on its way
 abbrev pub number_after : ℕ → List (List (List ℕ)) → ℕ
 number_after n [] = n + 1
 number_after n (cut ∷ cuts) = number_after (n + 1) cuts
@@ -31,13 +32,15 @@ savepoint_of g states = savepoint_left g.plan g.layout.stages states (number_aft
 abbrev pub has_stopped : GivenData → (ℕ → State) → Bool
 has_stopped g states = nat_lt (length g.saves) (states (layout_in g).sink).next
 
--- how a leg ended with its tasks in these states: it came to its end, with what it has sealed, or it stopped, with the savepoint that they leave
+-- how a leg ended with its tasks in these states: it came to its end, with what it has sealed, or it stopped, with the
+-- savepoint that they leave
 abbrev pub IsFinishOf : GivenData → (ℕ → State) → Finish → Type 0
 IsFinishOf g states (Ended rows sealed) = (has_stopped g states ≡ false) × (rows ≡ rows_of g states) × IsSealed g states sealed
 IsFinishOf g states (Stopped rows savepoint) = (has_stopped g states ≡ true) × (rows ≡ rows_of g states) × (savepoint ≡ savepoint_of g states)
 IsFinishOf g states (Abandoned sealed) = ⊥
 
--- a leg has ended with its tasks in these states, in one world or on threads: what it was given is such as legs are given, and a complete history, which has no order between tasks, leads there from where they began
+-- a leg has ended with its tasks in these states, in one world or on threads: what it was given is such as legs are
+-- given, and a complete history, which has no order between tasks, leads there from where they began
 pub record HasEnded (g : GivenData) (states : ℕ → State) : Type 0 where
   pub given : IsGiven g
   pub history : History g.plan (layout_in g) (start_in g)

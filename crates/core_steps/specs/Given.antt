@@ -13,7 +13,8 @@ use Rattle.redistribute.specs.Laws.{opening_states}
 use Rattle.task_setups.specs.Legs.{counts_of}
 use Rattle.core_steps.specs.declared.given.Given.{Given}
 
--- a plan, its input, the start that the leg begins at, a layout, the cuts at which the leg takes savepoints on its way, and how far it is to go
+-- a plan, its input, the start that the leg begins at, a layout, the cuts at which the leg takes savepoints on its way,
+-- and how far it is to go
 pub record GivenData : Type 0 where
   pub plan : PlanData
   pub input : InputData

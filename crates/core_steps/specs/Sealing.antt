@@ -23,7 +23,8 @@ pub record HavePassed (n : ℕ) (tasks : List TaskData) : Type 0 where
   pub all : All (λ d. n ≤ d.state.next) tasks
   pub last : All (λ d. suc n ≤ d.state.next) tasks → ⊥
 
--- barrier m, counted from 0, is the last that every task has passed: x has the rows that the sink had when it passed it, and the savepoint of what tasks kept there, numbered after the start's
+-- barrier m, counted from 0, is the last that every task has passed: x has the rows that the sink had when it passed
+-- it, and the savepoint of what tasks kept there, numbered after the start's
 pub record IsSealedAt (g : GivenData) (states : ℕ → State) (m : ℕ) (x : Sealed) : Type 0 where
   pub barrier : x.barrier ≡ suc m
   pub aligned : HaveAligned (layout_in g) m states
@@ -49,14 +50,17 @@ pub record AreOnTheWay (g : GivenData) (tasks : List TaskData) : Type 0 where
   pub placed : (t : ℕ) (d : TaskData) → t < task_count g.layout.stages → IsPlaced g.plan g.input ((layout_in g).task t) (slice_index_or tasks t d)
   pub come : HasCome g (state_at g tasks)
 
--- the cut of a leg's barrier m, counted from 0, which is no earlier than where the leg began: of a savepoint on the way the one that it was to be taken at, and of the stop the one that the leg was to stop at
+-- the cut of a leg's barrier m, counted from 0, which is no earlier than where the leg began: of a savepoint on the way
+-- the one that it was to be taken at, and of the stop the one that the leg was to stop at
 pub record IsBarrierCut (g : GivenData) (m : ℕ) (cut : List (List ℕ)) : Type 0 where
   pub is_cut : IsCut g.input.sources cut
   pub no_earlier : IsBefore (offsets_of g.start) cut
   pub on_the_way : m < length g.saves → cut ≡ slice_index_or g.saves m []
   pub at_the_stop : (end : List (List ℕ)) → length g.saves ≤ m → g.until ≡ ToCut end → cut ≡ end
 
--- what was sealed is all that the leg owes up to its barrier's cut: every task has put the barrier on each of its outputs, and where the start had the snapshot of its cut, the rows are those that became due from there to the barrier's, each once, and the savepoint is that cut's
+-- what was sealed is all that the leg owes up to its barrier's cut: every task has put the barrier on each of its
+-- outputs, and where the start had the snapshot of its cut, the rows are those that became due from there to the
+-- barrier's, each once, and the savepoint is that cut's
 pub record IsSealOf (g : GivenData) (states : ℕ → State) (x : Sealed) : Type 0 where
   pub passed : ℕ
   pub barrier : x.barrier ≡ suc passed

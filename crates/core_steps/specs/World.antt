@@ -45,7 +45,8 @@ held r s t = reverse (queue_at r s t).messages
 abbrev pub world_in : WorldData → flow.World
 world_in w = record { tasks = state_at w.given w.tasks; rings = held w.rings }
 
--- a plan and an input that were read, of which the layout and the start are, and the leg can go as far as it is to and take its savepoints on the way
+-- a plan and an input that were read, of which the layout and the start are, and the leg can go as far as it is to and
+-- take its savepoints on the way
 pub record IsGiven (g : GivenData) : Type 0 where
   pub plan : IsPlan g.plan
   pub input : IsInput g.input
@@ -81,7 +82,8 @@ pub record IsBuilt (w : WorldData) : Type 0 where
   pub rings : w.rings.tasks ≡ task_count w.given.layout.stages
   pub room : (s j : ℕ) → s < task_count w.given.layout.stages → j < length (outputs_of w.given.layout.stages s) → w.given.layout.capacity ≤ (queue_at w.rings s (slice_index (outputs_of w.given.layout.stages s) j)).room
 
--- a world that has failed is the world v in the abstract, but for the windows of one task that is not over, and for at most the oldest message of one ring to it
+-- a world that has failed is the world v in the abstract, but for the windows of one task that is not over, and for at
+-- most the oldest message of one ring to it
 pub record IsLeft (v : flow.World) (w : WorldData) : Type 0 where
   pub task : ℕ
   pub there : task < length w.tasks

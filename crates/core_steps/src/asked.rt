@@ -19,9 +19,9 @@ use task_setups::Leg;
 use task_steps::Task;
 use window_state::HashKeys;
 
-/// The tasks of a leg that begins at a start and may be asked to stop at any time, in order: each source reads up to the ends of
-/// its partitions, could stop wherever it is open, and could close at those ends. The panes of the windows are hashed by the
-/// keys.
+/// The tasks of a leg that begins at a start and may be asked to stop at any time, in order: each source reads up to
+/// the ends of its partitions, could stop wherever it is open, and could close at those ends. The panes of the windows
+/// are hashed by the keys.
 ///
 /// The layout is one of the plan, the input was read by it, and the start is one of the input.
 ///

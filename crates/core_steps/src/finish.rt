@@ -25,7 +25,8 @@ use task_steps::{Moment, Task};
 /// How a leg ended, with the rows that it delivered, in the order in which they came.
 #[derive(Drop)]
 pub enum Finish {
-    /// It came to the end of its input, with what it has sealed at the last of its savepoints on the way, if it took any.
+    /// It came to the end of its input, with what it has sealed at the last of its savepoints on the way, if it took
+    /// any.
     Ended(Items<Row>, Option<Sealed>),
     /// It stopped at a cut, and leaves the savepoint of there.
     Stopped(Items<Row>, Savepoint),
@@ -42,7 +43,8 @@ fn sink_rows(tasks: Vec<Task>) -> Items<Row>
     Items::from_vec(tasks.pop().unwrap().into_rows())
 }
 
-/// Whether the last task, which is the sink, has passed the barrier of a stop: one more than so many savepoints on the way have.
+/// Whether the last task, which is the sink, has passed the barrier of a stop: one more than so many savepoints on the
+/// way have.
 fn has_stopped(tasks: &[Task], saves: usize) -> bool
     requires { 0 < length tasks.now }
     ensures { (t : ℕ) (d : TaskData) → suc t ≡ length tasks.now → result ≡ nat_lt saves (slice_index_or tasks.now t d).state.next }
@@ -53,13 +55,13 @@ fn has_stopped(tasks: &[Task], saves: usize) -> bool
     }
 }
 
-/// How a leg ended whose tasks stand at the end of a complete history, in whatever order and in whatever threads they made
-/// their steps: with the rows that its sink has collected and, where the sink has passed the barrier of a stop, with the savepoint
-/// that its tasks leave at the cut that they have come to, numbered after the one that the leg went on from and those that it
-/// took on its way; else with what it has sealed at the last of those, if it took any.
+/// How a leg ended whose tasks stand at the end of a complete history, in whatever order and in whatever threads they
+/// made their steps: with the rows that its sink has collected and, where the sink has passed the barrier of a stop,
+/// with the savepoint that its tasks leave at the cut that they have come to, numbered after the one that the leg went
+/// on from and those that it took on its way; else with what it has sealed at the last of those, if it took any.
 ///
-/// The tasks are those of the layout, in their order, and all are done. The layout is one of the plan, the input was read by it,
-/// the start is one of the input, and the leg could take its savepoints and go so far.
+/// The tasks are those of the layout, in their order, and all are done. The layout is one of the plan, the input was
+/// read by it, the start is one of the input, and the leg could take its savepoints and go so far.
 ///
 /// # Errors
 ///

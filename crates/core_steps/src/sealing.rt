@@ -17,13 +17,13 @@ use savepoint_codec::Savepoint;
 use std::alloc::{AllocError, Global};
 use task_steps::{Moment, Task};
 
-/// What a leg has sealed at a moment: the savepoint of its last complete barrier, which every task has passed, and the rows
-/// that the sink had taken before it passed that barrier. However the leg goes on from there, or if it is given up, a leg
-/// from this savepoint delivers all rows that became due later, and none of these.
+/// What a leg has sealed at a moment: the savepoint of its last complete barrier, which every task has passed, and the
+/// rows that the sink had taken before it passed that barrier. However the leg goes on from there, or if it is given
+/// up, a leg from this savepoint delivers all rows that became due later, and none of these.
 #[derive(Drop)]
 pub struct Sealed {
-    /// Which of the leg's barriers that is, counted from 1: those of its savepoints on the way come first, that of its stop
-    /// last.
+    /// Which of the leg's barriers that is, counted from 1: those of its savepoints on the way come first, that of its
+    /// stop last.
     pub barrier: u64,
     /// The rows, in the order in which they came.
     pub rows: Items<Row>,
@@ -52,12 +52,12 @@ fn rows_then(alloc: Global, tasks: &[Task], at: Moment) -> Result<Items<Row>, Al
     Ok(Items::from_vec(sink.rows(alloc, at)?))
 }
 
-/// What a leg has sealed whose tasks stand so, in whatever order and in whatever threads they made their steps; `None` where
-/// no barrier is complete.
+/// What a leg has sealed whose tasks stand so, in whatever order and in whatever threads they made their steps; `None`
+/// where no barrier is complete.
 ///
-/// The tasks are those of the layout, in their order. The layout is one of the plan, the input was read by it, the start is one
-/// of the input, and the leg could take its savepoints and go so far. A consistent history leads to where the tasks stand; a
-/// task for which memory was refused may have lost what stands in its windows now.
+/// The tasks are those of the layout, in their order. The layout is one of the plan, the input was read by it, the
+/// start is one of the input, and the leg could take its savepoints and go so far. A consistent history leads to where
+/// the tasks stand; a task for which memory was refused may have lost what stands in its windows now.
 ///
 /// # Errors
 ///

@@ -69,14 +69,14 @@ impl<'a> World<'a> {
     ghost use Rattle.core_steps.specs.Answers.{LeadsTo, CanMake, StepAnswers};
     ghost use Rattle.core_steps.specs.RingSteps.{IsPuttable, IsTakeable};
 
-    /// The world of a leg as it opens: each task has done nothing but begin with its part of the start, and all rings are
-    /// empty. The layout is one of the plan, the input was read by it, and the start is one of the input. The panes of the
-    /// windows are hashed by the keys.
+    /// The world of a leg as it opens: each task has done nothing but begin with its part of the start, and all rings
+    /// are empty. The layout is one of the plan, the input was read by it, and the start is one of the input. The panes
+    /// of the windows are hashed by the keys.
     ///
     /// # Errors
     ///
-    /// `StopRange` where a leg from the start cannot stop so, else `SaveRange` where it cannot take its savepoints on the way
-    /// there, else `Memory` where memory runs out.
+    /// `StopRange` where a leg from the start cannot stop so, else `SaveRange` where it cannot take its savepoints on
+    /// the way there, else `Memory` where memory runs out.
     pub fn new(
         alloc: Global,
         keys: HashKeys,
@@ -116,8 +116,8 @@ impl<'a> World<'a> {
     ///
     /// # Errors
     ///
-    /// `NotEnabled` where there is no such step now, and nothing has changed; `Memory` where there is one, but no memory
-    /// for it; `Failed` in a world that has failed so.
+    /// `NotEnabled` where there is no such step now, and nothing has changed; `Memory` where there is one, but no
+    /// memory for it; `Failed` in a world that has failed so.
     pub fn apply(&mut self, step: Step) -> Result<(), StepFault>
         ensures { StepAnswers step self.old self.new result }
     {
@@ -187,8 +187,8 @@ impl<'a> World<'a> {
     ///
     /// # Errors
     ///
-    /// `NotEnabled` where there is no such step now, and nothing has changed; `Memory` where there is one, but no memory
-    /// for it; `Failed` in a world that has failed so.
+    /// `NotEnabled` where there is no such step now, and nothing has changed; `Memory` where there is one, but no
+    /// memory for it; `Failed` in a world that has failed so.
     fn read(&mut self, task: u32, partition: u32) -> Result<(), StepFault>
         ensures { StepAnswers (asked.Read task partition) self.old self.new result }
     {
@@ -208,8 +208,8 @@ impl<'a> World<'a> {
     ///
     /// # Errors
     ///
-    /// `NotEnabled` where there is no such step now, and nothing has changed; `Memory` where there is one, but no memory
-    /// for it; `Failed` in a world that has failed so.
+    /// `NotEnabled` where there is no such step now, and nothing has changed; `Memory` where there is one, but no
+    /// memory for it; `Failed` in a world that has failed so.
     fn save(&mut self, task: u32) -> Result<(), StepFault>
         ensures { StepAnswers (asked.Save task) self.old self.new result }
     {
@@ -298,8 +298,8 @@ impl<'a> World<'a> {
     ///
     /// # Errors
     ///
-    /// `NotEnabled` where there is no such step now, and nothing has changed; `Memory` where there is one, but no memory
-    /// for it; `Failed` in a world that has failed so.
+    /// `NotEnabled` where there is no such step now, and nothing has changed; `Memory` where there is one, but no
+    /// memory for it; `Failed` in a world that has failed so.
     fn take(&mut self, task: u32, input: u32) -> Result<(), StepFault>
         ensures { StepAnswers (asked.Take task input) self.old self.new result }
     {
@@ -397,9 +397,9 @@ impl<'a> World<'a> {
         *has_failed
     }
 
-    /// What the leg has sealed by the steps that it has made, also where a step found no memory: the savepoint of the last
-    /// barrier that every task has passed, and the rows that the sink had before it; `None` where there is no such barrier. Where
-    /// a step found no memory, that barrier is one of a savepoint on the leg's way.
+    /// What the leg has sealed by the steps that it has made, also where a step found no memory: the savepoint of the
+    /// last barrier that every task has passed, and the rows that the sink had before it; `None` where there is no such
+    /// barrier. Where a step found no memory, that barrier is one of a savepoint on the leg's way.
     ///
     /// # Errors
     ///
@@ -412,8 +412,8 @@ impl<'a> World<'a> {
         sealed_of(alloc, self.given, &self.leg.until, self.tasks.as_slice())
     }
 
-    /// How the leg ended, with the rows that it has delivered and the savepoint that it leaves where it stopped; `None` where
-    /// not every task is done, or the world has failed.
+    /// How the leg ended, with the rows that it has delivered and the savepoint that it leaves where it stopped; `None`
+    /// where not every task is done, or the world has failed.
     ///
     /// # Errors
     ///

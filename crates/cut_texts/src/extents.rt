@@ -59,9 +59,9 @@ fn push_source(
     push_extents(text, source.uid.as_str(), extents.as_slice())
 }
 
-/// A line for each partition of each source, in the order of the plan: the source and the partition's number from 0, how many entries
-/// and records it has, the least and the greatest time of these, and its greatest watermark. There is a list of extents for each
-/// source.
+/// A line for each partition of each source, in the order of the plan: the source and the partition's number from 0,
+/// how many entries and records it has, the least and the greatest time of these, and its greatest watermark. There is
+/// a list of extents for each source.
 ///
 /// # Errors
 ///

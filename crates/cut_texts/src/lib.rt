@@ -1,5 +1,5 @@
-//! The texts of cuts: the word that spells one, as it is read where a leg is to stop; the time that a word spells; and how far the
-//! partitions of an input go.
+//! The texts of cuts: the word that spells one, as it is read where a leg is to stop; the time that a word spells; and
+//! how far the partitions of an input go.
 #![tactic(auto)]
 
 mod extents;

@@ -45,8 +45,8 @@ fn text_of_sources(alloc: Global, sources: &[Items<u64>]) -> Result<String, Allo
     Ok(text)
 }
 
-/// The word that spells a cut, as `2,2/5`: for each source in plan order the counts of its partitions, with commas between counts
-/// and a `/` between sources.
+/// The word that spells a cut, as `2,2/5`: for each source in plan order the counts of its partitions, with commas
+/// between counts and a `/` between sources.
 ///
 /// # Errors
 ///

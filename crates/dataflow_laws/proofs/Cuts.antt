@@ -23,7 +23,8 @@ use Rattle.dataflow_model.proofs.Facts.{given_put, given_spread, free_is, get_fr
 use Rattle.dataflow_laws.proofs.Reader.{width_of, only_route_of}
 use Rattle.dataflow_laws.proofs.Ends.{is_final, ended, Closed, HasEnds, IsIdle, not_over, ended_batch, ended_fired, told_ended, both_ended, given_ended, aligned_by}
 
--- what has come on an input, by how it stands: no barrier from n on, or barrier n or an end at last. Barriers are counted from f
+-- what has come on an input, by how it stands: no barrier from n on, or barrier n or an end at last. Barriers are
+-- counted from f
 abbrev pub Waiting : ℕ → Shut → ℕ → List Message → Type 0
 Waiting f Free n log = (m : ℕ) → n ≤ m → ended (f + m) log ≡ false
 Waiting f Held n log = (before : List Message) × (log ≡ Barrier (f + n) ∷ before) × ((m : ℕ) → n ≤ m → ended (f + m) before ≡ false)

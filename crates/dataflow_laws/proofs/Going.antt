@@ -232,7 +232,8 @@ module _ (p : PlanData) (l : AbstractLayout) (capacity : ℕ) (start : ℕ → S
             ])
       ]
 
-  -- the sender of an empty ring, whose receiver has taken as many barriers as the busy tasks have put at least, and waits on
+  -- the sender of an empty ring, whose receiver has taken as many barriers as the busy tasks have put at least, and
+  -- waits on
   empty_ring : (n s t : ℕ) → l.ring s t ≡ true → Fewest n → ((u : ℕ) → u < suc l.sink → sending n u ≡ false) → first_stage n s ≡ false → w.rings s t ≡ [] → passed (log_in s t) ≡ n → has_ended (l.task t) (log_in s t) ≡ false → ⊥
   empty_ring n s t rg few none off none_there ps open_yet =
       let en = ring_ends p l start w ok b input r s t rg in

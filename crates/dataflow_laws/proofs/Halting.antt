@@ -94,7 +94,8 @@ pub record IsClosed (k : AbstractTask) (s : State) : Type 0 where
   pub ending : k.ending ≡ AtCut → ⊥
   pub read : (q : ℕ) → q < k.inputs → get_or s.offsets q 0 ≡ k.limit k.saves q
 
--- a task that goes on has not passed the barrier of the stop; of one that is over and has not, all inputs have ended, or it has closed
+-- a task that goes on has not passed the barrier of the stop; of one that is over and has not, all inputs have ended,
+-- or it has closed
 pub record Halts (k : AbstractTask) (es : List Event) (s : State) : Type 0 where
   pub few : s.next ≤ barriers k
   pub going : s.over ≡ false → s.next ≤ k.saves
@@ -279,7 +280,8 @@ module _ (p : PlanData) (l : AbstractLayout) (start : ℕ → State) (ok : IsLay
   ]
 
   module _ (complete : IsComplete h) where
-    -- a task that has not passed the barrier of the stop has got an end on each input, and so none from a sender that has passed it
+    -- a task that has not passed the barrier of the stop has got an end on each input, and so none from a sender that
+    -- has passed it
     sender : (s t : ℕ) → l.ring s t ≡ true → (h.end t).next ≤ (l.task t).saves → (h.end s).next ≤ (l.task s).saves
     sender s t r few =
         let bd = ring_bound l ok s t r in

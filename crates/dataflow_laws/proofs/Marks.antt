@@ -176,7 +176,8 @@ once_each n m j = elim (cases_lt j n) [
   | inr l ↦ (let e = ap length (only_past n (λ j. m ∷ []) j l) in omega (arith, e))
 ]
 
--- how many barriers a task with so many behind it has put on each output, at least, and on that of its first pending message
+-- how many barriers a task with so many behind it has put on each output, at least, and on that of its first pending
+-- message
 abbrev pub turn : List (ℕ × Message) → ℕ → ℕ
 turn [] n = n
 turn (x ∷ ps) n = cond (is_barrier x.1) (n - 1) n

@@ -1,4 +1,5 @@
--- What the rings of a leg carry at every moment, whatever the order of its steps: watermarks and records in their order.
+-- What the rings of a leg carry at every moment, whatever the order of its steps: watermarks and records in their
+-- order.
 use Rattle.std.specs.Prelude.{◌≡◌, ℕ, ◌<◌, ◌≤◌, ℤ, ◌≤ℤ◌, ◌<ℤ◌, List, [], ◌∷◌, slice_index_or, true, if◌then◌else◌}
 use Rattle.std.specs.Int.{int_max}
 use Rattle.std.specs.List.{All}
@@ -49,7 +50,8 @@ told_watermark Chain s = task_watermark s
 told_watermark Window s = task_watermark s
 told_watermark Sink s = task_watermark s
 
--- what was put on a ring or is pending for it, and what was taken from it, keep the sender's watermark for the receiver's input
+-- what was put on a ring or is pending for it, and what was taken from it, keep the sender's watermark for the
+-- receiver's input
 pub record KeepsWatermark (p : PlanData) (l : AbstractLayout) {start : ℕ → State} (h : History p l start) (s t : ℕ) : Type 0 where
   -- the sender has told its merged watermark
   pub told : mark_of (given (l.out_at s t) (h.steps s) (h.end s)) ≡ told_watermark (l.task s).role (h.end s)
@@ -60,12 +62,14 @@ pub record KeepsWatermark (p : PlanData) (l : AbstractLayout) {start : ℕ → S
   pub sent_in_order : IsInOrder p.window.time (given (l.out_at s t) (h.steps s) (h.end s))
   pub taken_in_order : IsInOrder p.window.time (taken (l.in_at s t) (h.steps t))
 
--- so it is of each ring that leads to a task before the sink, be it forward, by turns or by key, at every moment of a leg; and of each partition a source has the watermark of the entries that it has read
+-- so it is of each ring that leads to a task before the sink, be it forward, by turns or by key, at every moment of a
+-- leg; and of each partition a source has the watermark of the entries that it has read
 abbrev pub EdgesKeepWatermarks : Type 0
 EdgesKeepWatermarks = (p : PlanData) (l : AbstractLayout) (start : ℕ → State) → IsLayout l → AreOrderlySources p l → IsOneLeg l start → AreOpenings p l start → (h : History p l start)
     → HaveWatermarks l (λ t. (h.end t).inputs.marks) (cut_of h.end) × ((s t : ℕ) → t < l.sink → l.ring s t ≡ true → KeepsWatermark p l h s t)
 
--- so at every moment a window task's watermark is at most that of the cut that was read, and once all tasks are done it is that
+-- so at every moment a window task's watermark is at most that of the cut that was read, and once all tasks are done it
+-- is that
 abbrev pub WindowsHaveTheWatermark : Type 0
 WindowsHaveTheWatermark = (p : PlanData) (l : AbstractLayout) (start : ℕ → State) (w v : ℤ) → IsLayout l → AreOrderlySources p l → IsOneLeg l start → IsStart p l start w
     → (h : History p l start) → IsMergedWatermark l (cut_of h.end) v → (u : ℕ) → l.before ≤ u → u < l.sink → (task_watermark (h.end u) ≤ℤ v) × (IsComplete h → task_watermark (h.end u) ≡ v)

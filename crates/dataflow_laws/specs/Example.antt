@@ -1,4 +1,5 @@
--- A small leg of any plan: one source with one partition of two entries, one window task and the sink, with a savepoint after the first entry and a stop after the second.
+-- A small leg of any plan: one source with one partition of two entries, one window task and the sink, with a savepoint
+-- after the first entry and a stop after the second.
 use Rattle.std.specs.Prelude.{ℕ, zero, suc, ◌==◌, ℤ, pos, [], ◌∷◌, replicate, Bool, true, false}
 use Rattle.std.specs.FinMap.{empty}
 use Rattle.plain_data.specs.Times.{lowest, highest}

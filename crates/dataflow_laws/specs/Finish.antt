@@ -15,7 +15,8 @@ pub data Leads (p : PlanData) (l : AbstractLayout) (capacity : ℕ) : World → 
   stays : {w : World} → Leads p l capacity w w
   goes : {w : World} {t : ℕ} {e : Event} {w' w'' : World} → Move p l capacity w t e w' → Leads p l capacity w' w'' → Leads p l capacity w w''
 
--- from wherever a history of such a leg ends, at every capacity of at least 1, moves lead to where all tasks are done, and a history ends there
+-- from wherever a history of such a leg ends, at every capacity of at least 1, moves lead to where all tasks are done,
+-- and a history ends there
 abbrev pub WorldsFinish : Type 0
 WorldsFinish = (p : PlanData) (l : AbstractLayout) (capacity : ℕ) (start : ℕ → State) (w : World) → IsLayout l → 0 < capacity → IsLegStart p l start → IsAdmittedInput p l → IsEnd p l start w → (w' : World) × Leads p l capacity w w' × IsFinished l w' × IsEnd p l start w'
 

@@ -33,7 +33,10 @@ rows_given (m ∷ log) = rows_given log ++ rows_of m
 abbrev pub IsNotBefore : AbstractLayout → (ℕ → State) → (ℕ → ℕ → ℕ) → Type 0
 IsNotBefore l states cut = (t q : ℕ) → t < l.before → (l.task t).role ≡ Source → q < (l.task t).inputs → (cut_of states t q ≤ cut t q) × (cut t q ≤ (l.task t).size q)
 
--- at every moment of a leg that began at watermark w, a window task has given of each pane whose key it owns: nothing before its own watermark has come to the window's end, and from then on just the row of all its records, once: those that were read so far, and as well those up to any later cut, since none is to come. Of a pane that another task owns, or that was due at the start, it gives nothing
+-- at every moment of a leg that began at watermark w, a window task has given of each pane whose key it owns: nothing
+-- before its own watermark has come to the window's end, and from then on just the row of all its records, once: those
+-- that were read so far, and as well those up to any later cut, since none is to come. Of a pane that another task
+-- owns, or that was due at the start, it gives nothing
 abbrev pub WindowsFireOnce : Type 0
 WindowsFireOnce = (p : PlanData) (l : AbstractLayout) (start : ℕ → State) (w : ℤ) → IsLayout l → AreOrderlySources p l → IsOneLeg l start → IsStart p l start w
     → (h : History p l start) (cut : ℕ → ℕ → ℕ) → IsNotBefore l h.end cut → (u : ℕ) → l.before ≤ u → u < l.sink → (q : Pane)

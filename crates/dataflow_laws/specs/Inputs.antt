@@ -21,7 +21,8 @@ use Rattle.dataflow_laws.specs.Legs.{AreAt, HaveMarks, JobLeg, Legs, leg_rows, c
 use Rattle.dataflow_laws.specs.Admission.{IsAdmittedInput}
 use Rattle.input_flow.specs.InputEntries.{input_of, counts_at}
 
--- whatever layout deals an input, its entries are admitted: they have the plan's width and times in range, and at most 2^40 records
+-- whatever layout deals an input, its entries are admitted: they have the plan's width and times in range, and at most
+-- 2^40 records
 abbrev pub InputIsAdmitted : Type 0
 InputIsAdmitted = (p : PlanData) (i : InputData) (leg : Leg) (l : AbstractLayout) → IsInput i → BelongsTo p i → Deals (input_of p i) leg l → IsAdmittedInput p l
 
@@ -29,12 +30,15 @@ InputIsAdmitted = (p : PlanData) (i : InputData) (leg : Leg) (l : AbstractLayout
 abbrev pub due_between : PlanData → List (List (List Marked)) → List (List ℕ) → List (List ℕ) → Pane → Option Row
 due_between p sources b c q = if is_due p.window (merged_watermark sources b) q.start then None else due_rows p sources c q
 
--- tasks have read the input up to a cut, and what stands in their windows is the snapshot of that cut, each pane at the window task that owns its key
+-- tasks have read the input up to a cut, and what stands in their windows is the snapshot of that cut, each pane at the
+-- window task that owns its key
 pub record HaveCut (p : PlanData) (i : InputData) (l : AbstractLayout) (states : ℕ → State) (cut : List (List ℕ)) : Type 0 where
   pub offsets : AreAt (input_of p i) l states (counts_at p cut)
   pub windows : AtOwners l (λ u. (states u).windows) (snapshot p i.sources cut)
 
--- a leg whose tasks open with the snapshot of a cut and come to another delivers the rows that become due between them, each once, and nothing else, and leaves the snapshot of the other with its watermarks, whatever its layout and the order of steps
+-- a leg whose tasks open with the snapshot of a cut and come to another delivers the rows that become due between them,
+-- each once, and nothing else, and leaves the snapshot of the other with its watermarks, whatever its layout and the
+-- order of steps
 abbrev pub LegDelivers : Type 0
 LegDelivers = (p : PlanData) (i : InputData) (b c : List (List ℕ)) (g : JobLeg p (input_of p i)) → IsInput i → IsOrderly i.time i.sources → BelongsTo p i → IsCut i.sources b → IsCut i.sources c
     → AreOpenings p g.layout g.start → HaveCut p i g.layout g.start b → AreAt (input_of p i) g.layout g.history.end (counts_at p c)
@@ -44,7 +48,8 @@ LegDelivers = (p : PlanData) (i : InputData) (b c : List (List ℕ)) (g : JobLeg
 abbrev pub GoesTo : PlanData → InputData → AbstractLayout → List (List ℕ) → Type 0
 GoesTo p i l cut = (t k : ℕ) → t < l.before → (l.task t).role ≡ Source → k < (l.task t).inputs → leg_cut l t k ≡ counts_at p cut (partition_read (input_of p i) l t k)
 
--- at every moment of a leg that opens with the snapshot of a cut and goes to another, its sink has of each pane nothing, or just the row that becomes due between them
+-- at every moment of a leg that opens with the snapshot of a cut and goes to another, its sink has of each pane
+-- nothing, or just the row that becomes due between them
 abbrev pub SoFarDelivers : Type 0
 SoFarDelivers = (p : PlanData) (i : InputData) (b c : List (List ℕ)) (leg : Leg) (l : AbstractLayout) (start : ℕ → State) → IsInput i → IsOrderly i.time i.sources → BelongsTo p i → IsCut i.sources b → IsCut i.sources c
     → IsLayout l → Deals (input_of p i) leg l → IsOneLeg l start → AreOpenings p l start → HaveCut p i l start b → GoesTo p i l c → (h : History p l start) → (q : Pane)

@@ -39,7 +39,8 @@ rows_kept m s = take (kept_at m s).rows s.rows
 abbrev pub SavesAt : PlanData → InputData → AbstractLayout → ℕ → List (List ℕ) → Type 0
 SavesAt p i l m cut = (t k : ℕ) → t < l.before → (l.task t).role ≡ Source → k < (l.task t).inputs → save_cut l m t k ≡ counts_at p cut (partition_read (input_of p i) l t k)
 
--- tasks have kept what a savepoint at a cut holds, and the sink the rows that became due from another cut to there, each once
+-- tasks have kept what a savepoint at a cut holds, and the sink the rows that became due from another cut to there,
+-- each once
 pub record HaveKept (p : PlanData) (i : InputData) (l : AbstractLayout) (b cut : List (List ℕ)) (m : ℕ) (states : ℕ → State) : Type 0 where
   pub rows : AreRowsOf (due_between p i.sources b cut) (rows_kept m (states l.sink))
   pub snapshot : HaveCut p i l (λ t. kept_state m (states t)) cut
@@ -61,7 +62,8 @@ abbrev pub has_barrier : ℕ → List Message → Bool
 has_barrier n [] = false
 has_barrier n (m ∷ log) = if is_barrier n m then true else has_barrier n log
 
--- a history has come past barrier m, counted from 0: every task has aligned on it, and has put it on each of its outputs
+-- a history has come past barrier m, counted from 0: every task has aligned on it, and has put it on each of its
+-- outputs
 pub record IsCompleteTo {p : PlanData} {l : AbstractLayout} {start : ℕ → State} (m : ℕ) (h : History p l start) : Type 0 where
   pub aligned : HaveAligned l m h.end
   pub put : (t j : ℕ) → t ≤ l.sink → j < (l.task t).outputs → has_barrier ((l.task t).first + m) (sent j (h.steps t)) ≡ true
@@ -82,7 +84,8 @@ CompiledSavepointDelivers = (p : PlanData) (c : ScaleData) (i : InputData) (n : 
     → IsPlan p → IsScale p c → IsCompiled p c stages → IsInput i → IsOrderly i.time i.sources → BelongsTo p i → IsCut i.sources b → m < length saves → IsCut i.sources (slice_index_or saves m [])
     → let l = layout_to p i n saves until stages in IsLegStart p l start → HaveCut p i l start b → (h : History p l start) → HaveAligned l m h.end → HaveKept p i l b (slice_index_or saves m []) m h.end
 
--- a task has passed no more barriers than the leg has; it has kept itself at each of those on the way that it has passed, and at no other; and while it goes on it has passed none but those
+-- a task has passed no more barriers than the leg has; it has kept itself at each of those on the way that it has
+-- passed, and at no other; and while it goes on it has passed none but those
 pub record IsCounted (k : AbstractTask) (s : State) : Type 0 where
   pub few : length s.kept ≤ k.saves
   pub passed : s.next ≤ barriers k

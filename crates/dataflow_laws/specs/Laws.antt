@@ -14,7 +14,9 @@ use Rattle.dataflow_model.specs.History.{History, IsComplete}
 use Rattle.dataflow_model.specs.declared.role.Role.TheVariants.{Source}
 use Rattle.dataflow_model.specs.declared.ending.Ending.TheVariants.{Asked}
 
--- tasks end with just what is due at a cut whose watermark is v: the sink has the row of each pane that is due by v and was not by w, once, sources have the watermarks of their partitions at the cut, and each window task has the snapshot in the panes whose keys it owns
+-- tasks end with just what is due at a cut whose watermark is v: the sink has the row of each pane that is due by v and
+-- was not by w, once, sources have the watermarks of their partitions at the cut, and each window task has the snapshot
+-- in the panes whose keys it owns
 pub record IsExact (p : PlanData) (l : AbstractLayout) (w v : ℤ) (cut : ℕ → ℕ → ℕ) (end : ℕ → State) : Type 0 where
   pub rows : AreRowsOf (λ q. row_between p w v q (aggregate_until p l cut q)) (end l.sink).rows
   pub marks : HaveWatermarks l (λ t. (end t).inputs.marks) cut

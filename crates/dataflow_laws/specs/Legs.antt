@@ -46,7 +46,8 @@ pub record JobLeg (p : PlanData) (i : AbstractInput) : Type 0 where
   pub history : History p layout start
   pub complete : IsComplete history
 
--- it goes from one cut of the input, whose watermark is w, to another: its tasks open with the snapshot of the first, and it comes to the second
+-- it goes from one cut of the input, whose watermark is w, to another: its tasks open with the snapshot of the first,
+-- and it comes to the second
 pub record IsBetween (p : PlanData) (i : AbstractInput) (g : JobLeg p i) (from : ℕ → ℕ) (w : ℤ) (to : ℕ → ℕ) : Type 0 where
   pub opens : AreOpenings p g.layout g.start
   pub begins : AreAt i g.layout g.start from
@@ -71,7 +72,8 @@ pub record BeginsAnew (p : PlanData) (i : AbstractInput) (g : JobLeg p i) : Type
   pub opens : AreOpenings p g.layout g.start
   pub nothing : HaveNothing i g.layout g.start
 
--- a leg that goes on with what another left, and with nothing else: of each partition how far it was read and its watermark, as the task had them that read it, and what stood in each pane at the window task that owned its key
+-- a leg that goes on with what another left, and with nothing else: of each partition how far it was read and its
+-- watermark, as the task had them that read it, and what stood in each pane at the window task that owned its key
 pub record GoesOn (p : PlanData) (i : AbstractInput) (g next : JobLeg p i) : Type 0 where
   pub untouched : (t : ℕ) → t ≤ next.layout.sink → IsUntouched (next.layout.task t).role (next.layout.task t) (next.start t)
   pub offsets : AreAt i next.layout next.start (cut_left g)
@@ -79,16 +81,19 @@ pub record GoesOn (p : PlanData) (i : AbstractInput) (g next : JobLeg p i) : Typ
       slice_index_or (next.start t).inputs.marks k d ≡ slice_index_or (g.history.end (reader_of i g.layout q)).inputs.marks (place_in_reader i g.layout q) d
   pub windows : AtOwners next.layout (λ u. (next.start u).windows) (λ q. get (g.history.end (g.layout.owner q.key)).windows q)
 
--- one leg or more, the first from nothing and each other from what the one before left: the last of them, the watermark of the cut that it came to, and the rows that all deliver together
+-- one leg or more, the first from nothing and each other from what the one before left: the last of them, the watermark
+-- of the cut that it came to, and the rows that all deliver together
 pub data Legs (p : PlanData) (i : AbstractInput) : JobLeg p i → ℤ → List Row → Type 0 where
   first : {w v : ℤ} (g : JobLeg p i) → BeginsAnew p i g → IsWatermarkAt i (λ q. 0) w → IsWatermarkAt i (cut_left g) v → Legs p i g v (leg_rows g)
   next : {g : JobLeg p i} {w v : ℤ} {rows : List Row} → Legs p i g w rows → (g' : JobLeg p i) → GoesOn p i g g' → IsWatermarkAt i (cut_left g') v → Legs p i g' v (rows ++ leg_rows g')
 
--- a leg delivers the plan's row of each pane that is due at its end and was not at its start, once, and leaves the snapshot of the cut that it came to
+-- a leg delivers the plan's row of each pane that is due at its end and was not at its start, once, and leaves the
+-- snapshot of the cut that it came to
 abbrev pub LegBetweenIsExact : Type 0
 LegBetweenIsExact = (p : PlanData) (i : AbstractInput) (from to : ℕ → ℕ) (w v : ℤ) → IsOrderlyInput p i → IsWatermarkAt i from w → (g : JobLeg p i) → IsBetween p i g from w to → IsWatermarkAt i to v
     → AreRowsOf (λ q. if is_due p.window w q.start then None else due_row p i v q) (leg_rows g) × LeaveSnapshot p i g.layout g.history.end to v
 
--- whatever the layouts, the cuts and the order of steps, legs deliver together the plan's row of each pane that is due, once, and nothing else, and leave the snapshot
+-- whatever the layouts, the cuts and the order of steps, legs deliver together the plan's row of each pane that is due,
+-- once, and nothing else, and leave the snapshot
 abbrev pub LegsAreExact : Type 0
 LegsAreExact = (p : PlanData) (i : AbstractInput) (g : JobLeg p i) (v : ℤ) (rows : List Row) → IsOrderlyInput p i → Legs p i g v rows → AreRowsOf (due_row p i v) rows × LeaveSnapshot p i g.layout g.history.end (cut_left g) v

@@ -27,21 +27,25 @@ CompiledLegIsAtACut = (p : PlanData) (c : ScaleData) (i : InputData) (n : ℕ) (
     → IsPlan p → IsScale p c → IsCompiled p c stages → BelongsTo p i
     → let l = layout_to p i n saves until stages in IsLegStart p l start → (h : History p l start) → (cut : List (List ℕ)) × IsCut i.sources cut × AreAt (input_of p i) l h.end (counts_at p cut)
 
--- at the cut that they have come to, sources have the watermarks that the partitions have there, and each ring to a task before the sink keeps its sender's watermark
+-- at the cut that they have come to, sources have the watermarks that the partitions have there, and each ring to a
+-- task before the sink keeps its sender's watermark
 abbrev pub CompiledEdgesKeepWatermarks : Type 0
 CompiledEdgesKeepWatermarks = (p : PlanData) (c : ScaleData) (i : InputData) (n : ℕ) (saves : List (List (List ℕ))) (until : Until) (stages : List Stage) (start : ℕ → State)
     → IsPlan p → IsScale p c → IsCompiled p c stages → IsInput i → IsOrderly i.time i.sources → BelongsTo p i
     → let l = layout_to p i n saves until stages in IsLegStart p l start → (h : History p l start) → (cut : List (List ℕ)) → AreAt (input_of p i) l h.end (counts_at p cut)
     → HaveMarks (input_of p i) l h.end (counts_at p cut) × ((s t : ℕ) → t < l.sink → l.ring s t ≡ true → KeepsWatermark p l h s t)
 
--- a leg opens with the snapshot of a cut: at the cut that its tasks have come to, the watermark of each window task is at most the cut's, and is it once all tasks are done
+-- a leg opens with the snapshot of a cut: at the cut that its tasks have come to, the watermark of each window task is
+-- at most the cut's, and is it once all tasks are done
 abbrev pub CompiledWindowsHaveTheWatermark : Type 0
 CompiledWindowsHaveTheWatermark = (p : PlanData) (c : ScaleData) (i : InputData) (n : ℕ) (b : List (List ℕ)) (saves : List (List (List ℕ))) (until : Until) (stages : List Stage) (start : ℕ → State)
     → IsPlan p → IsScale p c → IsCompiled p c stages → IsInput i → IsOrderly i.time i.sources → BelongsTo p i → IsCut i.sources b
     → let l = layout_to p i n saves until stages in IsLegStart p l start → HaveCut p i l start b → (h : History p l start) → (cut : List (List ℕ)) → IsCut i.sources cut → AreAt (input_of p i) l h.end (counts_at p cut)
     → (u : ℕ) → l.before ≤ u → u < l.sink → (task_watermark (h.end u) ≤ℤ merged_watermark i.sources cut) × (IsComplete h → task_watermark (h.end u) ≡ merged_watermark i.sources cut)
 
--- each window task has given, of each pane whose key it owns and that was not due where the leg began: nothing before its watermark has come to the window's end, and from then on the plan's row of the pane on the whole input, once; and of any other pane nothing
+-- each window task has given, of each pane whose key it owns and that was not due where the leg began: nothing before
+-- its watermark has come to the window's end, and from then on the plan's row of the pane on the whole input, once; and
+-- of any other pane nothing
 abbrev pub CompiledWindowsFireOnce : Type 0
 CompiledWindowsFireOnce = (p : PlanData) (c : ScaleData) (i : InputData) (n : ℕ) (b : List (List ℕ)) (saves : List (List (List ℕ))) (until : Until) (stages : List Stage) (start : ℕ → State)
     → IsPlan p → IsScale p c → IsCompiled p c stages → IsInput i → IsOrderly i.time i.sources → BelongsTo p i → IsCut i.sources b

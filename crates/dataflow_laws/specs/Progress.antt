@@ -18,6 +18,7 @@ pub record HasMove (p : PlanData) (l : AbstractLayout) (capacity : ℕ) (w : Wor
   pub next : World
   pub move : Move p l capacity w task event next
 
--- in one leg whose tasks begin in opening states, over an admitted input, at every capacity of at least 1, whatever the leg's savepoints and its ending
+-- in one leg whose tasks begin in opening states, over an admitted input, at every capacity of at least 1, whatever the
+-- leg's savepoints and its ending
 abbrev pub Progress : Type 0
 Progress = (p : PlanData) (l : AbstractLayout) (capacity : ℕ) (start : ℕ → State) (w : World) → IsLayout l → 0 < capacity → IsLegStart p l start → IsAdmittedInput p l → IsEnd p l start w → IsFinished l w ⊎ HasMove p l capacity w

@@ -11,7 +11,8 @@ use Rattle.dataflow_model.specs.Snapshots.{HaveWatermarks, AtOwners}
 use Rattle.dataflow_model.specs.Start.{IsStart}
 use Rattle.dataflow_model.specs.History.{History}
 
--- what tasks have kept at the leg's savepoint m is its cut, whose watermark is v, the watermarks of the partitions there, the rows of the panes that are due by v and were not by w, and the snapshot
+-- what tasks have kept at the leg's savepoint m is its cut, whose watermark is v, the watermarks of the partitions
+-- there, the rows of the panes that are due by v and were not by w, and the snapshot
 pub record IsSavepoint (p : PlanData) (l : AbstractLayout) (w v : ℤ) (m : ℕ) (end : ℕ → State) : Type 0 where
   pub offsets : (t q : ℕ) → t < l.before → (l.task t).role ≡ Source → q < (l.task t).inputs → slice_index (kept_at m (end t)).offsets q ≡ save_cut l m t q
   pub marks : HaveWatermarks l (λ t. (kept_at m (end t)).marks) (save_cut l m)

@@ -27,7 +27,8 @@ pub record HaveClosed (l : AbstractLayout) (states : ℕ → State) : Type 0 whe
   pub ending : (l.task l.sink).ending ≡ AtCut → ⊥
   pub read : (t q : ℕ) → t < l.before → (l.task t).role ≡ Source → q < (l.task t).inputs → cut_of states t q ≡ leg_cut l t q
 
--- once all tasks are done, the sink tells whether the leg has stopped: where it has passed the barrier of a stop, there may be one, and where it has not, all sources have come to their ends
+-- once all tasks are done, the sink tells whether the leg has stopped: where it has passed the barrier of a stop, there
+-- may be one, and where it has not, all sources have come to their ends
 abbrev pub SinkTellsStops : Type 0
 SinkTellsStops = (p : PlanData) (l : AbstractLayout) (start : ℕ → State) → IsLayout l → IsLegStart p l start → (h : History p l start) → IsComplete h
     → ((l.task l.sink).saves < (h.end l.sink).next → may_stop (l.task l.sink).ending ≡ true) × ((h.end l.sink).next ≤ (l.task l.sink).saves → HaveClosed l h.end)
@@ -36,7 +37,9 @@ SinkTellsStops = (p : PlanData) (l : AbstractLayout) (start : ℕ → State) →
 abbrev pub StoppedIsComplete : Type 0
 StoppedIsComplete = (p : PlanData) (l : AbstractLayout) (start : ℕ → State) → IsLayout l → IsLegStart p l start → IsAdmittedInput p l → (h : History p l start) → HaveAligned l (l.task l.sink).saves h.end → IsComplete h
 
--- a leg over an input, from a cut, that was to go so far, has come to another cut, which is no earlier, and has stopped there or not: where it has not it is at the end of the input, as it is if it was to go there; and where it was to go to a cut it has stopped at that one
+-- a leg over an input, from a cut, that was to go so far, has come to another cut, which is no earlier, and has stopped
+-- there or not: where it has not it is at the end of the input, as it is if it was to go there; and where it was to go
+-- to a cut it has stopped at that one
 pub record ComesTo (i : InputData) (begin : List (List ℕ)) (until : Until) (stopped : Bool) (cut : List (List ℕ)) : Type 0 where
   pub is_cut : IsCut i.sources cut
   pub no_earlier : IsBefore begin cut
@@ -44,7 +47,8 @@ pub record ComesTo (i : InputData) (begin : List (List ℕ)) (until : Until) (st
   pub to_end : until ≡ ToEnd → stopped ≡ false
   pub to_cut : (end : List (List ℕ)) → until ≡ ToCut end → (stopped ≡ true) × (cut ≡ end)
 
--- so has each leg on the compiled layout of a plan at a scale whose tasks are all done: it has stopped where the sink has passed one barrier more than the savepoints on the way have
+-- so has each leg on the compiled layout of a plan at a scale whose tasks are all done: it has stopped where the sink
+-- has passed one barrier more than the savepoints on the way have
 abbrev pub CompiledLegComes : Type 0
 CompiledLegComes = (p : PlanData) (c : ScaleData) (i : InputData) (n : ℕ) (b : List (List ℕ)) (saves : List (List (List ℕ))) (until : Until) (stages : List Stage) (start : ℕ → State)
     → IsPlan p → IsScale p c → IsCompiled p c stages → IsInput i → IsOrderly i.time i.sources → BelongsTo p i → IsCut i.sources b → IsCut i.sources (cut_to i until)

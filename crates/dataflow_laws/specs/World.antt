@@ -30,7 +30,8 @@ IsInner Close = Unit {0}
 IsInner (Take i m) = ⊥
 IsInner (Put j m) = ⊥
 
--- one task of the layout makes a local step: to take it takes the oldest message of the ring, and to put it needs fewer messages there than the ring's capacity
+-- one task of the layout makes a local step: to take it takes the oldest message of the ring, and to put it needs fewer
+-- messages there than the ring's capacity
 pub data Move (p : PlanData) (l : AbstractLayout) (capacity : ℕ) : World → ℕ → Event → World → Type 0 where
   inner : {w : World} {t : ℕ} {e : Event} {s : State} → t ≤ l.sink → IsInner e → LocalStep p (l.task t) (w.tasks t) e s → Move p l capacity w t e (record w { tasks = with_task t s w.tasks })
   takes : {w : World} {t i : ℕ} {m : Message} {s : State} → t ≤ l.sink → (rest : List Message) → w.rings (l.from t i) t ≡ rest ++ m ∷ [] → LocalStep p (l.task t) (w.tasks t) (Take i m) s

@@ -56,8 +56,8 @@ pub fn rings_are_admitted()
     ensures { RingsAreAdmitted }
 {}
 
-/// Wherever a history ends whose tasks are of one leg and began in opening states, over an admitted input, some task has a
-/// move unless all are done: at every capacity of the rings of at least 1, with savepoints and without.
+/// Wherever a history ends whose tasks are of one leg and began in opening states, over an admitted input, some task
+/// has a move unless all are done: at every capacity of the rings of at least 1, with savepoints and without.
 pub fn progress()
     ensures { Progress }
 {}
@@ -78,27 +78,28 @@ pub fn legs_complete()
     ensures { LegsComplete }
 {}
 
-/// What these laws ask of legs, and what a leg needs to be exact, can be met: by a small leg of any plan over an orderly
-/// input, from its beginning, with a savepoint while it goes on and a stop at a cut.
+/// What these laws ask of legs, and what a leg needs to be exact, can be met: by a small leg of any plan over an
+/// orderly input, from its beginning, with a savepoint while it goes on and a stop at a cut.
 pub fn small_leg()
     ensures { SmallLeg }
 {}
 
-/// At every moment of a leg, each ring that leads to a task before the sink keeps watermarks and records in their order: its
-/// sender has told its merged watermark, its receiver has for that input the greatest that it took, and no record comes
-/// after a watermark that has its time. A source has of each partition the watermark of the entries that it has read.
+/// At every moment of a leg, each ring that leads to a task before the sink keeps watermarks and records in their
+/// order: its sender has told its merged watermark, its receiver has for that input the greatest that it took, and no
+/// record comes after a watermark that has its time. A source has of each partition the watermark of the entries that
+/// it has read.
 pub fn edges_keep_watermarks()
     ensures { EdgesKeepWatermarks }
 {}
 
-/// So at every moment the watermark of each window task is at most that of the cut that was read, and once all tasks are
-/// done it is that.
+/// So at every moment the watermark of each window task is at most that of the cut that was read, and once all tasks
+/// are done it is that.
 pub fn windows_have_the_watermark()
     ensures { WindowsHaveTheWatermark }
 {}
 
-/// At every moment each window task has given, of each pane whose key it owns and that was not due at the start, nothing
-/// before its watermark has come to the window's end, and from then on just the row of all its records, once.
+/// At every moment each window task has given, of each pane whose key it owns and that was not due at the start,
+/// nothing before its watermark has come to the window's end, and from then on just the row of all its records, once.
 pub fn windows_fire_once()
     ensures { WindowsFireOnce }
 {}
@@ -137,8 +138,9 @@ pub fn leg_between_is_exact()
     ensures { LegBetweenIsExact }
 {}
 
-/// Legs one after another, each with a layout of its own, the first from nothing and each other from what the one before
-/// left, deliver together the plan's row of each pane that is due, once, and nothing else, and leave the snapshot.
+/// Legs one after another, each with a layout of its own, the first from nothing and each other from what the one
+/// before left, deliver together the plan's row of each pane that is due, once, and nothing else, and leave the
+/// snapshot.
 pub fn legs_are_exact()
     ensures { LegsAreExact }
 {}
@@ -149,8 +151,8 @@ pub fn savepoint_is_exact()
     ensures { SavepointIsExact }
 {}
 
-/// The same in the words of an input: the rows that became due from the leg's start to the cut of the savepoint, each once,
-/// the snapshot there and its watermarks.
+/// The same in the words of an input: the rows that became due from the leg's start to the cut of the savepoint, each
+/// once, the snapshot there and its watermarks.
 pub fn savepoint_delivers()
     ensures { SavepointDelivers }
 {}
@@ -195,14 +197,14 @@ pub fn legs_deliver_all()
 {}
 
 /// On the compiled layout of a plan at a scale, a leg that opens with the snapshot of a cut of the input, and whose
-/// tasks are all done, has delivered just the rows that became due, each once, and leaves the snapshot of the cut that it
-/// was to come to: the end of the input, or a cut.
+/// tasks are all done, has delivered just the rows that became due, each once, and leaves the snapshot of the cut that
+/// it was to come to: the end of the input, or a cut.
 pub fn compiled_leg_delivers()
     ensures { CompiledLegDelivers }
 {}
 
-/// However such a leg is to end, also where a stop may be asked for: at the cut that its tasks have come to when all are done,
-/// it has delivered just the rows that became due, each once, and leaves the snapshot.
+/// However such a leg is to end, also where a stop may be asked for: at the cut that its tasks have come to when all
+/// are done, it has delivered just the rows that became due, each once, and leaves the snapshot.
 pub fn compiled_leg_delivers_at()
     ensures { CompiledLegDeliversAt }
 {}
@@ -212,39 +214,40 @@ pub fn compiled_leg_delivers_all()
     ensures { CompiledLegDeliversAll }
 {}
 
-/// At every moment of a leg on the compiled layout of a plan, complete or not, its sink has of each pane nothing, or just the
-/// row that becomes due on the leg's way.
+/// At every moment of a leg on the compiled layout of a plan, complete or not, its sink has of each pane nothing, or
+/// just the row that becomes due on the leg's way.
 pub fn compiled_leg_so_far()
     ensures { CompiledLegSoFar }
 {}
 
-/// At every moment of a leg on the compiled layout of a plan, whatever it began with, the tasks that read have come to a cut
-/// of the input.
+/// At every moment of a leg on the compiled layout of a plan, whatever it began with, the tasks that read have come to
+/// a cut of the input.
 pub fn compiled_leg_is_at_a_cut()
     ensures { CompiledLegIsAtACut }
 {}
 
-/// There each source has the watermarks that its partitions have at that cut, and each ring that leads to a task before the
-/// sink keeps watermarks and records in their order.
+/// There each source has the watermarks that its partitions have at that cut, and each ring that leads to a task before
+/// the sink keeps watermarks and records in their order.
 pub fn compiled_edges_keep_watermarks()
     ensures { CompiledEdgesKeepWatermarks }
 {}
 
-/// Where the leg opened with the snapshot of a cut, the watermark of each window task is at most that of the cut that was
-/// read, and once all tasks are done it is that.
+/// Where the leg opened with the snapshot of a cut, the watermark of each window task is at most that of the cut that
+/// was read, and once all tasks are done it is that.
 pub fn compiled_windows_have_the_watermark()
     ensures { CompiledWindowsHaveTheWatermark }
 {}
 
-/// And each window task has given, of each pane whose key it owns and that was not due where the leg began, nothing before
-/// its watermark has come to the window's end, and from then on the plan's row of the pane on the whole input, once.
+/// And each window task has given, of each pane whose key it owns and that was not due where the leg began, nothing
+/// before its watermark has come to the window's end, and from then on the plan's row of the pane on the whole input,
+/// once.
 pub fn compiled_windows_fire_once()
     ensures { CompiledWindowsFireOnce }
 {}
 
-/// Whatever a leg on the compiled layout of a plan begins with: where each of the window's tasks has its own panes alone, of
-/// no more records than stand before the cut that the leg begins at, so it is when all tasks are done, at the cut that the
-/// leg was to come to; there are its sources, with the watermarks of that cut.
+/// Whatever a leg on the compiled layout of a plan begins with: where each of the window's tasks has its own panes
+/// alone, of no more records than stand before the cut that the leg begins at, so it is when all tasks are done, at the
+/// cut that the leg was to come to; there are its sources, with the watermarks of that cut.
 pub fn compiled_leg_keeps_panes()
     ensures { CompiledLegKeepsPanes }
 {}
@@ -254,31 +257,32 @@ pub fn compiled_leg_keeps_panes_at()
     ensures { CompiledLegKeepsPanesAt }
 {}
 
-/// So it is of what the window's tasks have kept at a savepoint on the way, once every task has aligned on its barrier, at
-/// the savepoint's cut.
+/// So it is of what the window's tasks have kept at a savepoint on the way, once every task has aligned on its barrier,
+/// at the savepoint's cut.
 pub fn compiled_savepoint_keeps_panes()
     ensures { CompiledSavepointKeepsPanes }
 {}
 
-/// At every moment of a leg, each task has kept itself once at each barrier on the way that it has passed, and at no other.
+/// At every moment of a leg, each task has kept itself once at each barrier on the way that it has passed, and at no
+/// other.
 pub fn kept_is_counted()
     ensures { KeptIsCounted }
 {}
 
-/// Once all tasks of a leg are done, its sink tells whether it has stopped: where it has passed no barrier of a stop, every
-/// source has come to its end, and the leg was not to end at a cut.
+/// Once all tasks of a leg are done, its sink tells whether it has stopped: where it has passed no barrier of a stop,
+/// every source has come to its end, and the leg was not to end at a cut.
 pub fn sink_tells_stops()
     ensures { SinkTellsStops }
 {}
 
-/// Once all tasks have aligned on the barrier of the stop, which is the leg's last, all are done: each has put it on each of
-/// its outputs, and has nothing pending behind it.
+/// Once all tasks have aligned on the barrier of the stop, which is the leg's last, all are done: each has put it on
+/// each of its outputs, and has nothing pending behind it.
 pub fn stopped_is_complete()
     ensures { StoppedIsComplete }
 {}
 
-/// Each leg of a compiled layout whose tasks are all done has come to a cut of the input that is no earlier than the one
-/// that it began at, and has stopped there or not, as it was to.
+/// Each leg of a compiled layout whose tasks are all done has come to a cut of the input that is no earlier than the
+/// one that it began at, and has stopped there or not, as it was to.
 pub fn compiled_leg_comes()
     ensures { CompiledLegComes }
 {}

@@ -75,7 +75,8 @@ pub record AbstractInput : Type 0 where
   pub size : ℕ → ℕ
   pub pass : Record → Bool
 
--- the task that reads partition q, and its place among those that the task reads: of n tasks of a source, task i has the partitions i, i + n, i + 2 n and so on
+-- the task that reads partition q, and its place among those that the task reads: of n tasks of a source, task i has
+-- the partitions i, i + n, i + 2 n and so on
 abbrev pub reader_of : AbstractInput → AbstractLayout → ℕ → ℕ
 reader_of i l q = l.first_task (i.source q) + i.number q % l.parallelism (i.source q)
 
@@ -99,7 +100,8 @@ pub record IsDealt (i : AbstractInput) (l : AbstractLayout) (q : ℕ) : Type 0 w
   pub partition : (l.task (reader_of i l q)).partition (place_in_reader i l q) ≡ i.number q
   pub back : partition_read i l (reader_of i l q) (place_in_reader i l q) ≡ q
 
--- place k of task t has a partition of the input, with its entries, and with the limits that the leg has for the partition
+-- place k of task t has a partition of the input, with its entries, and with the limits that the leg has for the
+-- partition
 pub record IsPlace (i : AbstractInput) (leg : Leg) (l : AbstractLayout) (t k : ℕ) : Type 0 where
   pub some : partition_read i l t k < i.partitions
   pub source : i.source (partition_read i l t k) ≡ (l.task t).source

@@ -23,12 +23,14 @@ pub record AbstractTask : Type 0 where
   -- of a source: its number among the sources, and the number there of the partition at each place
   pub source : ℕ
   pub partition : ℕ → ℕ
-  -- of a source, partition by partition: its entries, the watermark that an entry brings, the watermark after n entries, and how many there are
+  -- of a source, partition by partition: its entries, the watermark that an entry brings, the watermark after n
+  -- entries, and how many there are
   pub entry : ℕ → ℕ → Message
   pub brings : ℕ → ℕ → ℤ
   pub watermark : ℕ → ℕ → ℤ
   pub size : ℕ → ℕ
-  -- of the leg: the number of its first barrier, how many savepoints are taken while it goes on, how far a partition is read until savepoint m is taken, and how it ends
+  -- of the leg: the number of its first barrier, how many savepoints are taken while it goes on, how far a partition is
+  -- read until savepoint m is taken, and how it ends
   pub first : ℕ
   pub saves : ℕ
   pub limit : ℕ → ℕ → ℕ

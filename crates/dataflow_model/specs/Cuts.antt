@@ -1,4 +1,5 @@
--- What a layout's input comes to at a cut. A cut has a count of entries for each source task and each of its partitions.
+-- What a layout's input comes to at a cut. A cut has a count of entries for each source task and each of its
+-- partitions.
 use Rattle.std.specs.Prelude.{◌≡◌, ℕ, zero, suc, ◌<◌, ℤ, ◌≤ℤ◌, ◌<ℤ◌, List, [], ◌++◌, filter, slice_index, Option, None, option_and_then, if◌then◌else◌, ◌≤◌}
 use Rattle.std.specs.Int.{int_max}
 use Rattle.std.specs.List.{All}
@@ -16,7 +17,8 @@ use Rattle.dataflow_model.specs.AbstractTask.{AbstractTask}
 use Rattle.dataflow_model.specs.AbstractLayout.{AbstractLayout}
 use Rattle.dataflow_model.specs.State.{State}
 
--- a source's partitions are orderly: an entry moves its partition's watermark up to what it brings, and no record of it is at or below the watermark before it
+-- a source's partitions are orderly: an entry moves its partition's watermark up to what it brings, and no record of it
+-- is at or below the watermark before it
 pub record IsOrderlySource (p : PlanData) (k : AbstractTask) : Type 0 where
   pub moves : (q n : ℕ) → q < k.inputs → n < k.size q → k.watermark q (suc n) ≡ int_max (k.watermark q n) (k.brings q n)
   pub bounded : (q n : ℕ) → q < k.inputs → n ≤ k.size q → lowest ≤ℤ k.watermark q n

@@ -1,4 +1,5 @@
--- Flows: lists of local steps where only the order on each ring is kept, and messages that are pending for a ring count as put on it.
+-- Flows: lists of local steps where only the order on each ring is kept, and messages that are pending for a ring count
+-- as put on it.
 use Rattle.std.specs.Prelude.{◌≡◌, ℕ, ◌<◌, List, ◌++◌, true}
 use Rattle.plan_model.specs.PlanData.{PlanData}
 use Rattle.dataflow_model.specs.declared.message.Message.{Message}
@@ -8,7 +9,8 @@ use Rattle.dataflow_model.specs.State.{State}
 use Rattle.dataflow_model.specs.Steps.{Event}
 use Rattle.dataflow_model.specs.Runs.{Run, taken, given}
 
--- each task's steps lead from where it starts to its end, and what a ring's receiver took is the older part of what its sender put or has pending
+-- each task's steps lead from where it starts to its end, and what a ring's receiver took is the older part of what its
+-- sender put or has pending
 pub record Flow (p : PlanData) (l : AbstractLayout) (start : ℕ → State) : Type 0 where
   pub steps : ℕ → List Event
   pub end : ℕ → State

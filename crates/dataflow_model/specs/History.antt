@@ -7,7 +7,8 @@ use Rattle.dataflow_model.specs.State.{State}
 use Rattle.dataflow_model.specs.Steps.{Event, IsDone}
 use Rattle.dataflow_model.specs.Runs.{Run, taken, sent}
 
--- each task's steps lead from where it starts to its end, and what a ring's receiver took is a prefix of what its sender put
+-- each task's steps lead from where it starts to its end, and what a ring's receiver took is a prefix of what its
+-- sender put
 pub record History (p : PlanData) (l : AbstractLayout) (start : ℕ → State) : Type 0 where
   pub steps : ℕ → List Event
   pub end : ℕ → State

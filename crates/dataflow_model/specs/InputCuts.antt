@@ -13,7 +13,8 @@ use Rattle.dataflow_model.specs.Message.{records_of}
 use Rattle.dataflow_model.specs.AbstractLayout.{AbstractInput}
 use Rattle.dataflow_model.specs.Cuts.{joined}
 
--- an input's partitions are orderly: an entry moves its partition's watermark up to what it brings, and no record of it is at or below the watermark before it
+-- an input's partitions are orderly: an entry moves its partition's watermark up to what it brings, and no record of it
+-- is at or below the watermark before it
 pub record IsOrderlyInput (p : PlanData) (i : AbstractInput) : Type 0 where
   pub moves : (q n : ℕ) → q < i.partitions → n < i.size q → i.watermark q (suc n) ≡ int_max (i.watermark q n) (i.brings q n)
   pub bounded : (q n : ℕ) → q < i.partitions → n ≤ i.size q → lowest ≤ℤ i.watermark q n

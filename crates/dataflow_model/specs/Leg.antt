@@ -3,14 +3,16 @@ use Rattle.std.specs.Prelude.{ℕ, zero, suc, List, [], ◌∷◌, length, slice
 use Rattle.dataflow_model.specs.declared.ending.Ending.{Ending}
 use Rattle.dataflow_model.specs.declared.ending.Ending.TheVariants.{AtEnd, AtCut, Asked}
 
--- the number of its first barrier, how many savepoints are taken while it goes on, how many entries of each source and partition are read until savepoint m is taken, and how it ends
+-- the number of its first barrier, how many savepoints are taken while it goes on, how many entries of each source and
+-- partition are read until savepoint m is taken, and how it ends
 pub record Leg : Type 0 where
   pub first : ℕ
   pub saves : ℕ
   pub limit : ℕ → ℕ → ℕ → ℕ
   pub ending : Ending
 
--- how far a leg is to go: to the end, to a cut, which has a count of entries for each source and partition, or until it is asked to stop
+-- how far a leg is to go: to the end, to a cut, which has a count of entries for each source and partition, or until it
+-- is asked to stop
 pub data Until : Type 0 where
   ToEnd : Until
   ToCut : (cut : List (List ℕ)) → Until
@@ -36,6 +38,7 @@ limit_of size until [] m x q = until_at size until x q
 limit_of size until (cut ∷ cuts) zero x q = count_at cut x q
 limit_of size until (cut ∷ cuts) (suc m) x q = limit_of size until cuts m x q
 
--- the leg from savepoint n, or from nothing where n is 0, with savepoints at these cuts while it goes on, over partitions of these sizes
+-- the leg from savepoint n, or from nothing where n is 0, with savepoints at these cuts while it goes on, over
+-- partitions of these sizes
 abbrev pub leg_of : ℕ → List (List (List ℕ)) → Until → (ℕ → ℕ → ℕ) → Leg
 leg_of n saves until size = record { first = suc n; saves = length saves; limit = limit_of size until saves; ending = ending_of until }

@@ -43,7 +43,8 @@ barriers k = k.saves + (if may_stop k.ending then 1 else 0)
 abbrev pub is_last : AbstractTask → ℕ → Bool
 is_last k n = may_stop k.ending && (n == k.saves)
 
--- which messages the task's place and the leg admit: rows of the plan's width with times in range, at most 2^40 of them in a leg, no row at the sink, fired rows there alone, and the next barrier
+-- which messages the task's place and the leg admit: rows of the plan's width with times in range, at most 2^40 of them
+-- in a leg, no row at the sink, fired rows there alone, and the next barrier
 abbrev pub Admits : PlanData → AbstractTask → State → Message → Type 0
 Admits p k s (Rows t) = (takes_rows k.role ≡ true) × (t.width ≡ p.columns) × All (λ r. IsTime (at p.window.time r)) t.rows × (s.taken + length t.rows ≤ MOST_RECORDS)
 Admits p k s (Fired rows) = takes_fired k.role ≡ true
@@ -118,7 +119,8 @@ Fires p windows (Some t) rows left = AreRowsOf (rows_due p windows t) rows × (l
 abbrev pub with_mark : State → ℕ → ℤ → InputsData
 with_mark s i t = inputs_from (raised s.inputs.marks i t) s.inputs.shut
 
--- the state after the next barrier, with the inputs shut so: by the last one of a leg that stops the task is over, else it keeps itself and lets its inputs go
+-- the state after the next barrier, with the inputs shut so: by the last one of a leg that stops the task is over, else
+-- it keeps itself and lets its inputs go
 abbrev pub past_barrier : AbstractTask → State → List Shut → State
 past_barrier k s shut = record s {
   inputs = inputs_from s.inputs.marks (if is_last k s.next then shut else released shut);

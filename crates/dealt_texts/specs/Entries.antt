@@ -54,7 +54,8 @@ entries_text (entry ∷ next ∷ before) = entries_text (next ∷ before) ++ (co
 abbrev pub list_text : List Entry → List ℕ
 list_text entries = codes "[" ++ (entries_text entries ++ codes "]")
 
--- the text of a part is that of the entries of the whole with just the part's records: those without any are left out, and no watermark is
+-- the text of a part is that of the entries of the whole with just the part's records: those without any are left out,
+-- and no watermark is
 abbrev pub PartsHaveTheirEntries : Type 0
 PartsHaveTheirEntries = (plan : PlanData) (rule : EntryRule) (dealing : Dealing) (rows : List Row) (i : ℕ) → dealing.max ≡ plan.max → dealing.key ≡ plan.window.key → i < dealing.parts
     → ended (part_of_rows rule dealing i rows) ≡ list_text (entries_kept (is_in_part plan dealing.parts i) (entries_of rule rows))

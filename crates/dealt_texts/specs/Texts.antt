@@ -33,7 +33,8 @@ texts_of p = p.texts.items
 abbrev pub grown_of : PartTexts → ℕ × ℕ
 grown_of p = p.grown
 
--- these are the rows of the whole so far, none of them late, and what was taken out of each text, with the text, is that of its part
+-- these are the rows of the whole so far, none of them late, and what was taken out of each text, with the text, is
+-- that of its part
 pub record HoldsParts (rows : List Row) (written : ℕ → List ℕ) (p : PartTexts) : Type 0 where
   pub progress : p.progress ≡ progress_of p.rule.most_rows (times_of rows)
   pub timely : AreTimely p.rule.most_rows p.rule.bound rows

@@ -6,7 +6,8 @@ ghost use Rattle.plain_data.specs.Record.{at};
 
 use key_groups::{MaxParallelism, Parallelism, group_of, owner_of};
 
-/// How the rows of an input are dealt out to its parts: each to that at whose place an operator's subtask owns the group of its key.
+/// How the rows of an input are dealt out to its parts: each to that at whose place an operator's subtask owns the
+/// group of its key.
 #[derive(Clone, Copy, Debug, PartialEq, Eq)]
 pub struct Dealing {
     /// The key groups.
@@ -50,7 +51,8 @@ impl Dealing {
     ghost use Rattle.std.specs.Prelude.{◌≡◌, ◌<◌, MatchOption};
     ghost use Rattle.dealt_texts.specs.Dealing.{owner_of};
 
-    /// To so many parts by the key groups of a plan and the column of its keys, or `None` where there are more parts than groups.
+    /// To so many parts by the key groups of a plan and the column of its keys, or `None` where there are more parts
+    /// than groups.
     pub fn new(max: MaxParallelism, parts: Parallelism, key: usize) -> Option<Dealing>
         ensures { MatchOption result (max < parts) (λ dealing. (dealing.max ≡ max) × (dealing.parts ≡ parts) × (dealing.key ≡ key)) }
     {

@@ -1,4 +1,5 @@
-//! The JSON texts of a partition of each part of an input, as the rows of the whole come: a row goes to the part that owns its key.
+//! The JSON texts of a partition of each part of an input, as the rows of the whole come: a row goes to the part that
+//! owns its key.
 #![tactic(auto)]
 
 mod dealing;

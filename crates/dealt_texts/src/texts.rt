@@ -7,7 +7,8 @@ use entry_texts::PutFault;
 use import_entries::{EntryRule, Place, Progress};
 use std::alloc::{AllocError, Global};
 
-/// The texts of a partition of each part of an input, row by row of the whole, from which what is written elsewhere can be taken out.
+/// The texts of a partition of each part of an input, row by row of the whole, from which what is written elsewhere can
+/// be taken out.
 #[derive(Drop)]
 pub struct PartTexts {
     rule: EntryRule,
@@ -51,8 +52,8 @@ impl PartTexts {
         })
     }
 
-    /// Puts the next row of the whole into the part that it goes to: its time, its first number and the others. A watermark before
-    /// it goes to all parts.
+    /// Puts the next row of the whole into the part that it goes to: its time, its first number and the others. A
+    /// watermark before it goes to all parts.
     ///
     /// # Errors
     ///

@@ -11,7 +11,8 @@ use Rattle.decimal_texts.specs.Exponents.{has_mark, mantissa, exponent_text, is_
 unfoldable pub exact_quotient : ℕ → ℕ → ℕ → Option ℕ
 exact_quotient n up down = if (n * 10 ^ up) % 10 ^ down == 0 then Some ((n * 10 ^ up) / 10 ^ down) else None
 
--- the number that digits write with a point before the decimals, times ten to the power of the places and of the exponent
+-- the number that digits write with a point before the decimals, times ten to the power of the places and of the
+-- exponent
 unfoldable pub shifted : ℕ → Exponent → List ℕ → List ℕ → Option ℕ
 shifted places exponent whole decimals = exact_quotient (digits_value 10 (whole ++ decimals)) (places + exponent.raised) (length decimals + exponent.lowered)
 

@@ -53,7 +53,8 @@ pub fn raised_digits(digits: &[u8], places: usize) -> Option<u64>
     raised(number, places)
 }
 
-/// The number that the digits of both write, times ten to the power of the places, where 64 bits without a sign hold it.
+/// The number that the digits of both write, times ten to the power of the places, where 64 bits without a sign hold
+/// it.
 pub(crate) fn raised_number(front: &[u8], back: &[u8], places: usize) -> Option<u64>
     requires front { IsTrue (list_all is_ascii_digit front.now) }
     requires back { IsTrue (list_all is_ascii_digit back.now) }

@@ -8,8 +8,8 @@ use crate::exponent::mark_of;
 use crate::scientific::scientific_of;
 use field_values::FieldFault;
 
-/// A decimal with or without an exponent: the number that its digits write, and the powers of ten that this is multiplied and
-/// divided by.
+/// A decimal with or without an exponent: the number that its digits write, and the powers of ten that this is
+/// multiplied and divided by.
 #[derive(Clone, Copy)]
 pub(crate) struct Factor {
     pub(crate) is_negative: bool,

@@ -1,5 +1,5 @@
-//! Decimals that may have an exponent, as floats are printed, and products of two, scaled to whole numbers. No number passes through a
-//! float, and nothing is rounded.
+//! Decimals that may have an exponent, as floats are printed, and products of two, scaled to whole numbers. No number
+//! passes through a float, and nothing is rounded.
 #![tactic(auto)]
 
 mod digits;

@@ -46,8 +46,8 @@ fn swapped(byte: u8) -> u8
     }
 }
 
-/// Writes a text with a point for each comma and a comma for each point: of a decimal with a comma one with a point, and of one
-/// with a point what is none.
+/// Writes a text with a point for each comma and a comma for each point: of a decimal with a comma one with a point,
+/// and of one with a point what is none.
 ///
 /// # Errors
 ///

@@ -54,13 +54,13 @@ fn product_from(first: Factor, second: Factor, places: Places) -> Result<i64, Fi
     signed(first.is_negative != second.is_negative, size).ok_or(FieldFault::TooLarge)
 }
 
-/// The product of two decimals, with or without exponents, times ten to the power of the places. It is exact: what counts is the
-/// number, and not how many decimal places are written.
+/// The product of two decimals, with or without exponents, times ten to the power of the places. It is exact: what
+/// counts is the number, and not how many decimal places are written.
 ///
 /// # Errors
 ///
-/// `NoNumber`; `MorePlaces` where the product is finer than the places; `TooLarge` where 64 bits do not hold it, or where 64 bits
-/// without a sign do not hold the digits of one of the two.
+/// `NoNumber`; `MorePlaces` where the product is finer than the places; `TooLarge` where 64 bits do not hold it, or
+/// where 64 bits without a sign do not hold the digits of one of the two.
 pub fn product(first: &[u8], second: &[u8], places: Places) -> Result<i64, FieldFault>
     ensures { result ≡ product_said places first.now second.now }
 {

@@ -70,9 +70,9 @@ fn scientific_in(text: &[u8], places: Places) -> Result<i64, FieldFault>
     scientific(&text[..mark], &text[mark + 1..], places)
 }
 
-/// The decimal times ten to the power of the places, as [`scaled`] has it, and the same of a decimal with an exponent: `1e-05` at
-/// 5 places is 1, `2.5E3` at none is 2500. An exponent is `e` or `E`, a sign or none, and 1 to 4 digits. With one the number that
-/// is said counts, and not how many decimal places are written: `1.0E-5` is as fine as `1e-5`.
+/// The decimal times ten to the power of the places, as [`scaled`] has it, and the same of a decimal with an exponent:
+/// `1e-05` at 5 places is 1, `2.5E3` at none is 2500. An exponent is `e` or `E`, a sign or none, and 1 to 4 digits.
+/// With one the number that is said counts, and not how many decimal places are written: `1.0E-5` is as fine as `1e-5`.
 ///
 /// # Errors
 ///

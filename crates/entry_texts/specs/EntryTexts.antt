@@ -23,7 +23,8 @@ abbrev pub mark_text : Option ℤ → List ℕ
 mark_text None = []
 mark_text (Some mark) = watermark_text mark
 
--- what stands before the first row of an entry: the end of the entry before, or the list's bracket; a watermark; and the entry's name
+-- what stands before the first row of an entry: the end of the entry before, or the list's bracket; a watermark; and
+-- the entry's name
 abbrev pub begin_text : Bool → Option ℤ → List ℕ
 begin_text is_first mark = (if is_first then 91 ∷ [] else codes "]},") ++ (mark_text mark ++ codes "{\"rows\":[")
 

@@ -91,7 +91,8 @@ fn push_begin(text: &mut String, mark: Option<i64>, is_first: bool) -> Result<()
     text.push_str("{\"rows\":[")
 }
 
-/// Writes a row, its first number and the others, at its place in a partition; `is_first` where no row of the partition stands before it.
+/// Writes a row, its first number and the others, at its place in a partition; `is_first` where no row of the partition
+/// stands before it.
 ///
 /// # Errors
 ///

@@ -19,7 +19,8 @@ same_code a b = bytes_eq (map to_ascii_lowercase a) (map to_ascii_lowercase b)
 unfoldable pub page_said : List (List ℕ × List ℕ) → List ℕ → Option (List ℕ)
 page_said pages code = option_map (λ page. page.1) (find (λ page. same_code page.0 code) pages)
 
--- the text of the page of a code in docs/FAULTS.md, which is made into four tables: the faults of texts, of imports, of savepoints, and all others
+-- the text of the page of a code in docs/FAULTS.md, which is made into four tables: the faults of texts, of imports, of
+-- savepoints, and all others
 unfoldable pub last_explained : List ℕ → Option (List ℕ)
 last_explained code = option_or (page_said (map (λ page. (page.0.now, page.1.now)) SAVEPOINT_PAGES) code) (page_said (map (λ page. (page.0.now, page.1.now)) OTHER_PAGES) code)
 

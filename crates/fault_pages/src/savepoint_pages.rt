@@ -1,4 +1,5 @@
-//! The pages of the faults of a savepoint, of going on from one, and of a receipt. `scripts/fault_pages` makes this file of docs/FAULTS.md.
+//! The pages of the faults of a savepoint, of going on from one, and of a receipt. `scripts/fault_pages` makes this
+//! file of docs/FAULTS.md.
 
 use crate::page::FaultPage;
 

@@ -1,4 +1,5 @@
-//! The pages of the faults of a plan, of an input and of a scale. `scripts/fault_pages` makes this file of docs/FAULTS.md.
+//! The pages of the faults of a plan, of an input and of a scale. `scripts/fault_pages` makes this file of
+//! docs/FAULTS.md.
 
 use crate::page::FaultPage;
 

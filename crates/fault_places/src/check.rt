@@ -110,8 +110,8 @@ fn tell_whole(alloc: Global, found: &mut Findings, sentence: &str) -> Result<(),
     found.tell(0, String::from_str(alloc, sentence)?)
 }
 
-/// The places at which the bytes of a text that was refused do not meet the requirement of its fault, and behind them those
-/// at which they do not meet a later one: at least one, and of many the first 20.
+/// The places at which the bytes of a text that was refused do not meet the requirement of its fault, and behind them
+/// those at which they do not meet a later one: at least one, and of many the first 20.
 ///
 /// # Errors
 ///

@@ -21,8 +21,8 @@ pub(crate) enum Test {
     TimeRange(usize),
     /// No watermark, where the source makes its own.
     Kind(bool),
-    /// No row whose time is at or below a watermark before it. The times stand in this column, and a source with a bound
-    /// makes its own watermarks.
+    /// No row whose time is at or below a watermark before it. The times stand in this column, and a source with a
+    /// bound makes its own watermarks.
     Late { time: usize, bound: Option<i64> },
 }
 

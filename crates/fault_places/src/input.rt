@@ -122,7 +122,8 @@ fn test_of(plan: &Plan, source: &SourceSpec, fault: InputFault) -> Test {
     }
 }
 
-/// The faults of an input that is JSON, in the order of their requirements, but for the last: a record is late where all else is met.
+/// The faults of an input that is JSON, in the order of their requirements, but for the last: a record is late where
+/// all else is met.
 const FAULTS: [InputFault; 8] = [
     InputFault::Member,
     InputFault::Source,
@@ -134,8 +135,8 @@ const FAULTS: [InputFault; 8] = [
     InputFault::Kind,
 ];
 
-/// Tells of the places at which an input, which is JSON, does not meet the requirement of a fault, the first that it does not meet,
-/// and then of those at which it does not meet a later one.
+/// Tells of the places at which an input, which is JSON, does not meet the requirement of a fault, the first that it
+/// does not meet, and then of those at which it does not meet a later one.
 pub(crate) fn check(
     notes: &mut Notes,
     plan: &Plan,

@@ -198,8 +198,8 @@ fn check_ring(notes: &mut Notes, scale: &Placed<'_>) -> Result<(), AllocError> {
     check_range(notes, member, Range { least: 1, most })
 }
 
-/// The faults of a scale that is JSON, in the order of their requirements, but for the last: how many tasks a layout has is not
-/// counted here.
+/// The faults of a scale that is JSON, in the order of their requirements, but for the last: how many tasks a layout
+/// has is not counted here.
 const FAULTS: [ScaleFault; 5] = [
     ScaleFault::Member,
     ScaleFault::UnknownUid,
@@ -208,8 +208,8 @@ const FAULTS: [ScaleFault; 5] = [
     ScaleFault::Ring,
 ];
 
-/// Tells of the places at which a scale, which is JSON, does not meet the requirement of a fault, the first that it does not meet,
-/// and then of those at which it does not meet a later one.
+/// Tells of the places at which a scale, which is JSON, does not meet the requirement of a fault, the first that it
+/// does not meet, and then of those at which it does not meet a later one.
 pub(crate) fn check(
     notes: &mut Notes,
     plan: &Plan,

@@ -30,7 +30,8 @@ fraction_text text = take (zone_place (drop 19 text)) (drop 19 text)
 unfoldable pub zone_text : List ℕ → List ℕ
 zone_text text = drop (zone_place (drop 19 text)) (drop 19 text)
 
--- YYYY-MM-DDTHH:MM:SS, nothing or a point and digits, and Z, or +hh:mm, +hhmm or +hh, where a hyphen may stand for the plus
+-- YYYY-MM-DDTHH:MM:SS, nothing or a point and digits, and Z, or +hh:mm, +hhmm or +hh, where a hyphen may stand for the
+-- plus
 unfoldable pub is_time : List ℕ → Bool
 is_time text = is_clock (clock_text text) && is_fraction (fraction_text text) && is_zone (zone_text text)
 

@@ -86,8 +86,8 @@ fn signed(is_negative: bool, magnitude: u64) -> Option<i64>
     0i64.checked_add_unsigned(magnitude)
 }
 
-/// The decimal times ten to the power of the places: `2.389` at 3 places is 2389, and so is `002.389`. A text is a hyphen or
-/// none, digits, and then nothing or a point and digits; it may have any length.
+/// The decimal times ten to the power of the places: `2.389` at 3 places is 2389, and so is `002.389`. A text is a
+/// hyphen or none, digits, and then nothing or a point and digits; it may have any length.
 ///
 /// # Errors
 ///

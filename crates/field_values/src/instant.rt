@@ -83,9 +83,10 @@ fn is_coarse(digits: &[u8]) -> bool
     digits.iter().skip(3).all(|b| *b == b'0')
 }
 
-/// The milliseconds from 1970-01-01 00:00 UTC to a time, which is negative before it, in the proleptic Gregorian calendar. A
-/// text is `YYYY-MM-DDTHH:MM:SS`, with a `T` or a space, then nothing or a point and digits, and then `Z`, or `+hh:mm`,
-/// `+hhmm` or `+hh`, where a hyphen may stand for the plus. Of the digits behind the point those behind the third are 0.
+/// The milliseconds from 1970-01-01 00:00 UTC to a time, which is negative before it, in the proleptic Gregorian
+/// calendar. A text is `YYYY-MM-DDTHH:MM:SS`, with a `T` or a space, then nothing or a point and digits, and then `Z`,
+/// or `+hh:mm`, `+hhmm` or `+hh`, where a hyphen may stand for the plus. Of the digits behind the point those behind
+/// the third are 0.
 ///
 /// # Errors
 ///

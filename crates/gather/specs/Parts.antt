@@ -73,7 +73,8 @@ sources_in p stages parts = map (source_in p stages parts) (range_with_len 0 (le
 abbrev pub panes_in_group : ℕ → ℕ → List Part → List Pane
 panes_in_group max group parts = filter (is_in_group max group) (map (λ part. part.pane) parts)
 
--- what stands in the panes of a window's task: the panes of each key group ascend, and each has the plan's kinds of aggregates, at most 2^40 records, and a key of the task's key groups
+-- what stands in the panes of a window's task: the panes of each key group ascend, and each has the plan's kinds of
+-- aggregates, at most 2^40 records, and a key of the task's key groups
 pub record ArePanes (p : PlanData) (range : GroupRange) (parts : List Part) : Type 0 where
   pub ordered : (group : ℕ) → IsStrictlySortedBy pane_cmp (panes_in_group p.max group parts)
   pub kinds : All (λ part. part.acc.kinds ≡ map kind_of p.window.aggregates) parts

@@ -50,7 +50,8 @@ saved_source p sources uid = record { uid = uid; partitions = partitions_under p
 abbrev pub source_uids : PlanData → List (List ℕ)
 source_uids p = ascending (slice_cmp nat_cmp) (map (λ s. s.uid) p.sources)
 
--- the savepoint of this number, with how far the partitions of the plan's sources were read, in plan order, and what stands in the windows
+-- the savepoint of this number, with how far the partitions of the plan's sources were read, in plan order, and what
+-- stands in the windows
 abbrev pub savepoint_of : PlanData → List (List SavedPartition) → FinMap pane_cmp Aggregated → ℕ → Contents
 savepoint_of p sources windows number = record {
   number = number;

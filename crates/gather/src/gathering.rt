@@ -32,8 +32,8 @@ pub fn kinds_of(alloc: Global, aggregates: &[Aggregate]) -> Result<Items<Kind>, 
     Ok(Items::from_vec(kinds))
 }
 
-/// The savepoint of this number that the parts of a layout's tasks make together: how far each partition was read, from the
-/// part of the task that reads it, and what stands in the panes of the window's tasks, by key group.
+/// The savepoint of this number that the parts of a layout's tasks make together: how far each partition was read, from
+/// the part of the task that reads it, and what stands in the panes of the window's tasks, by key group.
 ///
 /// It names no task: the parts of another layout that say the same make the same savepoint.
 ///

@@ -2,8 +2,8 @@
 
 ghost use Rattle.gather.specs.Laws.{SpreadAreParts, SamePanesSameSavepoint};
 
-/// What a start is dealt out into, at any layout, are parts that can be put together: where what stands in its windows is what
-/// the plan's windows may hold.
+/// What a start is dealt out into, at any layout, are parts that can be put together: where what stands in its windows
+/// is what the plan's windows may hold.
 pub fn spread_are_parts()
     ensures { SpreadAreParts }
 {}

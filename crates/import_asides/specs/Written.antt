@@ -22,7 +22,8 @@ pub record IsBehindFields {W : Type 0} (fields : List (List ℕ)) (out : Writer 
   pub count : fields_written out ≡ min (length fields) (2 ^ 64 - 1)
   pub blank : is_blank default_writer fields ≡ (not (has_written out) && ((fields_written out == 0) || (fields_written out == 1)))
 
--- since it had this text it was given the text of records, and these fields of one that is open; what it holds back is part of it
+-- since it had this text it was given the text of records, and these fields of one that is open; what it holds back is
+-- part of it
 pub record HasRecords {W : Type 0} (contents : W → Option (List ℕ)) (start : Option (List ℕ)) (records : List (List (List ℕ))) (open_fields : List (List ℕ)) (out : CsvWriter W) : Type 0 where
   pub behind : IsBehindFields open_fields out.writer.value
   pub text : Appends start (text_written contents out.writer.value) (csv_text records ++ row_body default_writer open_fields)

@@ -13,8 +13,8 @@ use itoa::Buffer;
 use std::alloc::Global;
 use std::io::{Read, Write};
 
-/// The bad records of an import, written as CSV: of each the file, the line, the code and the reason why it is bad, and the record as
-/// it stands there.
+/// The bad records of an import, written as CSV: of each the file, the line, the code and the reason why it is bad, and
+/// the record as it stands there.
 #[derive(Drop)]
 pub struct BadRecords<W: Write + Drop> {
     alloc: Global,

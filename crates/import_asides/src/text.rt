@@ -23,8 +23,8 @@ fn text_of_record(alloc: Global, record: &ByteRecord) -> Result<Vec<u8>, RowFaul
     Ok(text)
 }
 
-/// The text of the record that `records` have, as it stands: of CSV the fields of the row, in double quotes where they need them,
-/// and of NDJSON the line.
+/// The text of the record that `records` have, as it stands: of CSV the fields of the row, in double quotes where they
+/// need them, and of NDJSON the line.
 ///
 /// # Errors
 ///

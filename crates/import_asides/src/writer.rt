@@ -20,8 +20,8 @@ fn write_fault(error: &Error) -> RowFault
     }
 }
 
-/// A writer of CSV on the heap, since it has room for what it writes. It comes onto the stack when it is made and when it is let
-/// go, in frames of their own, which are not there while it writes.
+/// A writer of CSV on the heap, since it has room for what it writes. It comes onto the stack when it is made and when
+/// it is let go, in frames of their own, which are not there while it writes.
 pub(crate) struct CsvWriter<W: Write + Drop> {
     writer: Box<Writer<W>>,
 }

@@ -9,6 +9,7 @@ pub enum ColumnFault {
     Form,
     /// More than 18 decimal places are to be kept.
     Places,
-    /// The bound of a comparison is no whole number of 64 bits: of its faults only `MorePlaces` and `TooLarge` are told.
+    /// The bound of a comparison is no whole number of 64 bits: of its faults only `MorePlaces` and `TooLarge` are
+    /// told.
     Bound(FieldFault),
 }

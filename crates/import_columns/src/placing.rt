@@ -37,8 +37,8 @@ fn timed<'w>(unit: TimeUnit, clocks: Clocks<'w>) -> Option<ColumnKind<'w>>
     Some(ColumnKind::Value(ValueKind::Time(unit, clocks)))
 }
 
-/// How the text of a field becomes a number, with the zone in place of its name, or `None` where no zone has the name. A time that
-/// has no zone is read by the clocks.
+/// How the text of a field becomes a number, with the zone in place of its name, or `None` where no zone has the name.
+/// A time that has no zone is read by the clocks.
 fn placed<'w>(kind: &WordKind<'w>, zones: &'w Zones, clocks: Clocks<'w>) -> Option<ColumnKind<'w>>
     ensures { MatchOption result (NamesNoZone zones.now.tables.items (view_kind kind.now)) (λ placed. IsKind zones.now.tables.items clocks.entry placed (view_kind kind.now)) }
 {
@@ -84,9 +84,9 @@ fn joint_of(field: &str, kind: &WordKind<'_>) -> Option<Joint>
     }
 }
 
-/// The column that a word says, with the zone in place of its name, or `None` where no zone has the name. Its times that have no
-/// zone are read by the clocks. Where pluses stand in the name of a column of names, or one asterisk in that of a decimal, it may be the
-/// names of several fields.
+/// The column that a word says, with the zone in place of its name, or `None` where no zone has the name. Its times
+/// that have no zone are read by the clocks. Where pluses stand in the name of a column of names, or one asterisk in
+/// that of a decimal, it may be the names of several fields.
 pub fn place_column<'w>(
     said: &ColumnWord<'w>,
     zones: &'w Zones,

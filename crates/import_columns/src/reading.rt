@@ -164,8 +164,8 @@ fn kind_of(how: &str) -> Result<WordKind<'_>, ColumnFault>
 /// - nothing, for a whole number;
 /// - `:` and a number of decimal places up to 18, for a decimal that is scaled;
 /// - `:ms`, `:us` or `:ns`, for a time in milliseconds, microseconds or nanoseconds;
-/// - `:day:`, `:month:`, `:year:`, `:hour:` or `:weekday:` and the name of a zone, for a time by the calendar and the clocks there,
-///   and behind that perhaps `:`, a comparison as below, `:` and a whole number;
+/// - `:day:`, `:month:`, `:year:`, `:hour:` or `:weekday:` and the name of a zone, for a time by the calendar and the
+///   clocks there, and behind that perhaps `:`, a comparison as below, `:` and a whole number;
 /// - `:name`, for a name by its number;
 /// - `:eq:`, `:ne:`, `:lt:`, `:le:`, `:gt:` or `:ge:` and a whole number, for 1 where the comparison holds, else 0;
 /// - `:eq:` or `:ne:` and any other text without a colon, for the same with that text.

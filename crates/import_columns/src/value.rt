@@ -65,8 +65,8 @@ fn compared_part(
 ///
 /// # Errors
 ///
-/// Those of [`exact`] and [`time_of`]; `NoSuchTime` also for an instant that has no civil date in each zone, which are those in
-/// the last day of the year 9999.
+/// Those of [`exact`] and [`time_of`]; `NoSuchTime` also for an instant that has no civil date in each zone, which are
+/// those in the last day of the year 9999.
 fn value_of(kind: &ValueKind<'_>, text: &[u8]) -> Result<i64, FieldFault>
     ensures { IsValueOf kind.now text.now result }
 {

@@ -5,7 +5,8 @@ use field_values::Places;
 use instant_texts::FineUnit;
 use lane_kernels::Cmp;
 
-/// What a word says is done with the text of a field: as [`crate::ColumnKind`], with the name of a zone in place of the zone.
+/// What a word says is done with the text of a field: as [`crate::ColumnKind`], with the name of a zone in place of the
+/// zone.
 #[derive(Clone, Copy)]
 pub enum WordKind<'w> {
     Scaled(Places),

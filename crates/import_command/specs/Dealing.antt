@@ -16,7 +16,8 @@ pub record IsByPlan (plan : PlanData) (parts : ℕ) (dealing : Dealing) : Type 0
   pub count : dealing.parts ≡ parts
   pub key : dealing.key ≡ plan.window.key
 
--- of so many parts, if a word says how many: the dealing, where the input is no device, beside which they have no files; or the refusal of the one or the other
+-- of so many parts, if a word says how many: the dealing, where the input is no device, beside which they have no
+-- files; or the refusal of the one or the other
 abbrev pub GivesParts : Option ℕ → List ℕ → PlanData → Result (Option Dealing) ImportFault → Type 0
 GivesParts (Some n) input plan (Ok (Some dealing)) = IsByPlan plan n dealing × (is_device input ≡ false)
 GivesParts (Some n) input plan (Err fault) = (is_device input ≡ true) × IsRefusal Options fault

@@ -84,7 +84,8 @@ fn write_report<R: Files + Print + RandomSource + AllocGlobal>(
     }
 }
 
-/// Writes the input to a new file, or its parts to one each, and what is no row of it to others, which take their names.
+/// Writes the input to a new file, or its parts to one each, and what is no row of it to others, which take their
+/// names.
 fn write_files<'r, R: Files + Print + RandomSource + AllocGlobal>(
     rt: &'r R,
     rule: ImportRule<'_>,
@@ -110,7 +111,8 @@ fn write_files<'r, R: Files + Print + RandomSource + AllocGlobal>(
     Ok(streams)
 }
 
-/// The same, and the table of names where there is a file of one. The input's file takes its name last, or those of its parts do.
+/// The same, and the table of names where there is a file of one. The input's file takes its name last, or those of its
+/// parts do.
 fn write_all<R: Files + Print + RandomSource + AllocGlobal>(
     rt: &R,
     rule: ImportRule<'_>,
@@ -181,15 +183,16 @@ fn import_once<R: Files + Print + RandomSource + AllocGlobal>(
     import_alone(rt, with_once(rule, once), words)
 }
 
-/// Writes an input of a plan from the files that words name, or the parts of one, as many as words say, each to a file of its name with
-/// a point and the place of the part from 0 behind it; and with it the table of names, the records that are late, there twice or bad,
-/// and what is told of the import, where words ask for these. Each file that is written holds what it held or all that is written.
+/// Writes an input of a plan from the files that words name, or the parts of one, as many as words say, each to a file
+/// of its name with a point and the place of the part from 0 behind it; and with it the table of names, the records
+/// that are late, there twice or bad, and what is told of the import, where words ask for these. Each file that is
+/// written holds what it held or all that is written.
 ///
 /// # Errors
 ///
-/// What is refused first, the words before the files; `Names` also where another import uses the table, or has changed it;
-/// `Write` where a file cannot be written, is read too or would be written twice; `Memory`. The input's file then holds what it held,
-/// and that of a part what it held or its part.
+/// What is refused first, the words before the files; `Names` also where another import uses the table, or has changed
+/// it; `Write` where a file cannot be written, is read too or would be written twice; `Memory`. The input's file then
+/// holds what it held, and that of a part what it held or its part.
 pub fn import<R: Files + Print + RandomSource + AllocGlobal>(
     rt: &R,
     plan: &Plan,

@@ -86,7 +86,8 @@ fn paths_of(
     Ok(paths)
 }
 
-/// Names the file that was not written, where an import does not tell which: one of those that are written as the records come.
+/// Names the file that was not written, where an import does not tell which: one of those that are written as the
+/// records come.
 pub(crate) fn named<R: AllocGlobal>(
     rt: &R,
     words: &ImportWords<'_>,

@@ -57,11 +57,13 @@ pub struct ImportWords<'a> {
     pub bad: Option<&'a str>,
     /// The file for what is told of the import.
     pub report: Option<&'a str>,
-    /// Whether watermarks are rounded down to the ends of windows, so that a record is late just where its windows are closed.
+    /// Whether watermarks are rounded down to the ends of windows, so that a record is late just where its windows are
+    /// closed.
     pub is_aligned: bool,
     /// The most rows of an entry: as many as there can be, where no word says so.
     pub rows: Option<&'a str>,
-    /// To how many parts the input is dealt out, each with a file of its own: it is written whole, where no word says so.
+    /// To how many parts the input is dealt out, each with a file of its own: it is written whole, where no word says
+    /// so.
     pub ranges: Option<&'a str>,
 }
 
@@ -131,7 +133,8 @@ fn make_all(sources: &[SourceSpec]) -> bool
 ///
 /// # Errors
 ///
-/// `Number` where a word is no number in its range; `Options` where there is a bound, and each source has its own; `Memory`.
+/// `Number` where a word is no number in its range; `Options` where there is a bound, and each source has its own;
+/// `Memory`.
 pub(crate) fn entry_rule(
     alloc: Global,
     words: &ImportWords<'_>,
@@ -185,8 +188,8 @@ fn dealing_by(plan: &Plan, word: &str) -> Option<Dealing>
 ///
 /// # Errors
 ///
-/// `Number` where a word does not say 1 to the lesser of 64 and the plan's key groups; `Options` where the input is a device;
-/// `Memory`.
+/// `Number` where a word does not say 1 to the lesser of 64 and the plan's key groups; `Options` where the input is a
+/// device; `Memory`.
 pub(crate) fn dealing_of(
     alloc: Global,
     words: &ImportWords<'_>,
@@ -304,8 +307,8 @@ fn columns_of(alloc: Global, word: &str, columns: &[Column<'_>]) -> Result<Vec<u
 ///
 /// # Errors
 ///
-/// `Options` where the others of such records are to go to a file, and nothing tells records from one another; `Columns` where no column
-/// has one of the fields; `Memory`.
+/// `Options` where the others of such records are to go to a file, and nothing tells records from one another;
+/// `Columns` where no column has one of the fields; `Memory`.
 pub(crate) fn once_columns(
     alloc: Global,
     words: &ImportWords<'_>,

@@ -83,7 +83,8 @@ fn fold_of(alloc: Global, word: Option<&str>) -> Result<Option<Fold>, ImportFaul
 ///
 /// # Errors
 ///
-/// `Options` where a word says none of two instants, or no zone is named for it; `Columns` where the zone is not known; `Memory`.
+/// `Options` where a word says none of two instants, or no zone is named for it; `Columns` where the zone is not known;
+/// `Memory`.
 pub(crate) fn clocks_of<'z>(
     alloc: Global,
     zone: Option<&str>,

@@ -30,8 +30,8 @@ abbrev pub TakesNext : {R : Type 0} → (R → Option (List ℕ)) → Asked → 
 TakesNext remaining asked old new keys rows start now known partition None = (keys_in known ≡ keys) × WritesRows rows start now partition × HasNone remaining old
 TakesNext remaining asked old new keys rows start now known partition (Some outcome) = (taken : Taken) × Takes keys rows start now known partition outcome taken × TakesRecord remaining asked old new taken
 
--- each record of a list, the last one first, went where it has to behind the rows and records before it: those that are written are the
--- rows, in order, and of each kind there are as many as are counted
+-- each record of a list, the last one first, went where it has to behind the rows and records before it: those that are
+-- written are the rows, in order, and of each kind there are as many as are counted
 pub record Sorts (rule : EntryRule) (keys : List (List ℕ)) (rows : List Row) (start now : List (Option (List ℕ))) (known : Option KnownRecords) (partition : RowTexts) (counts : FateCounts) (records : List Taken) : Type 0 where
   pub ruled : rule_of partition ≡ rule
   pub seen : keys_in known ≡ keys_after keys records
@@ -46,7 +46,8 @@ CopiesAll rule keys rows start now known partition counts = (records : List Take
 abbrev pub CopiesFile : {R : Type 0} → (R → Option (List ℕ)) → Asked → Records R → EntryRule → List (List ℕ) → List Row → List (Option (List ℕ)) → List (Option (List ℕ)) → Option KnownRecords → RowTexts → FateCounts → Type 0
 CopiesFile remaining asked old rule keys rows start now known partition counts = (records : List Taken) × Sorts rule keys rows start now known partition counts records × AreOfFile remaining asked old records
 
--- the same of a file from its beginning on, whose header comes first if it is CSV, and says where the texts of columns stand
+-- the same of a file from its beginning on, whose header comes first if it is CSV, and says where the texts of columns
+-- stand
 abbrev pub CopiesWhole : {R : Type 0} → (R → Option (List ℕ)) → ImportRule → Option (List ℕ) → Records R → EntryRule → List (List ℕ) → List Row → List (Option (List ℕ)) → List (Option (List ℕ)) → Option KnownRecords → RowTexts → FateCounts → Type 0
 CopiesWhole remaining asks columns old rule keys rows start now known partition counts = (records : List Taken) × Sorts rule keys rows start now known partition counts records
     × (asked : Asked) × Asks asks old columns asked × ((rest : Rest) → StandsAt remaining old rest → IsPlaced rest asked.fields asked.rule.places.now asked.picks)
@@ -56,6 +57,7 @@ CopiesWhole remaining asks columns old rule keys rows start now known partition 
 abbrev pub CopiesRows : EntryRule → List (List ℕ) → List (Option (List ℕ)) → List (Option (List ℕ)) → Option KnownRecords → RowTexts → Type 0
 CopiesRows rule keys start now known partition = (records : List Taken) × (keys_in known ≡ keys_after keys records) × WritesRows (rows_after rule keys [] records) start now partition
 
--- the text of a whole partition, or those of its parts, were written, of the rows of records that went where they had to behind the records before
+-- the text of a whole partition, or those of its parts, were written, of the rows of records that went where they had
+-- to behind the records before
 abbrev pub WritesSorted : EntryRule → Option Dealing → List (List ℕ) → List (Option (List ℕ)) → List (Option (List ℕ)) → Option KnownRecords → Type 0
 WritesSorted rule dealing keys start now known = (records : List Taken) × (keys_in known ≡ keys_after keys records) × WritesAll rule dealing (rows_after rule keys [] records) start now

@@ -14,8 +14,8 @@ use Rattle.import_copies.specs.Rows.{said_of, rule_in, HasRow, RefusesRow}
 use Rattle.import_copies.specs.declared.row.GoodRow.{GoodRow}
 use Rattle.import_copies.specs.declared.taking.Source.{Source}
 
--- what is read of the records of a file: the texts of these fields, which in CSV stand there; of them the numbers of a row with its time
--- at a place; and the columns whose texts may tell a record from others
+-- what is read of the records of a file: the texts of these fields, which in CSV stand there; of them the numbers of a
+-- row with its time at a place; and the columns whose texts may tell a record from others
 pub record Asked : Type 0 where
   pub fields : List AskedField
   pub picks : List Pick
@@ -31,7 +31,8 @@ pub record IsFaulty (asked : Asked) (width : Option ℕ) (text : RecordText) : T
   pub why : GivesFields asked.fields asked.picks width text fields (Err fault)
       ⊎ (GivesFields asked.fields asked.picks width text fields (Ok tt) × RefusesRow asked.rule asked.time fields fault)
 
--- what a record is taken for, where records have so many fields: a row of its texts, known by those that tell it from others, if it gives one
+-- what a record is taken for, where records have so many fields: a row of its texts, known by those that tell it from
+-- others, if it gives one
 abbrev pub TakenFor : Asked → Option ℕ → RecordText → Taken → Type 0
 TakenFor asked width text faulty = IsFaulty asked width text
 TakenFor asked width text (good key row) = (fields : List (List ℕ)) × GivesFields asked.fields asked.picks width text fields (Ok tt)

@@ -1,4 +1,5 @@
--- What was written of a partition to its streams: as one text, or dealt out to the parts of the input. What a stream holds may be unknown.
+-- What was written of a partition to its streams: as one text, or dealt out to the parts of the input. What a stream
+-- holds may be unknown.
 use Rattle.std.specs.Prelude.{◌≡◌, ℕ, ◌<◌, List, ◌∷◌, ◌++◌, slice_index_or, Option, Some, None, Result, Ok, Err}
 use Rattle.std.specs.Io.KnownBytes.{Appends}
 use Rattle.import_entries.specs.declared.rule.EntryRule.{EntryRule}

@@ -39,7 +39,8 @@ impl Account {
         self.comparisons.add(numbers);
     }
 
-    /// Ends a file with so many lines, whose records went where the counts say, and with whose rows so many entries begin.
+    /// Ends a file with so many lines, whose records went where the counts say, and with whose rows so many entries
+    /// begin.
     ///
     /// # Errors
     ///

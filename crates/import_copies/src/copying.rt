@@ -1,4 +1,5 @@
-//! From the records of a file to the text of a partition, or to those of its parts, and to where those go that are no rows of it.
+//! From the records of a file to the text of a partition, or to those of its parts, and to where those go that are no
+//! rows of it.
 
 ghost use Rattle.std.specs.Prelude.{◌≡◌, ℕ, List, Option, IfOk, map};
 ghost use Rattle.entry_texts.specs.Partitions.{Row};
@@ -19,8 +20,8 @@ use name_table::NameTable;
 use std::alloc::Global;
 use std::io::{Read, Write};
 
-/// Takes the records of a file, each in one place: those that are rows into a partition, in order, and the others where the ledger has
-/// them. Tells how many went where.
+/// Takes the records of a file, each in one place: those that are rows into a partition, in order, and the others where
+/// the ledger has them. Tells how many went where.
 ///
 /// # Errors
 ///

@@ -57,7 +57,8 @@ pub struct ImportRule<'i> {
     pub entries: EntryRule,
     /// What tells records from one another, if anything does: of those that are the same the first is a row.
     pub once: Option<OnceRule<'i>>,
-    /// How the rows are dealt out to the parts of the input, if they are: then there is a stream for each part, and else one.
+    /// How the rows are dealt out to the parts of the input, if they are: then there is a stream for each part, and
+    /// else one.
     pub dealing: Option<Dealing>,
 }
 
@@ -196,8 +197,8 @@ fn copy_file<'f, R: Files + AllocGlobal, W: Write, L: Write + Drop>(
     }
 }
 
-/// Writes the records of files, behind one another, as a partition: those that are rows, in order, each to the stream of the part that
-/// it goes to, or all to the one stream. Each file is open only while it is read.
+/// Writes the records of files, behind one another, as a partition: those that are rows, in order, each to the stream
+/// of the part that it goes to, or all to the one stream. Each file is open only while it is read.
 ///
 /// # Errors
 ///
@@ -296,14 +297,15 @@ fn import_sources<R: Files + AllocGlobal, W: Write, L: Write + Drop>(
     put(outs, "}\n")
 }
 
-/// Writes an input of files: for each source of a plan its partitions, as words that [`check_sources`](import_words::check_sources) takes name them.
-/// Records that are no rows go where the ledger has a place for them. Where rows are dealt out, there is a stream for each part, and
-/// each gets the text of its part; else there is one stream.
+/// Writes an input of files: for each source of a plan its partitions, as words that
+/// [`check_sources`](import_words::check_sources) takes name them. Records that are no rows go where the ledger has a
+/// place for them. Where rows are dealt out, there is a stream for each part, and each gets the text of its part; else
+/// there is one stream.
 ///
 /// # Errors
 ///
-/// Where the ledger has no place for a record, the first of such records, and how many more there are; what of a whole file is refused
-/// first; `Write`; `Memory`. Some of the text may have been written then.
+/// Where the ledger has no place for a record, the first of such records, and how many more there are; what of a whole
+/// file is refused first; `Write`; `Memory`. Some of the text may have been written then.
 pub fn import_files<R: Files + AllocGlobal, W: Write, L: Write + Drop>(
     rt: &R,
     rule: ImportRule<'_>,

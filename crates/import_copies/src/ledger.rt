@@ -36,8 +36,8 @@ pub struct LedgerWants {
     pub report: bool,
 }
 
-/// What an import keeps beside the input: the records that are no rows of it, what it is refused for where there is no place for
-/// them, and what is to be told of it.
+/// What an import keeps beside the input: the records that are no rows of it, what it is refused for where there is no
+/// place for them, and what is to be told of it.
 #[derive(Drop)]
 pub struct Ledger<L: Write + Drop> {
     alloc: Global,
@@ -106,7 +106,8 @@ impl<L: Write + Drop> Ledger<L> {
         }
     }
 
-    /// Ends a file with so many lines, whose records went where the counts say, and with whose rows so many entries begin.
+    /// Ends a file with so many lines, whose records went where the counts say, and with whose rows so many entries
+    /// begin.
     ///
     /// # Errors
     ///
@@ -237,8 +238,8 @@ impl<L: Write + Drop> Ledger<L> {
         self.refusals.answer()
     }
 
-    /// The places of the records that are no rows, and what is told of the import, which has brought so many new names, if that is
-    /// asked for.
+    /// The places of the records that are no rows, and what is told of the import, which has brought so many new names,
+    /// if that is asked for.
     ///
     /// # Errors
     ///

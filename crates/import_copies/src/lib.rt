@@ -1,5 +1,5 @@
-//! An import: each record of CSV and NDJSON files goes to one place. Those that are rows go into the JSON text of an input, in one pass,
-//! with no more than one entry's rows in memory.
+//! An import: each record of CSV and NDJSON files goes to one place. Those that are rows go into the JSON text of an
+//! input, in one pass, with no more than one entry's rows in memory.
 #![tactic(auto)]
 
 mod account;

@@ -14,7 +14,8 @@ pub(crate) enum Outcome {
     Written,
     /// It is late: its time, and the watermark that it is not above.
     Late(i64, i64),
-    /// One before it is the same. That one stands at this place among those that were the first of their kind, counted from 0.
+    /// One before it is the same. That one stands at this place among those that were the first of their kind, counted
+    /// from 0.
     Twice(usize),
     /// It gives no row.
     Bad(RowFault),

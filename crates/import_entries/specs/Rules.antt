@@ -13,7 +13,8 @@ abbrev pub aligned_marks : Option Bound → WindowEnds → Option Bound
 aligned_marks None ends = None
 aligned_marks (Some marks) ends = Some (record { behind = marks.behind; ends = Some ends; stand = marks.stand })
 
--- those of a source: where it has a bound it makes its own, by that and no other, and none of them stands between its entries
+-- those of a source: where it has a bound it makes its own, by that and no other, and none of them stands between its
+-- entries
 abbrev pub source_marks : Option ℤ → Option Bound → Option Bound
 source_marks None marks = marks
 source_marks (Some bound) marks = Some (record { behind = unsigned_abs bound; ends = None; stand = false })

@@ -1,4 +1,5 @@
-//! How the rows of a partition become entries: where an entry ends, which watermark stands before the next, and which row is late.
+//! How the rows of a partition become entries: where an entry ends, which watermark stands before the next, and which
+//! row is late.
 #![tactic(auto)]
 
 mod ends;

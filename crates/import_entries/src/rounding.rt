@@ -34,8 +34,8 @@ fn last_end(ends: WindowEnds, mark: i64) -> i128
     i128::from(mark) - ahead(ends, mark)
 }
 
-/// A watermark that is rounded down to the last time of a window: just the same windows are due, and of windows that do not overlap
-/// a time is late behind it just where its window is due.
+/// A watermark that is rounded down to the last time of a window: just the same windows are due, and of windows that do
+/// not overlap a time is late behind it just where its window is due.
 pub fn rounded(ends: WindowEnds, mark: i64) -> i128
     ensures value { result ≡ last_end ends mark }
     ensures same { (w : WindowSpec) → AreEndsOf w ends → (s : ℤ) → IsStartOf w s → is_due w result s ≡ is_due w mark s }

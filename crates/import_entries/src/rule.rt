@@ -7,8 +7,8 @@ ghost use Rattle.import_entries.specs.Rules.{marks_of, aligned_marks, source_mar
 use crate::ends::WindowEnds;
 use columns::MOST_ROWS;
 
-/// How far behind the latest a record may come, so that there are watermarks between entries: the greatest time so far less this
-/// less 1, and where windows are given the last time of a window that this has reached.
+/// How far behind the latest a record may come, so that there are watermarks between entries: the greatest time so far
+/// less this less 1, and where windows are given the last time of a window that this has reached.
 #[derive(Clone, Copy, Debug, PartialEq, Eq)]
 pub struct Bound {
     /// How far behind the latest a record may come.

@@ -1,4 +1,5 @@
-//! Where each record of a file goes: into the input, among those set aside as late or as there before, or among the bad ones.
+//! Where each record of a file goes: into the input, among those set aside as late or as there before, or among the bad
+//! ones.
 #![tactic(auto)]
 
 mod counts;

@@ -1,4 +1,5 @@
-//! What is told of an import: of each file how many records went where, and of all of them the new names and the comparisons.
+//! What is told of an import: of each file how many records went where, and of all of them the new names and the
+//! comparisons.
 #![tactic(auto)]
 
 mod report;

@@ -55,7 +55,8 @@ pub struct ImportReport {
 }
 
 impl FileReport {
-    /// What is told of a file with so many lines, whose records went where the counts say, with what is known of its rows.
+    /// What is told of a file with so many lines, whose records went where the counts say, with what is known of its
+    /// rows.
     ///
     /// # Errors
     ///

@@ -13,7 +13,8 @@ abbrev pub before : List ℕ → List (List ℕ) → List (List ℕ)
 before front [] = []
 before front (name ∷ names) = (front ++ name) ∷ names
 
--- the names in a text that stands behind a plus, or behind none: a plus begins the next name, and two stand for one in a name
+-- the names in a text that stands behind a plus, or behind none: a plus begins the next name, and two stand for one in
+-- a name
 abbrev pub names_from : Bool → List ℕ → List (List ℕ)
 names_from false [] = [] ∷ []
 names_from true [] = [] ∷ [] ∷ []

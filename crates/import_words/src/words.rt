@@ -121,8 +121,8 @@ fn said_of<'w>(
 }
 
 /// The files that words name for a source: of each partition those that stand behind one another. Each word is
-/// `SOURCE=FILE+FILE,FILE`, with commas between the partitions and pluses between the files of one; two pluses stand for one in
-/// the name of a file.
+/// `SOURCE=FILE+FILE,FILE`, with commas between the partitions and pluses between the files of one; two pluses stand
+/// for one in the name of a file.
 ///
 /// # Errors
 ///

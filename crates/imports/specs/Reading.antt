@@ -30,7 +30,8 @@ pub data RecordText : Type 0 where
   Fields : List (List ℕ) → RecordText
   Line : List ℕ → RecordText
 
--- what a file has left: of CSV the separator, how many fields a record has, if one was read, the state of the reader and the text; of NDJSON the lines
+-- what a file has left: of CSV the separator, how many fields a record has, if one was read, the state of the reader
+-- and the text; of NDJSON the lines
 pub data Rest : Type 0 where
   Csv : ℕ → Option ℕ → State → List ℕ → Rest
   Lines : List (List ℕ) → Rest
@@ -109,8 +110,8 @@ HasNoTexts asked said fields NoObject = IsRead asked fields said (Err line.NoObj
 HasNoTexts asked said fields (Member column why) = IsRead asked fields said (Err (line.Member column why))
 HasNoTexts asked said fields fault = ⊥
 
--- what comes of a record, where records have so many fields: its fields or the texts that are picked out of them, or those of the members
--- that are asked for; or why it has none
+-- what comes of a record, where records have so many fields: its fields or the texts that are picked out of them, or
+-- those of the members that are asked for; or why it has none
 abbrev pub GivesFields : List AskedField → List Pick → Option ℕ → RecordText → List (List ℕ) → Result (Unit {0}) RowFault → Type 0
 GivesFields asked picks width (Fields said) fields (Ok done) = (fields ≡ picked picks said) × FitsWidth width (length said)
 GivesFields asked picks width (Fields said) fields (Err fault) = HasOtherWidth width said fields fault

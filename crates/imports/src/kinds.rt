@@ -64,7 +64,8 @@ fn pass_header<'f, R: Read + Drop>(
 }
 
 impl<R: Read + Drop> Records<R> {
-    /// The records of what a reader of the file at a path gives: of NDJSON where the path ends so, and else of CSV with a separator.
+    /// The records of what a reader of the file at a path gives: of NDJSON where the path ends so, and else of CSV with
+    /// a separator.
     ///
     /// # Errors
     ///
@@ -107,12 +108,13 @@ impl<R: Read + Drop> Records<R> {
         }
     }
 
-    /// Goes on to the next record, and tells whether there is one. Blank lines are passed over. The texts of the fields stand where
-    /// [`Records::begin`] says, and so do the picks.
+    /// Goes on to the next record, and tells whether there is one. Blank lines are passed over. The texts of the fields
+    /// stand where [`Records::begin`] says, and so do the picks.
     ///
     /// # Errors
     ///
-    /// `Read`; `Width`; `NoObject` or `Member` where the line is no object with a text for each of the fields; `Memory`.
+    /// `Read`; `Width`; `NoObject` or `Member` where the line is no object with a text for each of the fields;
+    /// `Memory`.
     pub fn advance(&mut self, fields: &[AskedField<'_>], picks: &[Pick]) -> Result<bool, RowFault>
         ensures { (rest : Rest) → StandsAt R.remaining self.old rest → Advances R.remaining fields.now picks.now rest self.new result }
     {

@@ -98,7 +98,8 @@ fn joined_pick(
     Ok(Pick::Joined(field.joint, places))
 }
 
-/// Where the text of a field stands in records with a header: in the field of its name, or else in those of the parts of the name.
+/// Where the text of a field stands in records with a header: in the field of its name, or else in those of the parts
+/// of the name.
 fn pick_of(
     alloc: Global,
     header: &ByteRecord,
@@ -119,7 +120,8 @@ fn pick_of(
 ///
 /// # Errors
 ///
-/// `NoField` or `FieldTwice` of the first whose name does not stand once in the header, and neither do all parts of it; `Memory`.
+/// `NoField` or `FieldTwice` of the first whose name does not stand once in the header, and neither do all parts of it;
+/// `Memory`.
 fn picks_of(
     alloc: Global,
     header: &ByteRecord,

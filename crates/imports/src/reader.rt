@@ -16,8 +16,8 @@ use csv::{ByteRecord, Reader, ReaderBuilder};
 use std::alloc::Global;
 use std::io::Read;
 
-/// A reader of CSV on the heap, since it has room for what it reads. It comes onto the stack when it is made and when it is let
-/// go, in frames of their own, which are not there while it reads.
+/// A reader of CSV on the heap, since it has room for what it reads. It comes onto the stack when it is made and when
+/// it is let go, in frames of their own, which are not there while it reads.
 pub(crate) struct CsvReader<R> {
     reader: Box<Reader<R>>,
 }

@@ -36,7 +36,8 @@ fn line_feeds(record: &ByteRecord) -> u64 {
     count
 }
 
-/// Whether the last field of a record ends in a line feed, as it does where a quotation mark is open at the end of a text.
+/// Whether the last field of a record ends in a line feed, as it does where a quotation mark is open at the end of a
+/// text.
 fn ends_line(record: &ByteRecord) -> bool {
     let last = record.len().saturating_sub(1);
     record.get(last).unwrap_or(b"").ends_with(b"\n")
@@ -103,7 +104,8 @@ impl<R: Read + Drop> CsvRows<R> {
         }
     }
 
-    /// Goes on to the next record, and makes one of the texts of columns where these do not all stand in it as they are.
+    /// Goes on to the next record, and makes one of the texts of columns where these do not all stand in it as they
+    /// are.
     ///
     /// # Errors
     ///

@@ -122,8 +122,8 @@ fn place_of(places: &[usize], column: usize) -> usize
 ///
 /// # Errors
 ///
-/// `Value` or `NoText` of the first column whose text is refused, and the row then has the numbers of those before, and the table
-/// their names; `Memory`.
+/// `Value` or `NoText` of the first column whose text is refused, and the row then has the numbers of those before, and
+/// the table their names; `Memory`.
 pub fn fill_row(
     row: &mut RowNumbers,
     names: &mut NameTable,

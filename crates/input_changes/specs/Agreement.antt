@@ -37,7 +37,8 @@ HaveSameEntries old new cut = entries_before old.sources cut ≡ entries_before 
 abbrev pub HaveSameWatermarks : InputData → InputData → List (List ℕ) → Type 0
 HaveSameWatermarks old new cut = watermarks_at old.sources cut ≡ watermarks_at new.sources cut
 
--- two inputs agree before a cut: they have the same columns and time, it is a cut of both, so they have as many sources and partitions, and the entries before it are the same, and the watermarks there
+-- two inputs agree before a cut: they have the same columns and time, it is a cut of both, so they have as many sources
+-- and partitions, and the entries before it are the same, and the watermarks there
 pub record AgreeBefore (old new : InputData) (cut : List (List ℕ)) : Type 0 where
   pub columns : old.columns ≡ new.columns
   pub time : old.time ≡ new.time
@@ -53,7 +54,8 @@ pub record AreSameAt (plan : PlanData) (old new : InputData) (cut : List (List �
   pub due : (q : Pane) → due_rows plan old.sources cut q ≡ due_rows plan new.sources cut q
   pub snapshot : (q : Pane) → snapshot plan old.sources cut q ≡ snapshot plan new.sources cut q
 
--- what may become of a partition of which the first n entries are kept: one that has more goes on with any others, one at least, and one that ends there stays as it is
+-- what may become of a partition of which the first n entries are kept: one that has more goes on with any others, one
+-- at least, and one that ends there stays as it is
 abbrev pub MayBecome : ℕ → List Marked → List Marked → Type 0
 MayBecome n before after = ((n < length before) × ((e : Marked) × (rest : List Marked) × (after ≡ take n before ++ (e ∷ rest)))) ⊎ ((n ≡ length before) × (after ≡ before))
 

@@ -30,7 +30,8 @@ EndedStay = (old new : InputData) (cut : List (List ℕ)) (source partition : �
 abbrev pub EntriesKeepTheCut : Type 0
 EntriesKeepTheCut = (old new : InputData) (cut : List (List ℕ)) → map (λ s. length s) old.sources ≡ map (λ s. length s) new.sources → IsCut old.sources cut → HaveSameEntries old new cut → IsCut new.sources cut
 
--- the same entries before a cut do not do, whatever holds of plans and inputs that are read besides: what is due there is not always the same
+-- the same entries before a cut do not do, whatever holds of plans and inputs that are read besides: what is due there
+-- is not always the same
 abbrev pub WatermarksAreNeeded : Type 0
 WatermarksAreNeeded = ((plan : PlanData) (old new : InputData) (cut : List (List ℕ)) → IsPlan plan → IsInput old → IsInput new → BelongsTo plan old → BelongsTo plan new → IsOrderly plan.window.time old.sources → IsOrderly plan.window.time new.sources
     → IsCut old.sources cut → IsCut new.sources cut → HaveSameEntries old new cut → AreSameAt plan old new cut) → ⊥

@@ -4,8 +4,8 @@ ghost use Rattle.input_changes.specs.Laws.{AgreeEarlier, AgreeThemselves, Agreei
 
 use stream_model::laws::due_is_settled;
 
-/// Of two inputs that agree before a cut the records before it are the same, the merged watermark there, the rows that are due
-/// there and the snapshot.
+/// Of two inputs that agree before a cut the records before it are the same, the merged watermark there, the rows that
+/// are due there and the snapshot.
 pub fn agreeing_are_same()
     ensures { AgreeingAreSame }
 {
@@ -22,14 +22,14 @@ pub fn agree_themselves()
     ensures { AgreeThemselves }
 {}
 
-/// An input agrees with each one that has other entries behind the cut, at least one where there was one, and none where there
-/// was none.
+/// An input agrees with each one that has other entries behind the cut, at least one where there was one, and none
+/// where there was none.
 pub fn going_on_agrees()
     ensures { GoingOnAgrees }
 {}
 
-/// And with none that goes on where the cut is at the end of a partition: its watermark there was the greatest, and is so no
-/// longer.
+/// And with none that goes on where the cut is at the end of a partition: its watermark there was the greatest, and is
+/// so no longer.
 pub fn ended_stay()
     ensures { EndedStay }
 {}
@@ -39,8 +39,8 @@ pub fn entries_keep_the_cut()
     ensures { EntriesKeepTheCut }
 {}
 
-/// It does not do that the entries before a cut are the same: a partition that was read to its end held no window back, and one
-/// that goes on does, so by two inputs of a plan other rows are due there.
+/// It does not do that the entries before a cut are the same: a partition that was read to its end held no window back,
+/// and one that goes on does, so by two inputs of a plan other rows are due there.
 pub fn watermarks_are_needed()
     ensures { WatermarksAreNeeded }
 {}

@@ -5,7 +5,8 @@ use Rattle.std.specs.Option.{option_map_or}
 use Rattle.stream_model.specs.declared.entry.Marked.{Marked}
 use Rattle.stream_model.specs.Watermarks.{partition_watermark}
 
--- the least count of a partition's entries after which its watermark is at least w; all of them, where it is the end alone that brings it
+-- the least count of a partition's entries after which its watermark is at least w; all of them, where it is the end
+-- alone that brings it
 abbrev pub first_count : ℤ → List Marked → ℕ
 first_count w entries = option_map_or (λ n. n) (find (λ n. int_le w (partition_watermark entries n)) (range_with_len 0 (length entries))) (length entries)
 

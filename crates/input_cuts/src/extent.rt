@@ -19,8 +19,8 @@ pub struct Times {
     pub greatest: i64,
 }
 
-/// How many entries and records a partition has, the times of its records, and the greatest watermark that it brings: the least
-/// i64 where it brings none.
+/// How many entries and records a partition has, the times of its records, and the greatest watermark that it brings:
+/// the least i64 where it brings none.
 #[derive(Clone, Copy, Debug, PartialEq, Eq)]
 pub struct Extent {
     pub entries: u64,

@@ -32,8 +32,9 @@ fn first_counts(alloc: Global, watermark: i64, source: &Source) -> Result<Vec<u6
     Ok(counts)
 }
 
-/// The first cut of an input at which the least watermark of its partitions is at least this one: no cut with such a watermark
-/// has a lower count of any partition. A partition's watermark is the greatest i64 at its end, so that there is always one.
+/// The first cut of an input at which the least watermark of its partitions is at least this one: no cut with such a
+/// watermark has a lower count of any partition. A partition's watermark is the greatest i64 at its end, so that there
+/// is always one.
 ///
 /// # Errors
 ///
@@ -65,8 +66,8 @@ fn open_counts(alloc: Global, source: &Source) -> Result<Vec<u64>, AllocError>
     Ok(counts)
 }
 
-/// The last cut of an input before which every partition has an entry left to read, so that a leg which stops there can go on
-/// once there are more entries behind. A partition without entries is at its end at once.
+/// The last cut of an input before which every partition has an entry left to read, so that a leg which stops there can
+/// go on once there are more entries behind. A partition without entries is at its end at once.
 ///
 /// # Errors
 ///

@@ -2,7 +2,8 @@
 
 ghost use Rattle.input_cuts.specs.Laws.{FirstCutIsFirst, FirstCutIsDue};
 
-/// The first cut for a watermark is one with at least that watermark, and no cut with such a watermark is behind it in any place.
+/// The first cut for a watermark is one with at least that watermark, and no cut with such a watermark is behind it in
+/// any place.
 pub fn first_cut_is_first()
     ensures { FirstCutIsFirst }
 {}

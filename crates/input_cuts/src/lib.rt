@@ -1,5 +1,5 @@
-//! Where an input can be cut: how far its partitions go, the first cut at which a watermark is reached, and the cut that leaves
-//! each partition open.
+//! Where an input can be cut: how far its partitions go, the first cut at which a watermark is reached, and the cut
+//! that leaves each partition open.
 #![tactic(auto)]
 
 mod extent;

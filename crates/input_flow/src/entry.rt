@@ -5,8 +5,8 @@ ghost use Rattle.input_flow.specs.InputEntries.{brings};
 
 use stream_model::Marked;
 
-/// The watermark that an entry brings to the source that reads it: its mark, and the greatest i64 with the last entry of its
-/// partition.
+/// The watermark that an entry brings to the source that reads it: its mark, and the greatest i64 with the last entry
+/// of its partition.
 pub fn brought(marked: &Marked, is_last: bool) -> i64
     ensures { result ≡ brings marked.now is_last }
 {

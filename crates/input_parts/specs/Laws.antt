@@ -19,7 +19,8 @@ pub record IsInputOf (plan : PlanData) (input : InputData) : Type 0 where
   pub belongs : BelongsTo plan input
   pub orderly : IsOrderly input.time input.sources
 
--- a part is an input of the same plan: where a source makes its own watermarks, by a bound in range, the part has those of its own records
+-- a part is an input of the same plan: where a source makes its own watermarks, by a bound in range, the part has those
+-- of its own records
 abbrev pub PartsAreInputs : Type 0
 PartsAreInputs = (plan : PlanData) (parts i : ℕ) (input : InputData) → All (λ s. IsBound s.bound) plan.sources → IsInputOf plan input → IsInputOf plan (part_of_input plan parts i input)
 
@@ -36,7 +37,8 @@ abbrev pub HasSome : Entry → Type 0
 HasSome (Rows batch) = 1 ≤ length batch.rows
 HasSome (Watermark t) = Unit {0}
 
--- each partition of a part has its own records and all watermarks that stand in the input's, each in their order, and no entry with nothing
+-- each partition of a part has its own records and all watermarks that stand in the input's, each in their order, and
+-- no entry with nothing
 pub record KeepsOwn (plan : PlanData) (parts i : ℕ) (input part : InputData) : Type 0 where
   pub records : map (map records_in) part.sources ≡ map (map (λ entries. filter (is_in_part plan parts i) (records_in entries))) input.sources
   pub watermarks : map (map watermarks_in) part.sources ≡ map (map watermarks_in) input.sources

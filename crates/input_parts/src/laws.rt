@@ -2,14 +2,15 @@
 
 ghost use Rattle.input_parts.specs.Laws.{PartsAreInputs, PartsHaveTheirRows, PartsKeepTheirOwn, RowsOfPartsAreAll};
 
-/// Each part of an input that is read by a plan is one that is read by it, and no record in it is late. Where a source makes its
-/// own watermarks, the part has those that it makes of the part's records, none higher than the whole's there.
+/// Each part of an input that is read by a plan is one that is read by it, and no record in it is late. Where a source
+/// makes its own watermarks, the part has those that it makes of the part's records, none higher than the whole's
+/// there.
 pub fn parts_are_inputs()
     ensures { PartsAreInputs }
 {}
 
-/// Each partition of a part has its own records of that partition and all watermarks that stand in it, each in their order; no
-/// entry of rows is empty.
+/// Each partition of a part has its own records of that partition and all watermarks that stand in it, each in their
+/// order; no entry of rows is empty.
 pub fn parts_keep_their_own()
     ensures { PartsKeepTheirOwn }
 {}

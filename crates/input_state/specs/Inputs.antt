@@ -59,7 +59,8 @@ any_held (Free ∷ ss) = any_held ss
 any_held (Held ∷ ss) = true
 any_held (Ended ∷ ss) = any_held ss
 
--- what follows once an input was shut: all have the barrier, where an ended input counts as having it, or all have ended
+-- what follows once an input was shut: all have the barrier, where an ended input counts as having it, or all have
+-- ended
 abbrev pub alignment : List Shut → Aligned
 alignment shut = if all_shut shut then (if any_held shut then Barrier else AllEnded) else Waiting
 

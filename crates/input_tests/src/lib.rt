@@ -1,5 +1,6 @@
-//! Tests of inputs and plans: which texts are read token by token, the codes of faults, the bounds of watermarks, and the
-//! slices of windows; and of what `check` does where nothing can be written, and says of savepoints that no job left.
+//! Tests of inputs and plans: which texts are read token by token, the codes of faults, the bounds of watermarks, and
+//! the slices of windows; and of what `check` does where nothing can be written, and says of savepoints that no job
+//! left.
 #![tactic(auto)]
 
 #[cfg(test)]

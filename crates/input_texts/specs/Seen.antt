@@ -172,7 +172,8 @@ bound_under plan name = option_and_then (λ s. s.bound) (find (λ s. bytes_eq s.
 abbrev pub noted_source : Option ℤ → PlanData → Data → Option SourceSeen
 noted_source bound plan d = option_map (source_seen bound plan.columns plan.window.time) (list_text (list_text entry_text) d)
 
--- what the plan's sources are seen to have under their names: None where no member has the name, Some None where its value has another form
+-- what the plan's sources are seen to have under their names: None where no member has the name, Some None where its
+-- value has another form
 abbrev pub slot_of : PlanData → List ℕ → Data → Option SourceSeen
 slot_of plan name d = noted_source (bound_under plan name) plan d
 

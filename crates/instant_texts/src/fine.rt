@@ -79,12 +79,13 @@ fn instant_from(
     }
 }
 
-/// The time since 1970-01-01 00:00 UTC in a unit, as [`field_values::milliseconds`] has it in milliseconds: of the digits behind
-/// the point those are 0 that are finer than the unit.
+/// The time since 1970-01-01 00:00 UTC in a unit, as [`field_values::milliseconds`] has it in milliseconds: of the
+/// digits behind the point those are 0 that are finer than the unit.
 ///
 /// # Errors
 ///
-/// `NoTime`, then `TooFine`, then `NoSuchTime`; `TooLarge` where 64 bits do not hold it, as nanoseconds before 1677 and after 2262.
+/// `NoTime`, then `TooFine`, then `NoSuchTime`; `TooLarge` where 64 bits do not hold it, as nanoseconds before 1677 and
+/// after 2262.
 pub fn instant(text: &[u8], unit: FineUnit) -> Result<i64, FieldFault>
     ensures { result ≡ instant_said (unit_digits unit) text.now }
 {

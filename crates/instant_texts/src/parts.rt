@@ -18,8 +18,8 @@ pub(crate) struct TimeParts<'t> {
     pub(crate) zone: &'t [u8],
 }
 
-/// The parts of a time by their places, or `None` where the text is too short or what stands between the seconds and the zone is
-/// no fraction.
+/// The parts of a time by their places, or `None` where the text is too short or what stands between the seconds and
+/// the zone is no fraction.
 #[tactic(auto, using(field_values::proofs::Forms::short_is_no_time), unfolding(field_values::specs::Instants::is_time, field_values::specs::Instants::clock_text, field_values::specs::Instants::fraction_text, field_values::specs::Instants::fraction_digits, field_values::specs::Instants::zone_text))]
 pub(crate) fn parts_of(text: &[u8]) -> Option<TimeParts<'_>>
     ensures none { IfNone result (is_time text.now ≡ false) }

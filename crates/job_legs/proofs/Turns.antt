@@ -113,7 +113,8 @@ given_up p i cut number saves stop (Abandoned x) taken given some = record { sea
 
 -- ---- a leg on its way
 
--- nothing of a leg has run yet, or it was given up: the job has come to a cut from which what is left of it can run, and is after as many savepoints
+-- nothing of a leg has run yet, or it was given up: the job has come to a cut from which what is left of it can run,
+-- and is after as many savepoints
 pub record IsBetween (p : PlanData) (i : InputData) (cut : List (List ℕ)) (number : ℕ) (leg : LegSpec) (saves : List Cut) (r : Reached) : Type 0 where
   pub here : List (List ℕ)
   pub count : ℕ

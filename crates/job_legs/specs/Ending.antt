@@ -19,12 +19,14 @@ use Rattle.savepoint_index.specs.Layout.{savepoint_bytes}
 use Rattle.job_legs.specs.Reached.{IsLeftBy}
 use Rattle.job_legs.specs.Running.{CanRunLegs, ForbidsLegs, last_stop, savepoints_in}
 
--- the rows that a job has delivered that has come to where it was to stop: all of the plan's, or those that are due at the cut
+-- the rows that a job has delivered that has come to where it was to stop: all of the plan's, or those that are due at
+-- the cut
 abbrev pub rows_to : PlanData → InputData → Stop → Pane → Option Row
 rows_to p i Never = plan_rows p i.sources
 rows_to p i (At cut) = due_rows p i.sources cut.counts
 
--- legs of a job ran: their rows are those of where the last came to, each once, in the order of start and key, and the last left its savepoint, numbered by all that they took, if it stopped
+-- legs of a job ran: their rows are those of where the last came to, each once, in the order of start and key, and the
+-- last left its savepoint, numbered by all that they took, if it stopped
 pub record IsJobEnd (p : PlanData) (i : InputData) (legs : List LegSpec) (found : List Row) (saved : Option (List ℕ)) : Type 0 where
   pub list : are_legs legs ≡ true
   pub can : CanRunLegs i (empty_cut i.sources) legs
@@ -34,7 +36,9 @@ pub record IsJobEnd (p : PlanData) (i : InputData) (legs : List LegSpec) (found 
   pub is_left : IsLeftBy p i (savepoints_in legs) (last_stop legs) left
   pub bytes : saved ≡ option_map savepoint_bytes left
 
--- why legs of a job, with so many lists of choices, have no answer: they are no list of legs, or there is not one list for each, or the first of them that cannot run so cannot stop as it is to, or not take its savepoints on the way, or memory ran out
+-- why legs of a job, with so many lists of choices, have no answer: they are no list of legs, or there is not one list
+-- for each, or the first of them that cannot run so cannot stop as it is to, or not take its savepoints on the way, or
+-- memory ran out
 abbrev pub IsLegsRefusal : InputData → List LegSpec → ℕ → LegFault → Type 0
 IsLegsRefusal i legs lists Legs = are_legs legs ≡ false
 IsLegsRefusal i legs lists Choices = (are_legs legs ≡ true) × ¬ (lists ≡ length legs)

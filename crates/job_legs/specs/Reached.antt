@@ -52,12 +52,14 @@ taken_of (Ended rows sealed) = None
 taken_of (Stopped rows s) = None
 taken_of (Abandoned x) = Some x.barrier
 
--- a leg from a cut, after so many savepoints, came to where it was to stop: the rows that become due on the way, each once, and at a stop the savepoint that is the next after those on the way
+-- a leg from a cut, after so many savepoints, came to where it was to stop: the rows that become due on the way, each
+-- once, and at a stop the savepoint that is the next after those on the way
 pub record ComesTo (p : PlanData) (i : InputData) (cut : List (List ℕ)) (number : ℕ) (saves : List (List (List ℕ))) (stop : Stop) (finish : Finish) : Type 0 where
   pub delivered : AreRowsOf (due_between p i.sources cut (cut_to i (until_of stop))) (rows_of finish)
   pub left : IsLeftBy p i (number + savepoints_to saves stop) stop (saved_of finish)
 
--- it was given up, and had sealed all that it owed up to one of the cuts where it was to take savepoints: the rows that become due from its beginning to there, each once, and the savepoint of that cut
+-- it was given up, and had sealed all that it owed up to one of the cuts where it was to take savepoints: the rows that
+-- become due from its beginning to there, each once, and the savepoint of that cut
 pub record IsGivenUp (p : PlanData) (i : InputData) (cut : List (List ℕ)) (number : ℕ) (saves : List (List (List ℕ))) (x : Sealed) : Type 0 where
   pub passed : ℕ
   pub barrier : x.barrier ≡ suc passed
@@ -71,7 +73,8 @@ HasGiven p i cut number saves stop (Ended rows sealed) = ComesTo p i cut number 
 HasGiven p i cut number saves stop (Stopped rows s) = ComesTo p i cut number saves stop (Stopped rows s)
 HasGiven p i cut number saves stop (Abandoned x) = IsGivenUp p i cut number saves x
 
--- what a leg gives that goes from a cut, after so many savepoints, and takes more at these cuts on its way to where it is to stop
+-- what a leg gives that goes from a cut, after so many savepoints, and takes more at these cuts on its way to where it
+-- is to stop
 pub record IsLegGiven (p : PlanData) (i : InputData) (cut : List (List ℕ)) (number : ℕ) (saves : List (List (List ℕ))) (stop : Stop) (finish : Finish) : Type 0 where
   pub can : CanStop i.sources cut stop
   pub save : CanSaveAt i.sources cut saves (until_of stop)
@@ -83,7 +86,8 @@ pub record IsAt (p : PlanData) (i : InputData) (cut : List (List ℕ)) (number :
   pub rows : AreRowsOf (due_rows p i.sources cut) r.rows.items
   pub saved : HasSaved p i cut number r.savepoint
 
--- a leg came to where it was to stop: the rows are those that are due there, each once, and its savepoint has this number
+-- a leg came to where it was to stop: the rows are those that are due there, each once, and its savepoint has this
+-- number
 pub record IsAfter (p : PlanData) (i : InputData) (stop : Stop) (number : ℕ) (r : Reached) : Type 0 where
   pub is_cut : IsCut i.sources (cut_to i (until_of stop))
   pub rows : AreRowsOf (due_rows p i.sources (cut_to i (until_of stop))) r.rows.items

@@ -70,6 +70,7 @@ pub record HaveRun (p : PlanData) (i : InputData) (legs : List LegSpec) (r : Rea
   pub can : CanRunLegs i (empty_cut i.sources) legs
   pub after : IsAfter p i (last_stop legs) (savepoints_in legs) r
 
--- why they did not: the first that cannot run so, cannot, or memory ran out, or what the way in which they are run may answer besides
+-- why they did not: the first that cannot run so, cannot, or memory ran out, or what the way in which they are run may
+-- answer besides
 abbrev pub IsRunRefusal : (LegFault → Type 0) → InputData → List LegSpec → LegFault → Type 0
 IsRunRefusal other i legs fault = ForbidsLegs i (empty_cut i.sources) legs fault ⊎ (fault ≡ Memory) ⊎ other fault

@@ -1,4 +1,5 @@
--- Ways in which legs are run, each by a function that is called for one leg after the other, and told how many are left.
+-- Ways in which legs are run, each by a function that is called for one leg after the other, and told how many are
+-- left.
 use Rattle.std.specs.Prelude.{◌⊎◌, ℕ, List, Result, OnOk, IfOk, IfErr}
 use Rattle.std.specs.Borrow.{Bor}
 use Rattle.layout_rules.specs.Scale.{IsScale, ScaleData}
@@ -23,7 +24,8 @@ CanRunLeg p i start scale = BelongsTo p i × IsScale p scale × IsStartIn p i st
 abbrev pub IsWayRefusal : (LegFault → Type 0) → List (List (List Marked)) → List (List ℕ) → List (List (List ℕ)) → Stop → LegFault → Type 0
 IsWayRefusal other sources begin saves stop fault = IsRefusal sources begin saves (until_of stop) fault ⊎ other fault
 
--- what a leg answers that is run so: its end, or what it had sealed when it was given up, where it can stop and take its savepoints so; else why it has none
+-- what a leg answers that is run so: its end, or what it had sealed when it was given up, where it can stop and take
+-- its savepoints so; else why it has none
 pub record AnswersLeg (other : LegFault → Type 0) (p : PlanData) (i : InputData) (start : StartData) (saves : List (List (List ℕ))) (stop : Stop) (result : Result Finish LegFault) : Type 0 where
   pub stops : OnOk result (CanStop i.sources (offsets_of start) stop)
   pub saves_so : OnOk result (CanSaveAt i.sources (offsets_of start) saves (until_of stop))

@@ -11,16 +11,16 @@ pub fn nothing_due_at_first()
     let _settled = due_is_settled();
 }
 
-/// Of each pane, the row that is due at a cut, or else the one that becomes due from there to a later one, is the one that is
-/// due at the later one.
+/// Of each pane, the row that is due at a cut, or else the one that becomes due from there to a later one, is the one
+/// that is due at the later one.
 pub fn each_row_adds_up()
     ensures { EachRowAddsUp }
 {
     let _stay = due_rows_stay();
 }
 
-/// The rows that are due at a cut, and those that become due from there to a later one, are together the rows that are due at
-/// the later one.
+/// The rows that are due at a cut, and those that become due from there to a later one, are together the rows that are
+/// due at the later one.
 pub fn rows_add_up()
     ensures { RowsAddUp }
 {

@@ -38,8 +38,8 @@ use stream_model::laws::end_is_due;
 use thread_runner::{Gate, run_leg};
 use window_state::HashKeys;
 
-/// How far a job has come: the rows of its legs, in the order in which they came, and the savepoint that the last of them left,
-/// if it stopped.
+/// How far a job has come: the rows of its legs, in the order in which they came, and the savepoint that the last of
+/// them left, if it stopped.
 #[derive(Drop)]
 struct Reached {
     rows: Vec<Row>,
@@ -63,8 +63,8 @@ fn next_start(
     }
 }
 
-/// Adds what a leg gave to what the legs before it came to, and tells how many of its savepoints it has taken, if it was given
-/// up.
+/// Adds what a leg gave to what the legs before it came to, and tells how many of its savepoints it has taken, if it
+/// was given up.
 fn take_in(reached: &mut Reached, finish: Finish) -> Result<Option<u64>, AllocError>
     ensures rows { OnOk result (reached.new.rows.items ≡ reached.old.rows.items ++ rows_of finish) }
     ensures savepoint { OnOk result (reached.new.savepoint ≡ saved_of finish) }
@@ -98,8 +98,8 @@ fn saves_of(legs: &[LegSpec]) -> &[Cut]
     }
 }
 
-/// Runs legs one after the other, each by a call of `run`, which is told how many are left. Where a leg is given up, what is left of
-/// it runs next, from the last savepoint that it has sealed.
+/// Runs legs one after the other, each by a call of `run`, which is told how many are left. Where a leg is given up,
+/// what is left of it runs next, from the last savepoint that it has sealed.
 fn run_all<
     W: Way,
     F: FnMut(usize, &Plan, &Input, &Start, &Scale, &[Cut], Stop) -> Result<Finish, LegFault>,
@@ -159,8 +159,8 @@ pub fn saved_bytes(
     }
 }
 
-/// What the legs of a job gave together: their rows, in the order of start and key, and the bytes of the savepoint that the
-/// last of them left, if it stopped.
+/// What the legs of a job gave together: their rows, in the order of start and key, and the bytes of the savepoint that
+/// the last of them left, if it stopped.
 #[derive(Drop)]
 pub struct LegsEnd {
     pub rows: Vec<Row>,
@@ -211,18 +211,18 @@ fn choices_of(lists: &[Items<Choice>], left: usize) -> &[Choice] {
     }
 }
 
-/// Runs the legs of a job one after the other, each from what the one before left and the first from nothing, and gives their
-/// rows together. The panes of the windows are hashed by the keys. Each leg has a list of choices, which say what steps are made
-/// first; what the legs give does not hang on them. A leg that is given up for want of memory behind a savepoint on its way is
-/// run again from that savepoint, so its rows come once.
+/// Runs the legs of a job one after the other, each from what the one before left and the first from nothing, and gives
+/// their rows together. The panes of the windows are hashed by the keys. Each leg has a list of choices, which say what
+/// steps are made first; what the legs give does not hang on them. A leg that is given up for want of memory behind a
+/// savepoint on its way is run again from that savepoint, so its rows come once.
 ///
 /// The input and the scales were read by the plan.
 ///
 /// # Errors
 ///
-/// `Legs` where there is no leg, or more than 1,024, or one before the last does not stop; else `Choices` where there are more or
-/// fewer lists of choices than legs; else of the first leg that cannot run from where
-/// the one before stopped, `StopRange` where it cannot stop as it is to, and `SaveRange` where it cannot take its savepoints on the
+/// `Legs` where there is no leg, or more than 1,024, or one before the last does not stop; else `Choices` where there
+/// are more or fewer lists of choices than legs; else of the first leg that cannot run from where the one before
+/// stopped, `StopRange` where it cannot stop as it is to, and `SaveRange` where it cannot take its savepoints on the
 /// way there; `Memory` where memory runs out.
 pub fn run_legs_by(
     alloc: Global,
@@ -261,16 +261,16 @@ pub fn run_legs_by(
     )
 }
 
-/// Runs the legs of a job one after the other, as `run_legs_by` does, but each in a thread for each of its tasks. A task passes
-/// the gate before each of its steps; what the legs give does not hang on which steps it holds up.
+/// Runs the legs of a job one after the other, as `run_legs_by` does, but each in a thread for each of its tasks. A
+/// task passes the gate before each of its steps; what the legs give does not hang on which steps it holds up.
 ///
 /// The input and the scales were read by the plan.
 ///
 /// # Errors
 ///
 /// `Legs` where there is no leg, or more than 1,024, or one before the last does not stop; else of the first leg that
-/// cannot run from where the one before stopped, `StopRange` where it cannot stop as it is to, and `SaveRange` where it cannot take
-/// its savepoints on the way there; `Threads` where a thread was refused; `Memory` where memory runs out.
+/// cannot run from where the one before stopped, `StopRange` where it cannot stop as it is to, and `SaveRange` where it
+/// cannot take its savepoints on the way there; `Threads` where a thread was refused; `Memory` where memory runs out.
 pub fn run_legs<R: Threads + Wait + Clock + Sync, G: Gate>(
     rt: &R,
     alloc: Global,

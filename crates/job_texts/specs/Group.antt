@@ -1,4 +1,5 @@
--- What the words of a question for a key's group say, and the line that answers it; and what the word of a key group says.
+-- What the words of a question for a key's group say, and the line that answers it; and what the word of a key group
+-- says.
 use Rattle.std.specs.Option.{option_and_then}
 use Rattle.std.specs.Prelude.{option_map, ◌≡◌, ℕ, ℤ, ◌^◌, ◌-◌, min, pos, neg_ℤ, nat_le, Bool, ◌&&◌, List, [], ◌∷◌, ◌++◌, drop, length, Option, Some, None, Result, Ok, Err, IsSome, if◌then◌else◌}
 use Rattle.std.specs.Fmt.{decimal}
@@ -45,7 +46,8 @@ group_line group owner = decimal group ++ (32 ∷ (decimal owner ++ (10 ∷ []))
 unfoldable pub answer_line : ℕ → ℕ → ℤ → List ℕ
 answer_line max par key = group_line (key_group max key) (group_owner max par (key_group max key))
 
--- the line for three words, where they are a key, a number of groups up to 32768 and a number of subtasks up to 64 and the groups
+-- the line for three words, where they are a key, a number of groups up to 32768 and a number of subtasks up to 64 and
+-- the groups
 unfoldable pub group_said : List ℕ → List ℕ → List ℕ → Option (List ℕ)
 group_said key max par = option_and_then (λ k. option_and_then (λ m. option_map (λ p. answer_line m p k) (count_said (min m MOST_SUBTASKS) par)) (count_said MOST_GROUPS max)) (key_said key)
 

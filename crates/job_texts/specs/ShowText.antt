@@ -1,5 +1,5 @@
--- The text of a savepoint: a line for its number, for the key groups, for each partition, for the window, and for each entry;
--- and the text of one key group, which is of its entries alone.
+-- The text of a savepoint: a line for its number, for the key groups, for each partition, for the window, and for each
+-- entry; and the text of one key group, which is of its entries alone.
 use Rattle.std.specs.Prelude.{ℕ, List, [], ◌∷◌, ◌++◌, codes}
 use Rattle.std.specs.List.{flat_map, enumerate_from}
 use Rattle.plan_model.specs.declared.spec.Pane.{Pane}

@@ -7,7 +7,8 @@ abbrev pub Wrote : {X : Type 0} → (X → Type 0) → Result X JobFault → Typ
 Wrote writes (Ok x) = writes x
 Wrote writes (Err fault) = ⊥
 
--- where the answer is Ok, what the texts say is written; a refusal is the one that the texts give; a failed write comes after all are read
+-- where the answer is Ok, what the texts say is written; a refusal is the one that the texts give; a failed write comes
+-- after all are read
 abbrev pub Tells : {X : Type 0} → (X → Type 0) → Result X JobFault → Result (Unit {0}) JobFault → Type 0
 Tells writes said (Ok _) = Wrote writes said
 Tells writes said (Err Memory) = Unit {0}

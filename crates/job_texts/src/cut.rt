@@ -57,9 +57,9 @@ fn sources_in(alloc: Global, words: &[&str]) -> Result<Vec<Items<u64>>, JobFault
     Ok(sources)
 }
 
-/// The cut that a word spells, as `2,2/5`: for each source in plan order the counts of its partitions, with commas between
-/// counts and a `/` between sources. A count is 1 to 20 decimal digits of a number below 2^64. Whether an input has such a
-/// cut is judged where a leg is to stop there.
+/// The cut that a word spells, as `2,2/5`: for each source in plan order the counts of its partitions, with commas
+/// between counts and a `/` between sources. A count is 1 to 20 decimal digits of a number below 2^64. Whether an input
+/// has such a cut is judged where a leg is to stop there.
 ///
 /// # Errors
 ///
@@ -83,8 +83,8 @@ fn cuts_in(alloc: Global, words: &[&str]) -> Result<Vec<Cut>, JobFault>
     Ok(cuts)
 }
 
-/// The cuts that a word spells, as `2,2/5+3,2/7`: at least one, with a `+` between them, each as [`read_cut`] reads it. Whether a
-/// leg can take its savepoints there is judged where it begins.
+/// The cuts that a word spells, as `2,2/5+3,2/7`: at least one, with a `+` between them, each as [`read_cut`] reads it.
+/// Whether a leg can take its savepoints there is judged where it begins.
 ///
 /// # Errors
 ///

@@ -1,4 +1,5 @@
-//! The texts of a job: of its rows, its layout, a savepoint and a key's group, its faults, and what the words of a cut, of `group` and of a key group spell.
+//! The texts of a job: of its rows, its layout, a savepoint and a key's group, its faults, and what the words of a cut,
+//! of `group` and of a key group spell.
 #![tactic(auto)]
 
 mod cut;

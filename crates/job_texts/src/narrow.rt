@@ -30,7 +30,8 @@ pub fn put_number(line: &mut [u8], end: usize, before: u8, number: i64) -> usize
     start
 }
 
-/// Writes a space and the number in decimal for each number, in order, so that they end at `end`, and answers where they start.
+/// Writes a space and the number in decimal for each number, in order, so that they end at `end`, and answers where
+/// they start.
 fn put_numbers(line: &mut [u8], end: usize, numbers: &[i64]) -> usize
     requires room { 21 * length numbers.now ≤ end }
     requires inside { end ≤ length line.old }

@@ -34,7 +34,8 @@ fn hash_codes_into(keys: &[i64], codes: &mut [u32])
     }
 }
 
-// Most jobs have a power of two of key groups, and then the low bits of a hash are what a division leaves, and cost less.
+// Most jobs have a power of two of key groups, and then the low bits of a hash are what a division leaves, and cost
+// less.
 fn low_bits(hashes: &mut [u32], bits: u32)
     requires { bits ≤ 15 }
     ensures { hashes.new ≡ map (λ hash. hash % 2 ^ bits) hashes.old }

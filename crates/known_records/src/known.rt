@@ -77,8 +77,8 @@ impl KnownRecords {
     }
 }
 
-/// The place of the record before that is the same as this one in the fields that tell records apart. Where there is none, this
-/// one is one of those from now on. Where no fields are to tell records apart, none is the same as another.
+/// The place of the record before that is the same as this one in the fields that tell records apart. Where there is
+/// none, this one is one of those from now on. Where no fields are to tell records apart, none is the same as another.
 ///
 /// # Errors
 ///

@@ -55,12 +55,14 @@ RingsByGroup = (stages : List Stage) (t : ℕ) → (task_stage stages t).edge �
 abbrev pub TasksHaveOutputs : Type 0
 TasksHaveOutputs = (p : PlanData) (c : ScaleData) (stages : List Stage) (t : ℕ) → IsPlan p → IsScale p c → IsCompiled p c stages → t < task_count stages → (task_role stages t ≡ Sink → ⊥) → 0 < length (outputs_of stages t)
 
--- cuts that follow one another from a start to an end: each counts at least as many entries of each partition as the one before
+-- cuts that follow one another from a start to an end: each counts at least as many entries of each partition as the
+-- one before
 abbrev pub AreRising : (ℕ → ℕ → ℕ) → List (List (List ℕ)) → (ℕ → ℕ → ℕ) → Type 0
 AreRising start [] end = (x q : ℕ) → start x q ≤ end x q
 AreRising start (cut ∷ cuts) end = ((x q : ℕ) → start x q ≤ count_at cut x q) × AreRising (count_at cut) cuts end
 
--- where a leg may begin, save and end, over partitions of these sizes; one that may be asked to stop has no savepoints on the way
+-- where a leg may begin, save and end, over partitions of these sizes; one that may be asked to stop has no savepoints
+-- on the way
 pub record IsRoute (begin : List (List ℕ)) (saves : List (List (List ℕ))) (until : Until) (size : ℕ → ℕ → ℕ) : Type 0 where
   pub rising : AreRising (count_at begin) saves (until_at size until)
   pub within : (x q : ℕ) → until_at size until x q ≤ size x q

@@ -39,7 +39,8 @@ abbrev pub passes_stages : PlanData → List Stage → Record → Bool
 passes_stages p [] r = true
 passes_stages p (s ∷ ss) r = passes_operators p s.operators r && passes_stages p ss r
 
--- an input: the entries of each source and partition, the watermark that each brings, the watermarks after n entries, and how many there are
+-- an input: the entries of each source and partition, the watermark that each brings, the watermarks after n entries,
+-- and how many there are
 pub record Entries : Type 0 where
   pub entry : ℕ → ℕ → ℕ → Message
   pub brings : ℕ → ℕ → ℕ → ℤ

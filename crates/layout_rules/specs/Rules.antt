@@ -38,7 +38,8 @@ may_chain_to p (Filter f) = true
 may_chain_to p Window = true
 may_chain_to p Sink = true
 
--- whether an operator is chained to the one before it, in one stage: a filter that its scale lets chain, at the same parallelism
+-- whether an operator is chained to the one before it, in one stage: a filter that its scale lets chain, at the same
+-- parallelism
 abbrev pub is_chained : PlanData → ScaleData → Operator → Operator → Bool
 is_chained p c o (Source x) = false
 is_chained p c o (Filter f) = (filter_scale c f).chain && ((parallelism_of c o == (filter_scale c f).parallelism) && may_chain_to p o)

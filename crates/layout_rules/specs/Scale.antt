@@ -25,7 +25,8 @@ pub record IsScale (p : PlanData) (c : ScaleData) : Type 0 where
   pub window_parallelism : IsParallelism p.max c.window
   pub tasks_few : task_count (stages_of p c) ≤ MOST_TASKS
 
--- what the stages of every plan with so many key groups and sources meet: those of the sources stand first, before others
+-- what the stages of every plan with so many key groups and sources meet: those of the sources stand first, before
+-- others
 pub record AreStages (max sources : ℕ) (stages : List Stage) : Type 0 where
   pub leading : source_stages stages ≡ sources
   pub more : sources < length stages

@@ -30,8 +30,8 @@ impl Scale {
     ghost use Rattle.std.specs.Prelude.{◌≡◌};
     ghost use Rattle.layout_rules.specs.ScaleData.{IsCapacity, scale_data_of};
 
-    /// A scale of such parts: how many messages a ring holds, 1 to 1,024, and the parallelism of sources and filters, in plan
-    /// order, and of the window. Whether it is one of a plan is not looked at.
+    /// A scale of such parts: how many messages a ring holds, 1 to 1,024, and the parallelism of sources and filters,
+    /// in plan order, and of the window. Whether it is one of a plan is not looked at.
     pub fn new(
         capacity: u32,
         sources: Items<u32>,

@@ -89,8 +89,8 @@ fn choices_from(alloc: Global, bytes: &[u8], legs: usize) -> Result<Items<Items<
 ///
 /// # Errors
 ///
-/// [`LegFault::Choices`] where the bytes are no JSON text, or no list that has for each leg a list of whole numbers of 0 to
-/// 2^32 - 1; [`LegFault::Memory`] where memory runs out.
+/// [`LegFault::Choices`] where the bytes are no JSON text, or no list that has for each leg a list of whole numbers of
+/// 0 to 2^32 - 1; [`LegFault::Memory`] where memory runs out.
 #[tactic(auto, unfolding(crate::specs::ChoicesText::choices_of_bytes))]
 pub fn read_choices(
     alloc: Global,

@@ -13,7 +13,8 @@ use Rattle.leg_receipts.specs.declared.making.Told.{Told}
 abbrev pub told_at : PlanData → InputData → List (List ℕ) → ℕ → Told → List ℕ
 told_at p i cut legs told = receipt_text told.version.now p.sources (receipt_of p i cut legs told.rows.now (option_map (λ bytes. bytes.now) told.names))
 
--- of one that has left a savepoint at a place, which has its number; or that has gone from there to the end of the input
+-- of one that has left a savepoint at a place, which has its number; or that has gone from there to the end of the
+-- input
 abbrev pub told_of : Bool → Told → Place → List ℕ
 told_of true told place = told_at place.plan place.input (offsets_of place.start) place.start.number told
 told_of false told place = told_at place.plan place.input (full_cut place.input.sources) (place.start.number + 1) told

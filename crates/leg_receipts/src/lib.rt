@@ -1,4 +1,5 @@
-//! Receipts of legs, from bytes: whether a leg can go on by the receipt of the one before, and the receipt that it leaves itself.
+//! Receipts of legs, from bytes: whether a leg can go on by the receipt of the one before, and the receipt that it
+//! leaves itself.
 #![tactic(auto)]
 
 mod cuts;

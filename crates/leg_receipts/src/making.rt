@@ -111,15 +111,15 @@ fn receipt_over(
     receipt_on(alloc, plan, &input, from, saved, told)
 }
 
-/// The text of the receipt of a leg of a plan over an input that went from the savepoint `from`, or from nothing, and has left the
-/// savepoint `saved` where it stopped, or has gone to the end. Each is given by its bytes. The receipt tells of the entries before
-/// the cut to which the leg has come, and of as many legs as the number of its savepoint says, or one more than that from which it
-/// went. The version has no character that JSON escapes.
+/// The text of the receipt of a leg of a plan over an input that went from the savepoint `from`, or from nothing, and
+/// has left the savepoint `saved` where it stopped, or has gone to the end. Each is given by its bytes. The receipt
+/// tells of the entries before the cut to which the leg has come, and of as many legs as the number of its savepoint
+/// says, or one more than that from which it went. The version has no character that JSON escapes.
 ///
 /// # Errors
 ///
-/// The plan's fault, the input's, the savepoint's, `Restore` where the job cannot go on from it: none of them where the leg has been
-/// run; `Memory`.
+/// The plan's fault, the input's, the savepoint's, `Restore` where the job cannot go on from it: none of them where the
+/// leg has been run; `Memory`.
 pub fn leg_receipt(
     alloc: Global,
     plan: &[u8],

@@ -68,15 +68,15 @@ fn check_over(
     check_from(alloc, plan, &input, from, since, names)
 }
 
-/// Whether a leg of a plan that goes on over an input from the savepoint `from` can do so by the receipt `since` of the leg that left
-/// it: whether the plan, the entries before the savepoint's cut, and the names are still those that the receipt tells of. Each is
-/// given by its bytes.
+/// Whether a leg of a plan that goes on over an input from the savepoint `from` can do so by the receipt `since` of the
+/// leg that left it: whether the plan, the entries before the savepoint's cut, and the names are still those that the
+/// receipt tells of. Each is given by its bytes.
 ///
 /// # Errors
 ///
-/// In place of an answer, what `job_leg` refuses at any scale: the plan's fault, the input's, the savepoint's, `Restore` where the
-/// job cannot go on from it; `Memory`. The answer is an error where the bytes of `since` are no receipt, and where one of these is
-/// no longer what it was.
+/// In place of an answer, what `job_leg` refuses at any scale: the plan's fault, the input's, the savepoint's,
+/// `Restore` where the job cannot go on from it; `Memory`. The answer is an error where the bytes of `since` are no
+/// receipt, and where one of these is no longer what it was.
 pub fn check_since(
     alloc: Global,
     plan: &[u8],

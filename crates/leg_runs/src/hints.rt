@@ -1,8 +1,8 @@
 //! Which steps are tried first, so that no step needs a look at all tasks.
 //!
-//! Hints say what tasks are to do, the newest last. A message that is put leaves the hint that it is taken, so it is taken as
-//! soon as it is put, and its sender goes on once that led to nothing more. What steps there are does not hang on hints being
-//! good ones: each is tried, and all tasks are gone through where none is left.
+//! Hints say what tasks are to do, the newest last. A message that is put leaves the hint that it is taken, so it is
+//! taken as soon as it is put, and its sender goes on once that led to nothing more. What steps there are does not hang
+//! on hints being good ones: each is tried, and all tasks are gone through where none is left.
 
 ghost use Rattle.std.specs.Prelude.{◌≡◌, IfOk, false, vec_len};
 ghost use Rattle.task_setups.specs.Legs.{IsLayoutOf};
@@ -125,7 +125,8 @@ fn try_take(
     try_put(world, layout, hints, task)
 }
 
-/// Makes a task read the partition after the one that it read, if that is what it did and there is an entry, and says whether.
+/// Makes a task read the partition after the one that it read, if that is what it did and there is an entry, and says
+/// whether.
 fn try_next(
     world: &mut World,
     layout: &Layout,

@@ -63,8 +63,8 @@ fn given_up(alloc: Global, world: &World<'_>) -> Result<Finish, AllocError>
     }
 }
 
-/// What a world comes to that has just opened: the steps that the choices pick are made, then others until there is none, or
-/// until one finds no memory.
+/// What a world comes to that has just opened: the steps that the choices pick are made, then others until there is
+/// none, or until one finds no memory.
 fn finish_by(
     alloc: Global,
     mut world: World<'_>,
@@ -88,20 +88,20 @@ fn finish_by(
     }
 }
 
-/// Runs a leg that begins at a start, on the layout of the plan at a scale, to the end of its input or to the cut where it
-/// stops and leaves a savepoint: steps are made until there is none. On its way it takes savepoints at some cuts. Where a step
-/// finds no memory, it is given up with what it has sealed at the last of them that is complete. The panes of the windows are
-/// hashed by the keys.
+/// Runs a leg that begins at a start, on the layout of the plan at a scale, to the end of its input or to the cut where
+/// it stops and leaves a savepoint: steps are made until there is none. On its way it takes savepoints at some cuts.
+/// Where a step finds no memory, it is given up with what it has sealed at the last of them that is complete. The panes
+/// of the windows are hashed by the keys.
 ///
-/// Each choice in turn says which step is made, of all that could be made in the order of tasks, then of `Step`'s kinds, then of
-/// partitions or inputs. Where they are at an end, messages are taken as soon as may be.
+/// Each choice in turn says which step is made, of all that could be made in the order of tasks, then of `Step`'s
+/// kinds, then of partitions or inputs. Where they are at an end, messages are taken as soon as may be.
 ///
 /// The input and the scale were read by the plan, and the start is one of the input.
 ///
 /// # Errors
 ///
-/// `StopRange` where a leg from the start cannot stop so, else `SaveRange` where it cannot take its savepoints on the way
-/// there, else `Memory` where memory runs out before a savepoint is complete.
+/// `StopRange` where a leg from the start cannot stop so, else `SaveRange` where it cannot take its savepoints on the
+/// way there, else `Memory` where memory runs out before a savepoint is complete.
 pub fn run_leg_by(
     alloc: Global,
     keys: HashKeys,
@@ -138,8 +138,8 @@ pub fn run_leg_by(
     Ok(finish_by(alloc, world, &layout, choices)?)
 }
 
-/// The rows of a leg that starts from nothing and runs to the end of an input, in the order in which they came: those of a
-/// whole job, without a savepoint. The panes of the windows are hashed by the keys.
+/// The rows of a leg that starts from nothing and runs to the end of an input, in the order in which they came: those
+/// of a whole job, without a savepoint. The panes of the windows are hashed by the keys.
 ///
 /// The input and the scale were read by the plan.
 ///

@@ -28,8 +28,8 @@ fn try_first(world: &mut World, layout: &Layout, hints: &mut Vec<Hint>) -> Resul
     Ok(true)
 }
 
-/// Makes the step of the newest hint that leads to one, or the first step of all where no hint does, and says whether there is
-/// one. Hints that lead to none are taken out.
+/// Makes the step of the newest hint that leads to one, or the first step of all where no hint does, and says whether
+/// there is one. Hints that lead to none are taken out.
 fn try_any(world: &mut World, layout: &Layout, hints: &mut Vec<Hint>) -> Result<bool, AllocError>
     requires same { layout.now ≡ world.old.given.layout }
     requires laid_out { IsLayoutOf world.old.given.plan layout.now }
@@ -46,9 +46,9 @@ fn try_any(world: &mut World, layout: &Layout, hints: &mut Vec<Hint>) -> Result<
     try_first(world, layout, hints)
 }
 
-/// Makes the step of each choice in turn, as long as there is one: of so many steps that could be made, in the order of tasks,
-/// then of `Step`'s kinds, then of partitions or inputs, the one at the choice's place. Choices that are left where no step can be
-/// made any more are not looked at. The layout is the world's.
+/// Makes the step of each choice in turn, as long as there is one: of so many steps that could be made, in the order of
+/// tasks, then of `Step`'s kinds, then of partitions or inputs, the one at the choice's place. Choices that are left
+/// where no step can be made any more are not looked at. The layout is the world's.
 ///
 /// # Errors
 ///

@@ -1,7 +1,8 @@
 //! The steps that choices make.
 //!
-//! To count all steps that could be made takes a look at each ring. So how many each task could make is kept, and after a step
-//! counted anew for the task that made it and for the one at the other end of its ring, since no other's have changed.
+//! To count all steps that could be made takes a look at each ring. So how many each task could make is kept, and after
+//! a step counted anew for the task that made it and for the one at the other end of its ring, since no other's have
+//! changed.
 
 ghost use Rattle.std.specs.Prelude.{◌≡◌, ◌<◌, IfSome, false};
 ghost use Rattle.layout_rules.specs.Stages.{task_count};

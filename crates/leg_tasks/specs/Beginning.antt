@@ -65,7 +65,8 @@ new_task p s leg stages t = begun_with p leg stages t (whole_task_start p.max (p
 abbrev pub new_tasks : PlanData → StartData → model.Leg → List Stage → List TaskData
 new_tasks p s leg stages = each_task stages (new_task p s leg stages)
 
--- tasks begin a leg from a start: each stands for the layout's task of its number, a source finds its partitions in the input and reads there what the layout's task has, none has failed, and each begins with its part of the start
+-- tasks begin a leg from a start: each stands for the layout's task of its number, a source finds its partitions in the
+-- input and reads there what the layout's task has, none has failed, and each begins with its part of the start
 pub record BeginLeg (p : PlanData) (i : InputData) (s : StartData) (stages : List Stage) (l : AbstractLayout) (tasks : List TaskData) : Type 0 where
   pub count : length tasks ≡ suc l.sink
   pub stands : (t : ℕ) (d : TaskData) → t ≤ l.sink → Stands p (l.task t) (slice_index_or tasks t d)

@@ -45,7 +45,8 @@ part_at kinds e = record { pane = e.0; acc = record { kinds = kinds; total = e.1
 abbrev pub parts_left : List Kind → Windows → List Part
 parts_left kinds windows = map (part_at kinds) (entries windows)
 
--- what task t leaves that is in this state, where the sources have so many partitions: a source's task how far it has read its partitions, the window's task what stands in its windows, any other nothing
+-- what task t leaves that is in this state, where the sources have so many partitions: a source's task how far it has
+-- read its partitions, the window's task what stands in its windows, any other nothing
 abbrev pub part_left : List ℕ → List Kind → List Stage → ℕ → State → TaskStart
 part_left counts kinds stages t s = with_windows (parts_left kinds s.windows) (start_of_role (task_role stages t) (starts_left (partitions_of counts stages t) s))
 
@@ -65,7 +66,8 @@ state_at at s = record s { offsets = (seen_at at s).offsets; inputs = inputs_fro
 abbrev pub HaveStates : List Stage → List TaskData → (ℕ → State) → Type 0
 HaveStates stages tasks states = (t : ℕ) (d : TaskData) → t < task_count stages → (slice_index_or tasks t d).state ≡ states t
 
--- a task with this number in a layout: a source's task has its partitions, and in the windows of a window's task stands, or stood then, what is of its own key groups, in no pane more records than may be saved
+-- a task with this number in a layout: a source's task has its partitions, and in the windows of a window's task
+-- stands, or stood then, what is of its own key groups, in no pane more records than may be saved
 pub record CanLeave (p : PlanData) (stages : List Stage) (at : Moment) (t : ℕ) (d : TaskData) : Type 0 where
   pub role : d.setup.role ≡ task_role stages t
   pub inputs : task_role stages t ≡ Source → d.setup.inputs ≡ length (partitions_of (partition_counts p) stages t)

@@ -29,8 +29,8 @@ use window_state::HashKeys;
 /// A task of a leg, told its place in the layout and its part of the leg, that begins with what it is given.
 ///
 /// The layout is one of the plan, the savepoints that follow have numbers, and the opening suits the task: it has a
-/// watermark for each input, of a source an offset for each of its partitions, and windows of the plan's operator where it
-/// is the window's task, alone.
+/// watermark for each input, of a source an offset for each of its partitions, and windows of the plan's operator where
+/// it is the window's task, alone.
 ///
 /// # Errors
 ///
@@ -106,16 +106,17 @@ fn tasks_from(
     Ok(tasks)
 }
 
-/// The tasks of a leg that begins at a start, in order: each source where the start has its partitions, and in the windows of
-/// each of the window's tasks what the start has for its key groups. The panes of the windows are hashed by the keys.
+/// The tasks of a leg that begins at a start, in order: each source where the start has its partitions, and in the
+/// windows of each of the window's tasks what the start has for its key groups. The panes of the windows are hashed by
+/// the keys.
 ///
 /// The layout is one of the plan, the input was read by it, the start is one of the input, and the leg goes on from the
 /// start's savepoint.
 ///
 /// # Errors
 ///
-/// `StopRange` where a leg from the start cannot go so far, else `SaveRange` where it cannot take its savepoints on the way
-/// there, else `Memory` where memory runs out.
+/// `StopRange` where a leg from the start cannot go so far, else `SaveRange` where it cannot take its savepoints on the
+/// way there, else `Memory` where memory runs out.
 pub fn tasks(
     alloc: Global,
     keys: HashKeys,

@@ -10,8 +10,8 @@ pub fn tasks_save_the_cut()
     ensures { TasksSaveTheCut }
 {}
 
-/// What is saved at a cut of an input, under a number, is one savepoint, whatever saved it: legs in one thread and on threads, at
-/// any scale and in any order of steps.
+/// What is saved at a cut of an input, under a number, is one savepoint, whatever saved it: legs in one thread and on
+/// threads, at any scale and in any order of steps.
 pub fn saved_at_is_one()
     ensures { SavedAtIsOne }
 {

@@ -53,8 +53,8 @@ fn starts_left(
     Ok(Items::from_vec(starts))
 }
 
-/// What the task with this number leaves, or would have left then: a source's task how far it has read its partitions, a
-/// window's task what stands in its windows, in the order of start and key, and any other nothing.
+/// What the task with this number leaves, or would have left then: a source's task how far it has read its partitions,
+/// a window's task what stands in its windows, in the order of start and key, and any other nothing.
 fn part_left(
     alloc: Global,
     layout: &Layout,
@@ -127,11 +127,11 @@ pub fn save_parts(
     gather(alloc, plan, layout, parts.as_slice(), number)
 }
 
-/// The savepoint of this number that the tasks of a layout leave, or that of a barrier which they have passed: how far the
-/// sources have read their partitions, and what stands in the windows, or had when the task passed the barrier.
+/// The savepoint of this number that the tasks of a layout leave, or that of a barrier which they have passed: how far
+/// the sources have read their partitions, and what stands in the windows, or had when the task passed the barrier.
 ///
-/// The tasks are those of the layout, and what stands in the windows of each then is of its own key groups, with at most 2^40
-/// records in each pane.
+/// The tasks are those of the layout, and what stands in the windows of each then is of its own key groups, with at
+/// most 2^40 records in each pane.
 ///
 /// # Errors
 ///

@@ -4,8 +4,8 @@ ghost use Rattle.std.specs.Prelude.{◌≡◌, ◌==◌, ◌<◌, ◌%◌, lengt
 
 use plain_data::Items;
 
-/// Which of the steps is made that the tasks of a leg could make: of so many steps the one at the place, from 0, that is left
-/// over where its number is divided by them.
+/// Which of the steps is made that the tasks of a leg could make: of so many steps the one at the place, from 0, that
+/// is left over where its number is divided by them.
 #[derive(Clone, Copy, Debug, PartialEq, Eq)]
 pub struct Choice {
     pub number: u32,

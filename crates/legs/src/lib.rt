@@ -1,5 +1,5 @@
-//! How far a leg of a job goes, to the end of its input or to a cut of it, in which order its steps are made, and why there is no such
-//! leg: by what it is to do, or by the savepoint that it is to go on from.
+//! How far a leg of a job goes, to the end of its input or to a cut of it, in which order its steps are made, and why
+//! there is no such leg: by what it is to do, or by the savepoint that it is to go on from.
 #![tactic(auto)]
 
 mod choice;

@@ -7,8 +7,8 @@ use std::alloc::AllocError;
 use std::fmt;
 use thiserror::Error;
 
-/// Why a job cannot go on from a savepoint, with a plan and an input. The first of these that stands is answered, each over
-/// the whole savepoint before the next.
+/// Why a job cannot go on from a savepoint, with a plan and an input. The first of these that stands is answered, each
+/// over the whole savepoint before the next.
 #[derive(Clone, Copy, Debug, PartialEq, Eq, Error)]
 pub enum RestoreFault {
     /// The plan has another number of key groups.

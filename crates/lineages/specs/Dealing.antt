@@ -25,7 +25,8 @@ AreDealt p l s parts = parts ≡ each_task l.stages (whole_task_start p.max (par
 abbrev pub AreGathered : PlanData → LayoutData → List TaskStart → ℕ → Contents → Type 0
 AreGathered p l parts number saved = saved ≡ savepoint_of p (sources_in p l.stages parts) (windows_in parts) number
 
--- parts say together what a start says: of each partition of each source how far it was read, with its watermark there, and of each pane what stands there, so that the savepoint of them is that of the start
+-- parts say together what a start says: of each partition of each source how far it was read, with its watermark there,
+-- and of each pane what stands there, so that the savepoint of them is that of the start
 pub record SayStart (p : PlanData) (l : LayoutData) (s : StartData) (parts : List TaskStart) : Type 0 where
   pub sources : sources_in p l.stages parts ≡ s.sources
   pub windows : (q : Pane) → get (windows_in parts) q ≡ get (windows_of s) q
@@ -35,7 +36,8 @@ pub record SayStart (p : PlanData) (l : LayoutData) (s : StartData) (parts : Lis
 abbrev pub DealtAreGathered : Type 0
 DealtAreGathered = (p : PlanData) (l : LayoutData) (i : InputData) (s : StartData) (parts : List TaskStart) → IsPlan p → IsLayoutOf p l → BelongsTo p i → IsStartIn p i s → AreDealt p l s parts → SayStart p l s parts
 
--- so a savepoint that is accepted, whoever made it, dealt out and put together again under its own number, is the one that its bytes spell
+-- so a savepoint that is accepted, whoever made it, dealt out and put together again under its own number, is the one
+-- that its bytes spell
 abbrev pub SavepointsAreGatheredAgain : Type 0
 SavepointsAreGatheredAgain = (p : PlanData) (l : LayoutData) (i : InputData) (bytes : List ℕ) (s : StartData) (parts : List TaskStart) (saved : Contents) → IsPlan p → IsLayoutOf p l → BelongsTo p i → IsStartIn p i s
     → ComesFrom p i bytes s → AreDealt p l s parts → AreGathered p l parts s.number saved → Spells bytes saved

@@ -18,8 +18,9 @@ use savepoint_index::decode;
 use std::alloc::{AllocError, Global};
 use stream_model::Input;
 
-/// How a world has ended, where all its tasks are done: it is a leg then, of its plan and input, from its start to where it was
-/// to stop, with the savepoints that it was to take on its way. `None` where not every task is done, or the world has failed.
+/// How a world has ended, where all its tasks are done: it is a leg then, of its plan and input, from its start to
+/// where it was to stop, with the savepoints that it was to take on its way. `None` where not every task is done, or
+/// the world has failed.
 ///
 /// # Errors
 ///
@@ -36,7 +37,8 @@ pub fn leg_of(alloc: Global, world: World<'_>) -> Result<Option<Finish>, AllocEr
 ///
 /// # Errors
 ///
-/// `Save` where the bytes spell no savepoint, `Restore` where the job of the plan cannot go on from it with the input; `Memory`.
+/// `Save` where the bytes spell no savepoint, `Restore` where the job of the plan cannot go on from it with the input;
+/// `Memory`.
 #[tactic(auto, unfolding(job::specs::Leg::start_said))]
 pub fn start_from(
     alloc: Global,

@@ -19,7 +19,8 @@ use Rattle.local_times.specs.declared.clocks.Fold.{Fold}
 use Rattle.local_times.specs.declared.clocks.Fold.TheVariants.{First, Second}
 use Rattle.local_times.specs.declared.unit.TimeUnit.{TimeUnit}
 
--- the offset of a time that has these: its own where clocks show it once, and else that of the earlier or the later instant, if it is said which is meant
+-- the offset of a time that has these: its own where clocks show it once, and else that of the earlier or the later
+-- instant, if it is said which is meant
 abbrev pub chosen_offset : Option Fold → AmbiguousOffset → Option Offset
 chosen_offset fold (offsets.Unambiguous offset) = Some offset
 chosen_offset None (offsets.Gap before after) = None
@@ -34,7 +35,8 @@ abbrev pub at_offset : TimeUnit → ℤ → Option Offset → Result ℤ FieldFa
 at_offset unit number (Some offset) = held (number -ℤ offset.seconds *ℤ pos (10 ^ digits_of unit))
 at_offset unit number None = Err NoSuchTime
 
--- the instant at which clocks of the zone show what is so many units as if they showed UTC, by the offset that they have then
+-- the instant at which clocks of the zone show what is so many units as if they showed UTC, by the offset that they
+-- have then
 pub record IsShown (zone : TimeZone) (fold : Option Fold) (unit : TimeUnit) (number : ℤ) (answer : Result ℤ FieldFault) : Type 0 where
   pub shown : DateTime
   pub clocks : civil_nanos shown ≡ nanos_in unit number

@@ -12,7 +12,8 @@ use jiff_core::Timestamp;
 use jiff_core::civil::DateTime;
 use jiff_tz::TimeZone;
 
-/// The number that a text without a zone is in a unit, counted as if clocks showed UTC. A text of more than 63 bytes is none.
+/// The number that a text without a zone is in a unit, counted as if clocks showed UTC. A text of more than 63 bytes is
+/// none.
 ///
 /// # Errors
 ///
@@ -27,8 +28,8 @@ pub(crate) fn civil(text: &[u8], unit: TimeUnit) -> Result<i64, FieldFault>
     unit.read(zoned.as_slice())
 }
 
-/// The date and the time of day that clocks of UTC show so many nanoseconds after 1970, if that is no year before -9999 and not
-/// in the last day of the year 9999.
+/// The date and the time of day that clocks of UTC show so many nanoseconds after 1970, if that is no year before -9999
+/// and not in the last day of the year 9999.
 pub(crate) fn shown_at(nanoseconds: i128) -> Option<DateTime>
     ensures { MatchOption result (¬ IsTimestampNanos nanoseconds) (λ shown. civil_nanos shown ≡ nanoseconds) }
 {

@@ -6,8 +6,8 @@ ghost use Rattle.local_times.specs.Local.{chosen_offset};
 use jiff_core::Offset;
 use jiff_tz::{AmbiguousOffset, TimeZone};
 
-/// Which of two instants a time is that clocks show twice where they are put back, or never where they are put forward: never
-/// shown, it is taken as if they had not been put forward yet, or already.
+/// Which of two instants a time is that clocks show twice where they are put back, or never where they are put forward:
+/// never shown, it is taken as if they had not been put forward yet, or already.
 #[derive(Clone, Copy, Debug, PartialEq, Eq)]
 pub enum Fold {
     /// The earlier one.

@@ -37,12 +37,13 @@ fn instant_of(
     }
 }
 
-/// The number of a unit that a text is, from 1970-01-01 00:00 UTC on: by the zone in the text or, where it has none, by clocks.
+/// The number of a unit that a text is, from 1970-01-01 00:00 UTC on: by the zone in the text or, where it has none, by
+/// clocks.
 ///
 /// # Errors
 ///
-/// `NoTime`, then `TooFine`, then `NoSuchTime`, which also stands for a time that the clocks show twice or never where it is not
-/// said which is meant, and for one in the last day of the year 9999 that has no zone; `TooLarge`.
+/// `NoTime`, then `TooFine`, then `NoSuchTime`, which also stands for a time that the clocks show twice or never where
+/// it is not said which is meant, and for one in the last day of the year 9999 that has no zone; `TooLarge`.
 pub fn time_of(text: &[u8], unit: TimeUnit, clocks: &Clocks<'_>) -> Result<i64, FieldFault>
     ensures { IsTimeOf clocks.now unit text.now result }
 {

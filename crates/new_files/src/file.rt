@@ -29,9 +29,9 @@ pub(crate) enum Target {
 }
 
 /// A file that is written beside the one at a path, and takes its name once its bytes are on the disk: whatever happens
-/// meanwhile, there is what there was or all that is written. What is no regular file of a name of its own, as a pipe, a
-/// device or what is open under a number, is written to as it stands, behind what it holds, and the standard output by the
-/// stream that is open.
+/// meanwhile, there is what there was or all that is written. What is no regular file of a name of its own, as a pipe,
+/// a device or what is open under a number, is written to as it stands, behind what it holds, and the standard output
+/// by the stream that is open.
 #[derive(Drop)]
 pub struct NewFile {
     target: Target,

@@ -11,7 +11,8 @@ use std::io::ErrorKind;
 use std::marker::Model;
 use std::rt::Files;
 
-/// A file beside another, which is there as long as a program reads and writes the other. What is no regular file has none.
+/// A file beside another, which is there as long as a program reads and writes the other. What is no regular file has
+/// none.
 #[derive(Drop)]
 pub struct LockFile {
     path: Option<String>,
@@ -61,8 +62,8 @@ impl LockFile {
     ///
     /// # Errors
     ///
-    /// `AlreadyExists` where it is there, so that the other file is in use, or a program that used it was ended; any other
-    /// where none can be made.
+    /// `AlreadyExists` where it is there, so that the other file is in use, or a program that used it was ended; any
+    /// other where none can be made.
     pub fn take<R: Files>(&self, rt: &R) -> io::Result<()>
         ensures { self.now ≡ None → IsOk result }
     {

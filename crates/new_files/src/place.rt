@@ -1,5 +1,5 @@
-//! Where what is written to a path goes. For each call of the system a path is copied onto the stack, so functions that make one
-//! have frames of their own.
+//! Where what is written to a path goes. For each call of the system a path is copied onto the stack, so functions that
+//! make one have frames of their own.
 
 ghost use Rattle.std.specs.Prelude.{◌≡◌, IfErr};
 ghost use Rattle.std.specs.IoError.{error_kind};
@@ -136,8 +136,8 @@ pub(crate) fn place_of<R: Files + AllocGlobal>(rt: &R, path: &str) -> io::Result
     }
 }
 
-/// Whether the standard output goes into the regular file that a path names. Two names that a file has of its own, as hard
-/// links, are not told apart.
+/// Whether the standard output goes into the regular file that a path names. Two names that a file has of its own, as
+/// hard links, are not told apart.
 ///
 /// # Errors
 ///

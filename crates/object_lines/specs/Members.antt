@@ -51,8 +51,8 @@ is_dot b = b == 46
 abbrev pub has_dot : List ℕ → Bool
 has_dot name = nat_lt (position_or_len is_dot name) (length name)
 
--- the value of a name, in so many objects in one another at most: of the member that has it, or else, by what stands behind its first
--- dot, in the member of what stands before that
+-- the value of a name, in so many objects in one another at most: of the member that has it, or else, by what stands
+-- behind its first dot, in the member of what stands before that
 unfoldable pub nested : ℕ → List ℕ → Members → Result Json MemberFault
 nested zero name ms = only (values_of name ms)
 nested (suc depth) name ms =

@@ -7,7 +7,8 @@ use Rattle.object_lines.specs.declared.fault.MemberFault.TheVariants.{Missing}
 use Rattle.object_lines.specs.declared.member.Step.{Step}
 use Rattle.object_lines.specs.declared.member.Step.TheVariants.{Found, Wrong, Into}
 
--- where no member has a name, the value in so many objects at most is that of a shorter name in an object inside, or there is none
+-- where no member has a name, the value in so many objects at most is that of a shorter name in an object inside, or
+-- there is none
 abbrev pub IsInner : Members → List ℕ → Step → Type 0
 IsInner ms name (Found value) = ⊥
 IsInner ms name (Wrong fault) = (depth : ℕ) → length name ≤ depth → only (values_of name ms) ≡ Err Missing → nested depth name ms ≡ Err fault

@@ -90,8 +90,8 @@ fn step_of<'v, 'a, 'n>(members: &'v Vec<(&'a str, Value<'a>)>, name: &'n str) ->
     }
 }
 
-/// The value of the member of a name. Where there is none, and the name has a dot, it is looked for in the object that is the member of
-/// what stands before the first one, by the name behind it.
+/// The value of the member of a name. Where there is none, and the name has a dot, it is looked for in the object that
+/// is the member of what stands before the first one, by the name behind it.
 fn path_value<'v, 'a>(
     members: &'v Vec<(&'a str, Value<'a>)>,
     name: &str,

@@ -76,16 +76,16 @@ fn fill_of_members<'a>(
     Ok(())
 }
 
-/// Makes a record of an object: for each field that is asked for the text of the object's member of its name. This is of a string what
-/// it says, of a number how it is written, and `true` or `false`.
+/// Makes a record of an object: for each field that is asked for the text of the object's member of its name. This is
+/// of a string what it says, of a number how it is written, and `true` or `false`.
 ///
-/// A name with dots that no member has is that of a member in the member whose name stands before its first dot. Where there is none
-/// either, and the name has parts, it is the texts of the members of these, put together in `joined`.
+/// A name with dots that no member has is that of a member in the member whose name stands before its first dot. Where
+/// there is none either, and the name has parts, it is the texts of the members of these, put together in `joined`.
 ///
 /// # Errors
 ///
-/// `NoObject` where the value is none; `Member` of the first field that has no text, and the record is then that of the fields before;
-/// `Memory`.
+/// `NoObject` where the value is none; `Member` of the first field that has no text, and the record is then that of the
+/// fields before; `Memory`.
 pub fn fill_record(
     record: &mut ByteRecord,
     joined: &mut Vec<u8>,

@@ -4,8 +4,8 @@ use crate::fault::LineFault;
 use json::Scratch;
 use std::alloc::Global;
 
-/// What a text is read with, on the heap, since it has room for the places of a whole text. It comes onto the stack when it is
-/// made and when it is let go, in frames of their own, which are not there while a text is read.
+/// What a text is read with, on the heap, since it has room for the places of a whole text. It comes onto the stack
+/// when it is made and when it is let go, in frames of their own, which are not there while a text is read.
 pub(crate) struct Room {
     scratch: Box<Scratch>,
 }

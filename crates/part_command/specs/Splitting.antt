@@ -17,7 +17,8 @@ use Rattle.command_files.specs.Files.{CannotRead}
 abbrev pub parts_said : ℕ → List ℕ → Result ℕ JobFault
 parts_said max word = option_map_or Ok (number_said 5 1 (min max MOST_SUBTASKS) word) (Err Number)
 
--- the input that is split, or the first refusal: the plan's, else that there is no such number of parts, else the input's
+-- the input that is split, or the first refusal: the plan's, else that there is no such number of parts, else the
+-- input's
 abbrev pub split_by : PlanData → List ℕ → List ℕ → Result InputData JobFault
 split_by p input word = and_then (λ n. as_job Input (input_of_bytes p input)) (parts_said p.max word)
 

@@ -14,7 +14,8 @@ use std::alloc::Global;
 use stream_input::ReadInput;
 use stream_model::Input;
 
-/// In how many parts an input of a plan is to be split, as a word spells it: 1 to the lesser of 64 and the plan's key groups.
+/// In how many parts an input of a plan is to be split, as a word spells it: 1 to the lesser of 64 and the plan's key
+/// groups.
 ///
 /// # Errors
 ///

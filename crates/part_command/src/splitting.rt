@@ -54,7 +54,8 @@ fn check_all_apart<R: AllocGlobal>(
     Ok(())
 }
 
-/// Deals an input out to its parts, and writes these. Where one cannot be written, none of those takes its name that has it not yet.
+/// Deals an input out to its parts, and writes these. Where one cannot be written, none of those takes its name that
+/// has it not yet.
 fn write_parts<R: Files + Print + RandomSource + AllocGlobal>(
     rt: &R,
     words: &SplitWords<'_>,
@@ -91,14 +92,14 @@ fn split_texts<R: Files + Print + RandomSource + AllocGlobal>(
     write_parts(rt, words, &plan, parts, &input)
 }
 
-/// Writes the parts of an input, so many as a word spells, to files of one name with a point and the place of the part from 0
-/// behind it: each key's records in one of them, and all watermarks in each.
+/// Writes the parts of an input, so many as a word spells, to files of one name with a point and the place of the part
+/// from 0 behind it: each key's records in one of them, and all watermarks in each.
 ///
 /// # Errors
 ///
-/// `Read` where a file cannot be read; the plan's fault; `Number` where the number of parts is not 1 to the lesser of 64 and the
-/// plan's key groups; the input's fault; `Write` where a part's file cannot be written, or is the plan's or the input's; `Memory`.
-/// Each file then holds what it held or its part.
+/// `Read` where a file cannot be read; the plan's fault; `Number` where the number of parts is not 1 to the lesser of
+/// 64 and the plan's key groups; the input's fault; `Write` where a part's file cannot be written, or is the plan's or
+/// the input's; `Memory`. Each file then holds what it held or its part.
 pub fn split<R: Files + Print + RandomSource + AllocGlobal>(
     rt: &R,
     words: &SplitWords<'_>,

@@ -31,8 +31,8 @@ with_entry part entry = with_text part (entry_text entry)
 abbrev pub with_entries : Growing → List Entry → Growing
 with_entries part entries = fold with_entry part entries
 
--- what is known of a part as it grows: what its stream has got with what is kept behind that, if it is known; and whether no entry of the
--- partition that is being written stands in it yet
+-- what is known of a part as it grows: what its stream has got with what is kept behind that, if it is known; and
+-- whether no entry of the partition that is being written stands in it yet
 pub record Known : Type 0 where
   pub text : Option (List ℕ)
   pub is_first : Bool

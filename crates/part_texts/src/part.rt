@@ -145,7 +145,8 @@ impl<W: Write + Drop> PartText<W> {
         self.put("}")
     }
 
-    /// Puts the rows at some places behind it, with commas between them, by way of room that is kept, or of more where they need it.
+    /// Puts the rows at some places behind it, with commas between them, by way of room that is kept, or of more where
+    /// they need it.
     fn put_rows(&mut self, alloc: Global, batch: &Batch, places: &[usize]) -> io::Result<()>
         requires some { 0 < length places.now }
         requires inside { All (λ place. place < length batch.now.rows) places.now }

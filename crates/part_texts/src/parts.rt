@@ -239,11 +239,13 @@ fn finish_all<W: Write + Drop>(texts: &mut [PartText<W>]) -> io::Result<()>
     Ok(())
 }
 
-/// Writes the JSON texts of the parts of an input to their streams, so many, each at its place, counted from 0: compact, the sources
-/// in the order of the plan, and a line feed. A part has the records whose keys' groups the subtask at its place would own of an
-/// operator with so many, in their order, and all watermarks. A partition has the entries that are left, which may be none.
+/// Writes the JSON texts of the parts of an input to their streams, so many, each at its place, counted from 0:
+/// compact, the sources in the order of the plan, and a line feed. A part has the records whose keys' groups the
+/// subtask at its place would own of an operator with so many, in their order, and all watermarks. A partition has the
+/// entries that are left, which may be none.
 ///
-/// The input is gone through once. There are no more parts than the plan has key groups, and the input was read by the plan.
+/// The input is gone through once. There are no more parts than the plan has key groups, and the input was read by the
+/// plan.
 ///
 /// # Errors
 ///

@@ -8,7 +8,8 @@ ghost use Rattle.part_texts.specs.InputTexts.{cells_text, record_text, records_t
 use columns::Batch;
 use job_texts::put_number;
 
-/// Writes a comma and the numbers of a row, with commas between them, so that they end at `end`, and answers where they start.
+/// Writes a comma and the numbers of a row, with commas between them, so that they end at `end`, and answers where they
+/// start.
 fn put_cells(line: &mut [u8], end: usize, batch: &Batch, row: usize) -> usize
     requires room { 21 * batch.now.width ≤ end }
     requires inside { end ≤ length line.old }

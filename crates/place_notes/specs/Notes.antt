@@ -4,7 +4,8 @@ use Rattle.std.specs.List.{list_any}
 use Rattle.std.specs.declared.alloc.Global.{Global}
 use Rattle.text_places.specs.declared.finding.Finding.{Finding}
 
--- the places, how many of them are those of requirements before this one, and the fault of this one, where it is not the first
+-- the places, how many of them are those of requirements before this one, and the fault of this one, where it is not
+-- the first
 pub record NotesData : Type 0 where
   pub alloc : Global
   pub places : List Finding

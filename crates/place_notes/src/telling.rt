@@ -79,8 +79,8 @@ impl Notes {
         self.places.len() >= MOST_PLACES
     }
 
-    /// Goes on to the requirement of a fault behind that of which was told so far. What stands at a place of that one is not told
-    /// again.
+    /// Goes on to the requirement of a fault behind that of which was told so far. What stands at a place of that one
+    /// is not told again.
     ///
     /// # Errors
     ///

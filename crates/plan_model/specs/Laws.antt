@@ -7,7 +7,8 @@ use Rattle.plan_model.specs.Bag.{IsSameBag}
 use Rattle.plan_model.specs.Windows.{is_window_of, IsWindowOf}
 use Rattle.plan_model.specs.Aggregates.{aggregate_of, merge}
 
--- the test of a window is what Flink's documentation says: a start that is the offset modulo the slide, and the time in its interval
+-- the test of a window is what Flink's documentation says: a start that is the offset modulo the slide, and the time in
+-- its interval
 abbrev pub WindowsAreThose : Type 0
 WindowsAreThose = (w : WindowSpec) (t s : ℤ) → pos 0 <ℤ w.slide → (is_window_of w t s ≡ true) ↔ IsWindowOf w t s
 

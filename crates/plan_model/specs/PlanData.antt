@@ -33,7 +33,8 @@ has_column columns (Sum c) = c < columns
 has_column columns (Least c) = c < columns
 has_column columns (Greatest c) = c < columns
 
--- the window's numbers: size and slide from 1 to 2^40, an offset less than a slide from 0, and at most 256 windows of a time
+-- the window's numbers: size and slide from 1 to 2^40, an offset less than a slide from 0, and at most 256 windows of a
+-- time
 pub record IsWindow (w : WindowSpec) : Type 0 where
   pub sized : pos 1 ≤ℤ w.size
   pub size_small : w.size ≤ℤ LONGEST_WINDOW

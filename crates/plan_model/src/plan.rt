@@ -34,8 +34,8 @@ impl Plan {
     ghost use Rattle.plan_model.specs.PlanData.{IsPlan, plan_data_of, uids};
     ghost use Rattle.plan_model.specs.Places.{texts};
 
-    /// A plan of such parts, which meet every requirement of its format: `columns` of each record, `max` key groups, sources and
-    /// filters in plan order. `places` holds the uids of sources, filters and window in that order.
+    /// A plan of such parts, which meet every requirement of its format: `columns` of each record, `max` key groups,
+    /// sources and filters in plan order. `places` holds the uids of sources, filters and window in that order.
     pub fn new(
         columns: u32,
         max: u32,

@@ -27,8 +27,8 @@ const FAULTS: [PlanFault; 15] = [
     PlanFault::Bound,
 ];
 
-/// Tells of the places at which a plan, which is JSON, does not meet the requirement of a fault, the first that it does not meet,
-/// and then of those at which it does not meet a later one.
+/// Tells of the places at which a plan, which is JSON, does not meet the requirement of a fault, the first that it does
+/// not meet, and then of those at which it does not meet a later one.
 pub fn tell_places(notes: &mut Notes, plan: &Placed<'_>, fault: PlanFault) -> Result<(), AllocError>
     ensures { TellsMore notes.old notes.new }
 {

@@ -16,7 +16,8 @@ abbrev pub most_partitions : List SourceSpec → ℕ
 most_partitions [] = 0
 most_partitions (s ∷ ss) = max s.partitions (most_partitions ss)
 
--- the window in so many subtasks, each source too, but no more than partitions, and each filter no more than the source with the most
+-- the window in so many subtasks, each source too, but no more than partitions, and each filter no more than the source
+-- with the most
 abbrev pub even_scale : PlanData → ℕ → ScaleData
 even_scale plan n =
     scale_data_of DEFAULT_CAPACITY (map (λ s. min n s.partitions) plan.sources) (map (λ _. record { parallelism = min n (most_partitions plan.sources); chain = true }) plan.filters) n

@@ -115,14 +115,14 @@ pub trait ScaleOfPlan: Sized {
     /// Only where memory runs out.
     fn single(alloc: Global, plan: &Plan) -> Result<Self, AllocError>;
 
-    /// The scale at which the window has so many subtasks, each source too, but no more than it has partitions, and each filter,
-    /// but no more than the source with the most, so that it may be chained to a single source: what `parallelism.default` is to
-    /// a Flink job. Rings hold 16 messages.
+    /// The scale at which the window has so many subtasks, each source too, but no more than it has partitions, and
+    /// each filter, but no more than the source with the most, so that it may be chained to a single source: what
+    /// `parallelism.default` is to a Flink job. Rings hold 16 messages.
     ///
     /// # Errors
     ///
-    /// [`ScaleFault::Parallelism`] where it is not 1 to 64, or more than there are key groups; [`ScaleFault::Tasks`] where the
-    /// layout has more than 256 tasks; [`ScaleFault::Memory`].
+    /// [`ScaleFault::Parallelism`] where it is not 1 to 64, or more than there are key groups; [`ScaleFault::Tasks`]
+    /// where the layout has more than 256 tasks; [`ScaleFault::Memory`].
     fn even(alloc: Global, plan: &Plan, parallelism: u32) -> Result<Self, ScaleFault>;
 }
 

@@ -1,4 +1,5 @@
-//! The scales of a plan: how many subtasks each of its operators has, read from a JSON text by the plan, or without a text.
+//! The scales of a plan: how many subtasks each of its operators has, read from a JSON text by the plan, or without a
+//! text.
 #![tactic(auto)]
 
 mod building;

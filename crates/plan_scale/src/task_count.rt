@@ -22,7 +22,8 @@ fn chains_to(before: Option<u32>, filter: FilterScale) -> bool
     filter.chain && before.is_some_and(|parallelism| parallelism == filter.parallelism)
 }
 
-/// The tasks of the stages that filters open. `before` is the parallelism of the stage before them, if a filter may be chained to it.
+/// The tasks of the stages that filters open. `before` is the parallelism of the stage before them, if a filter may be
+/// chained to it.
 fn filter_tasks(before: Option<u32>, filters: &[FilterScale]) -> u32
     requires few { length filters.now < 2 ^ 16 }
     requires small { All (λ f. f.parallelism ≤ MOST_SUBTASKS) filters.now }

@@ -26,7 +26,8 @@ abbrev pub Then : Result (Unit {0}) ReceiptFault → (Result (Unit {0}) ReceiptF
 Then (Ok _) Next result = Next result
 Then (Err fault) Next result = result ≡ Err fault
 
--- the plan, the entries before a cut and the names are those that were told of, or the first of them is named that is not
+-- the plan, the entries before a cut and the names are those that were told of, or the first of them is named that is
+-- not
 abbrev pub ChecksReceipt : PlanData → InputData → List (List ℕ) → Receipt → Option (List ℕ) → Result (Unit {0}) ReceiptFault → Type 0
 ChecksReceipt p i cut r names result =
     (plan : Result (Unit {0}) ReceiptFault) × ChecksRecord p r plan

@@ -10,7 +10,8 @@ use Rattle.receipts.specs.declared.fault.ReceiptFault.{ReceiptFault}
 use Rattle.receipts.specs.declared.fault.ReceiptFault.TheVariants.{Memory}
 use Rattle.receipts.specs.declared.receipt.Receipt.{Receipt}
 
--- by the receipt of a leg of the same plan, over an input with the same entries before the cut, and with names behind those that there were, none is refused
+-- by the receipt of a leg of the same plan, over an input with the same entries before the cut, and with names behind
+-- those that there were, none is refused
 abbrev pub SameIsAccepted : Type 0
 SameIsAccepted = (p : PlanData) → (old new : InputData) → (cut : List (List ℕ)) → (legs : ℕ) → (rows : List ℕ) → (names : Option (List ℕ)) → (more : List ℕ) → (result : Result (Unit {0}) ReceiptFault)
     → HaveSameEntries old new cut → ChecksReceipt p new cut (receipt_of p old cut legs rows names) (option_map (λ bytes. bytes ++ more) names) result

@@ -1,4 +1,5 @@
--- The lines of entries, of which receipts have the digests: compact JSON, and a line feed. The marks that a source makes of them stand in none.
+-- The lines of entries, of which receipts have the digests: compact JSON, and a line feed. The marks that a source
+-- makes of them stand in none.
 use Rattle.std.specs.Prelude.{ℕ, List, ◌++◌, codes}
 use Rattle.std.specs.List.{flat_map}
 use Rattle.stream_model.specs.declared.entry.Marked.{Marked}

@@ -41,13 +41,14 @@ fn check_input(
     check_entries(alloc, plan.sources(), told, read.as_slice())
 }
 
-/// Whether a leg that goes on at a cut can do so by a receipt: whether the plan, the entries before the cut and the names are still
-/// those that it tells of. Entries that stand behind the cut, and names behind those that were there, are not asked after.
+/// Whether a leg that goes on at a cut can do so by a receipt: whether the plan, the entries before the cut and the
+/// names are still those that it tells of. Entries that stand behind the cut, and names behind those that were there,
+/// are not asked after.
 ///
 /// # Errors
 ///
-/// The first of these that stands: [`ReceiptFault::Plan`]; of the first partition that differs [`ReceiptFault::Cut`], where another
-/// number of its entries stands before the cut, or [`ReceiptFault::Entries`]; [`ReceiptFault::Names`].
+/// The first of these that stands: [`ReceiptFault::Plan`]; of the first partition that differs [`ReceiptFault::Cut`],
+/// where another number of its entries stands before the cut, or [`ReceiptFault::Entries`]; [`ReceiptFault::Names`].
 /// [`ReceiptFault::Memory`] where memory runs out, in place of any other.
 pub fn check_receipt(
     alloc: Global,

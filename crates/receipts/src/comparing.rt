@@ -45,7 +45,8 @@ fn begins_with(told: Counted, bytes: &[u8]) -> bool
     counted_bytes(&bytes[..told.count as usize]) == told
 }
 
-/// Whether a table of names begins with the bytes that a receipt tells of, if it tells of any: names may have come behind them.
+/// Whether a table of names begins with the bytes that a receipt tells of, if it tells of any: names may have come
+/// behind them.
 ///
 /// # Errors
 ///
@@ -93,8 +94,8 @@ fn check_source(
     Ok(())
 }
 
-/// Whether what was read of an input before a cut is what a receipt tells of: the first partition of the first source that
-/// differs is named.
+/// Whether what was read of an input before a cut is what a receipt tells of: the first partition of the first source
+/// that differs is named.
 ///
 /// # Errors
 ///

@@ -79,8 +79,8 @@ fn sources_read(
     Ok(Items::from_vec(read))
 }
 
-/// What was read of an input before a cut, for each source in the order of the plan and each of its partitions: so many entries,
-/// and the digest of their lines.
+/// What was read of an input before a cut, for each source in the order of the plan and each of its partitions: so many
+/// entries, and the digest of their lines.
 ///
 /// # Errors
 ///

@@ -1,4 +1,5 @@
-//! Receipts: what a leg read, as digests that a later leg can compare, so that a record that was changed before the cut is found.
+//! Receipts: what a leg read, as digests that a later leg can compare, so that a record that was changed before the cut
+//! is found.
 #![tactic(auto)]
 
 mod checking;

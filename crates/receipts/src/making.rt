@@ -43,8 +43,8 @@ fn counted_plan(alloc: Global, plan: &Plan) -> Result<Counted, AllocError>
     Ok(counted_bytes(&bytes))
 }
 
-/// The receipt of a leg that is the last of so many, has read an input up to a cut, and has written the text of its rows; with the
-/// bytes of a table of names where the job has one.
+/// The receipt of a leg that is the last of so many, has read an input up to a cut, and has written the text of its
+/// rows; with the bytes of a table of names where the job has one.
 ///
 /// # Errors
 ///

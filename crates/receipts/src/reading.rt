@@ -137,8 +137,8 @@ fn receipt_of_bytes(
 ///
 /// # Errors
 ///
-/// [`ReceiptFault::Form`] where the bytes are no JSON text, a member is missing, unknown or of another form, or its sources are not
-/// just these, each with its number of partitions; [`ReceiptFault::Memory`] where memory runs out.
+/// [`ReceiptFault::Form`] where the bytes are no JSON text, a member is missing, unknown or of another form, or its
+/// sources are not just these, each with its number of partitions; [`ReceiptFault::Memory`] where memory runs out.
 pub fn read_receipt(
     alloc: Global,
     sources: &[SourceSpec],

@@ -182,8 +182,8 @@ fn push_head(text: &mut String, version: &str, legs: u64) -> Result<(), AllocErr
     push_count(text, legs)
 }
 
-/// The text of a receipt: one JSON object in a line. The version is that of the program that wrote it, and has no character that
-/// JSON escapes; the sources are those of the plan.
+/// The text of a receipt: one JSON object in a line. The version is that of the program that wrote it, and has no
+/// character that JSON escapes; the sources are those of the plan.
 ///
 /// # Errors
 ///

@@ -26,7 +26,8 @@ pub record IsOpenEntry (p : PlanData) (kinds : List Kind) (n : ℕ) (e : EntryDa
 abbrev pub AreOpenGroups : PlanData → List Kind → List SavedGroup → Type 0
 AreOpenGroups p kinds groups = All (λ g. All (IsOpenEntry p kinds g.group) g.entries.entries) groups
 
--- it begins at a cut of the input, with the watermarks that the input's partitions have there, in its windows stands what may stand there, in no pane more records than stand before the cut, and a savepoint can follow it
+-- it begins at a cut of the input, with the watermarks that the input's partitions have there, in its windows stands
+-- what may stand there, in no pane more records than stand before the cut, and a savepoint can follow it
 pub record IsStartIn (p : PlanData) (i : InputData) (s : StartData) : Type 0 where
   pub cut : IsCut i.sources (offsets_of s)
   pub partitions : s.sources ≡ saved_sources i.sources (offsets_of s)

@@ -61,7 +61,8 @@ opening_of n Sink = opening n [] (replicate n lowest) empty
 abbrev pub opening_states : PlanData → StartData → AbstractLayout → List Stage → ℕ → State
 opening_states p s a stages t = opening_of (a.task t).inputs (whole_task_start p.max (partition_counts p) s stages t)
 
--- tasks that begin with a start of the input, in a leg that can go as far, and take savepoints, as it is to, are tasks of one leg in opening states
+-- tasks that begin with a start of the input, in a leg that can go as far, and take savepoints, as it is to, are tasks
+-- of one leg in opening states
 abbrev pub TasksOpen : Type 0
 TasksOpen = (p : PlanData) (l : LayoutData) (i : InputData) (s : StartData) (saves : List (List (List ℕ))) (until : Until) → IsPlan p → IsLayoutOf p l → BelongsTo p i → IsStartIn p i s → CanGo i.sources (offsets_of s) until → CanSaveAt i.sources (offsets_of s) saves until
     → let a = layout_to p i s.number saves until l.stages in IsLegStart p a (opening_states p s a l.stages)
@@ -72,7 +73,8 @@ TasksHaveSnapshot = (p : PlanData) (l : LayoutData) (i : InputData) (s : StartDa
     → let a = layout_to p i s.number saves until l.stages in let states = opening_states p s a l.stages in
     HaveCut p i a states (offsets_of s) × HaveMarks (input_of p i) a states (counts_at p (offsets_of s))
 
--- and each of the window's tasks has its own panes alone, of no more records than stand before the start's cut, where the sources are
+-- and each of the window's tasks has its own panes alone, of no more records than stand before the start's cut, where
+-- the sources are
 abbrev pub TasksHaveOwnPanes : Type 0
 TasksHaveOwnPanes = (p : PlanData) (l : LayoutData) (i : InputData) (s : StartData) (saves : List (List (List ℕ))) (until : Until) → IsPlan p → IsLayoutOf p l → BelongsTo p i → IsStartIn p i s
     → let a = layout_to p i s.number saves until l.stages in let states = opening_states p s a l.stages in

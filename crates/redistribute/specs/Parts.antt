@@ -43,7 +43,8 @@ start_of_role role.Chain starts = Chain
 start_of_role role.Window starts = Window []
 start_of_role role.Sink starts = Sink
 
--- what task t begins with, where the sources have so many partitions and nothing stands in the windows: a source's task has those of its source that it reads
+-- what task t begins with, where the sources have so many partitions and nothing stands in the windows: a source's task
+-- has those of its source that it reads
 abbrev pub task_start : List ℕ → StartData → List Stage → ℕ → TaskStart
 task_start counts s stages t = start_of_role (task_role stages t) (map (partition_start s (source_of (task_stage stages t).operators)) (partitions_of counts stages t))
 
@@ -83,13 +84,15 @@ parts_of s = flat_map (λ g. map (part_of s.kinds) g.entries.entries) s.groups
 abbrev pub windows_of : StartData → Windows
 windows_of s = from_entries (entries_of (parts_of s))
 
--- a part of a window state that a task of the plan's window may begin with: no window is due by the least watermark, and there is room for the records of a leg
+-- a part of a window state that a task of the plan's window may begin with: no window is due by the least watermark,
+-- and there is room for the records of a leg
 pub record IsOpenPart (p : PlanData) (x : Part) : Type 0 where
   pub part : IsPartOf p.window x
   pub early : is_due p.window lowest x.pane.start ≡ false
   pub count : x.acc.total.count ≤ MOST_RECORDS
 
--- a part that task t may have, where the sources have so many partitions: of a source all the partitions that it reads, of any other no partition, and in windows what may stand there
+-- a part that task t may have, where the sources have so many partitions: of a source all the partitions that it reads,
+-- of any other no partition, and in windows what may stand there
 pub record IsPartFor (p : PlanData) (stages : List Stage) (t : ℕ) (part : TaskStart) : Type 0 where
   pub starts : List PartitionStart
   pub parts : List Part

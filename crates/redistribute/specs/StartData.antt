@@ -8,8 +8,8 @@ use Rattle.aggregates.specs.Kinds.{is_entry}
 use Rattle.savepoint_codec.specs.declared.savepoint.SavedPartition.{SavedPartition}
 use Rattle.savepoint_codec.specs.declared.savepoint.SavedGroup.{SavedGroup}
 
--- the number of the savepoint that it goes on from; for each source, in plan order, its partitions: how far each was read, and its watermark there;
--- the kinds of the aggregates of what stands in the windows, and that, by key group
+-- the number of the savepoint that it goes on from; for each source, in plan order, its partitions: how far each was
+-- read, and its watermark there; the kinds of the aggregates of what stands in the windows, and that, by key group
 pub record StartData : Type 0 where
   pub number : ℕ
   pub sources : List (List SavedPartition)

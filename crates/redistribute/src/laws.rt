@@ -19,9 +19,9 @@ pub fn nothing_else()
     ensures { NothingElse }
 {}
 
-/// Tasks that begin with a start of the input, in a leg that can go as far as it is to, are the tasks of one leg, each in an
-/// opening state: with the offsets and the watermarks of its partitions, and in its windows what the start has for the key
-/// groups that it owns.
+/// Tasks that begin with a start of the input, in a leg that can go as far as it is to, are the tasks of one leg, each
+/// in an opening state: with the offsets and the watermarks of its partitions, and in its windows what the start has
+/// for the key groups that it owns.
 pub fn tasks_open()
     ensures { TasksOpen }
 {}
@@ -31,8 +31,8 @@ pub fn tasks_have_snapshot()
     ensures { TasksHaveSnapshot }
 {}
 
-/// Each of the window's tasks has its own panes alone, of no more records than stand before the cut that the start begins
-/// at, where the sources are.
+/// Each of the window's tasks has its own panes alone, of no more records than stand before the cut that the start
+/// begins at, where the sources are.
 pub fn tasks_have_own_panes()
     ensures { TasksHaveOwnPanes }
 {}

@@ -126,8 +126,8 @@ impl Start {
     ///
     /// # Errors
     ///
-    /// `SaveRange`, where a leg that is to go to a cut cannot take them before it stops there, or where a leg may be asked to
-    /// stop and there are any.
+    /// `SaveRange`, where a leg that is to go to a cut cannot take them before it stops there, or where a leg may be
+    /// asked to stop and there are any.
     pub fn check_saves_until(
         &self,
         input: &Input,

@@ -125,8 +125,8 @@ fn task_start(
 }
 
 /// The part of a start that each task of a layout begins with, in task order: each partition of each source stands in
-/// the part of the task that reads it, as the start has it, and what stands in the windows of a key group in the part of
-/// the window's task that owns the group. Nothing stands in any other.
+/// the part of the task that reads it, as the start has it, and what stands in the windows of a key group in the part
+/// of the window's task that owns the group. Nothing stands in any other.
 ///
 /// # Errors
 ///

@@ -12,7 +12,8 @@ use std::marker::Model;
 use stream_model::{Input, Marked, Partition};
 
 /// What a leg of a job begins with: the number of the savepoint that it goes on from, how far each partition of each
-/// source was read, with its watermark there, and what stands in the windows, by key group. Sources stand in plan order.
+/// source was read, with its watermark there, and what stands in the windows, by key group. Sources stand in plan
+/// order.
 #[derive(Debug, Drop)]
 pub struct Start {
     number: u64,

@@ -18,8 +18,8 @@ use std::{fmt, io};
 use stream_model::Input;
 use text_places::Findings;
 
-/// What a job is to go on from, and where its next leg is to stop: the bytes of a savepoint with the name of its file, and
-/// the word of a cut.
+/// What a job is to go on from, and where its next leg is to stop: the bytes of a savepoint with the name of its file,
+/// and the word of a cut.
 #[derive(Clone, Copy)]
 pub struct Restart<'r> {
     pub file: &'r str,
@@ -211,8 +211,8 @@ fn tell_whole(alloc: Global, found: &mut Findings, sentence: &str) -> Result<(),
     found.tell(0, String::from_str(alloc, sentence)?)
 }
 
-/// The places at which a savepoint, or the cut of a leg from there, does not meet the requirement of its fault with a plan and an
-/// input of it: at least one, and of many the first 20. Each is of the whole, at offset 0.
+/// The places at which a savepoint, or the cut of a leg from there, does not meet the requirement of its fault with a
+/// plan and an input of it: at least one, and of many the first 20. Each is of the whole, at offset 0.
 ///
 /// # Errors
 ///
@@ -265,9 +265,9 @@ fn write_lines<W: Write>(out: &mut W, subject: Subject<'_>, found: &Findings) ->
     out.flush()
 }
 
-/// Writes why a job cannot go on from a savepoint, or its leg cannot stop at a cut, a line for each place, as far as there is memory
-/// for them and the writer takes them. Each begins with the name of the savepoint's file, or with `--stop` and the word of the cut.
-/// Of want of memory it writes nothing.
+/// Writes why a job cannot go on from a savepoint, or its leg cannot stop at a cut, a line for each place, as far as
+/// there is memory for them and the writer takes them. Each begins with the name of the savepoint's file, or with
+/// `--stop` and the word of the cut. Of want of memory it writes nothing.
 pub fn write_places<W: Write>(
     alloc: Global,
     plan: &Plan,

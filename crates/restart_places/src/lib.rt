@@ -1,5 +1,5 @@
-//! Why a job cannot go on from a savepoint, or a leg cannot stop at a cut: for each place of the savepoint or of the cut
-//! that does not fit the plan and the input a sentence for a person, with what is mostly the cause.
+//! Why a job cannot go on from a savepoint, or a leg cannot stop at a cut: for each place of the savepoint or of the
+//! cut that does not fit the plan and the input a sentence for a person, with what is mostly the cause.
 //!
 //! Which requirement is not met says the fault that `restore` or `redistribute` gives.
 #![tactic(auto)]

@@ -91,7 +91,8 @@ fn options_of(source: &SourceSpec) -> &'static str {
     }
 }
 
-/// Why a partition has another watermark than a savepoint says, where it goes on behind the entries that were read, or ends there.
+/// Why a partition has another watermark than a savepoint says, where it goes on behind the entries that were read, or
+/// ends there.
 fn watermark_sentence(
     alloc: Global,
     named: Named<'_>,

@@ -26,8 +26,8 @@ const AGGREGATE_BYTES: usize = 2;
 /// The bytes of a bound there: one for the place of its source, and eight for it.
 const BOUND_BYTES: usize = 9;
 
-/// A plan's record: its numbers, the bytes of its lists of conditions of filters, of aggregates and of conditions of having, and
-/// those of the bounds of its sources, which are none where no source has one.
+/// A plan's record: its numbers, the bytes of its lists of conditions of filters, of aggregates and of conditions of
+/// having, and those of the bounds of its sources, which are none where no source has one.
 #[derive(Clone, Copy)]
 struct Parts<'r> {
     numbers: [i64; 6],
@@ -85,7 +85,8 @@ fn aggregates_in(bytes: &[u8]) -> Result<(&[u8], &[u8]), FieldFault> {
     read_bytes(usize::from(count) * AGGREGATE_BYTES, rest)
 }
 
-/// The bytes of the bounds of sources, which have their number in a byte before them, where there are any. Nothing stands behind them.
+/// The bytes of the bounds of sources, which have their number in a byte before them, where there are any. Nothing
+/// stands behind them.
 fn bounds_in(bytes: &[u8]) -> Result<&[u8], FieldFault> {
     if bytes.is_empty() {
         return Ok(bytes);

@@ -1,4 +1,5 @@
--- The check of a savepoint at a cut, with the snapshot of the cut in its windows, answers the start there, unless memory runs out.
+-- The check of a savepoint at a cut, with the snapshot of the cut in its windows, answers the start there, unless
+-- memory runs out.
 use Rattle.std.proofs.Common.{◌≡◌, Bool, true, false, Result, Ok, Err, refl, subst}
 use Rattle.answers.specs.Answer.{unless}
 use Rattle.plan_record.specs.Laws.{AscendingIsInOrder}

@@ -21,7 +21,8 @@ use Rattle.restore.specs.Sound.{IsSoundGroup}
 use Rattle.gather.specs.Laws.{HasGroups}
 use Rattle.gather.specs.Saved.{savepoint_of}
 
--- an input of the plan was read up to a cut, and in each pane of the windows stands what the snapshot of the cut has there
+-- an input of the plan was read up to a cut, and in each pane of the windows stands what the snapshot of the cut has
+-- there
 pub record IsLeftAt (p : PlanData) (i : InputData) (c : List (List ℕ)) (w : FinMap pane_cmp Aggregated) : Type 0 where
   pub plan : IsPlan p
   pub input : IsInput i
@@ -70,6 +71,7 @@ abbrev pub SnapshotsAreSavepoints : Type 0
 SnapshotsAreSavepoints = (p : PlanData) (i : InputData) (cut : List (List ℕ)) (windows : FinMap pane_cmp Aggregated) (number : ℕ) → IsLeftAt p i cut windows → HaveFields i cut → 1 ≤ number → number < 2 ^ 64
     → let s = savepoint_at p i cut windows number in IsSavepoint s × All (IsSoundGroup s.kinds) s.groups
 
--- what stands in the windows of a start that an accepted savepoint gives, whoever made it, can be dealt out and put together again
+-- what stands in the windows of a start that an accepted savepoint gives, whoever made it, can be dealt out and put
+-- together again
 abbrev pub AcceptedHaveGroups : Type 0
 AcceptedHaveGroups = (p : PlanData) (i : InputData) (s : Contents) (d : StartData) → IsSavepoint s → start_or_fault p i s ≡ Ok d → HasGroups p d

@@ -8,7 +8,8 @@ use Rattle.savepoint_codec.specs.declared.savepoint.Contents.{Contents}
 use Rattle.stream_model.specs.InputData.{InputData}
 use Rattle.restarts.specs.Laws.{IsLeftAt, savepoint_at}
 
--- a job can go on at a cut from a savepoint: it is the one of this number there, with the snapshot of the cut in its windows, and another can follow it
+-- a job can go on at a cut from a savepoint: it is the one of this number there, with the snapshot of the cut in its
+-- windows, and another can follow it
 pub record CanRestart (p : PlanData) (i : InputData) (cut : List (List ℕ)) (number : ℕ) (s : Contents) : Type 0 where
   pub windows : FinMap pane_cmp Aggregated
   pub left : IsLeftAt p i cut windows

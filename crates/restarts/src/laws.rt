@@ -4,8 +4,8 @@ ghost use Rattle.restarts.specs.Laws.{SnapshotsPass, SnapshotsRestart, ChecksGoO
 
 use plan_record::laws::ascending_is_in_order;
 
-/// A savepoint at a cut of an input, with the snapshot of the cut in its windows, meets all that is required of one, so a job of
-/// the plan on the input can go on from it.
+/// A savepoint at a cut of an input, with the snapshot of the cut in its windows, meets all that is required of one, so
+/// a job of the plan on the input can go on from it.
 pub fn snapshots_pass()
     ensures { SnapshotsPass }
 {
@@ -26,16 +26,16 @@ pub fn checks_go_on()
     let _uids = ascending_is_in_order();
 }
 
-/// Such a savepoint has a spelling, where the numbers of the input and the counts of the cut have 64 bits: it can be written
-/// and read again, and its entries are what so many records can come to.
+/// Such a savepoint has a spelling, where the numbers of the input and the counts of the cut have 64 bits: it can be
+/// written and read again, and its entries are what so many records can come to.
 pub fn snapshots_are_savepoints()
     ensures { SnapshotsAreSavepoints }
 {
     let _uids = ascending_is_in_order();
 }
 
-/// What a savepoint that is accepted has in its windows, whoever made it, can be dealt out to the tasks of any layout and put
-/// together again.
+/// What a savepoint that is accepted has in its windows, whoever made it, can be dealt out to the tasks of any layout
+/// and put together again.
 pub fn accepted_have_groups()
     ensures { AcceptedHaveGroups }
 {}

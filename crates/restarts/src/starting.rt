@@ -21,8 +21,8 @@ fn no_memory(_fault: RestoreFault) -> AllocError
     AllocError
 }
 
-/// The start from a savepoint that a leg of a job of the plan on the input left at a cut: it is at that cut, with what the
-/// snapshot of the cut has in each pane.
+/// The start from a savepoint that a leg of a job of the plan on the input left at a cut: it is at that cut, with what
+/// the snapshot of the cut has in each pane.
 ///
 /// # Errors
 ///

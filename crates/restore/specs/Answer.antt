@@ -11,7 +11,8 @@ use Rattle.legs.specs.declared.restore_fault.RestoreFault.TheVariants.{Memory}
 use Rattle.restore.specs.Saved.{saved_sources}
 use Rattle.restore.specs.Requirements.{requirements}
 
--- the start from a savepoint: its number, how far it has each of the plan's partitions, its kinds of aggregates and its entries
+-- the start from a savepoint: its number, how far it has each of the plan's partitions, its kinds of aggregates and its
+-- entries
 abbrev pub start_of : PlanData → Contents → StartData
 start_of plan s = record { number = s.number; sources = saved_sources plan s; kinds = s.kinds; groups = s.groups }
 

@@ -1,4 +1,5 @@
--- What a savepoint must meet for a job to go on from it, and the fault where it does not, in the order in which they are decided.
+-- What a savepoint must meet for a job to go on from it, and the fault where it does not, in the order in which they
+-- are decided.
 use Rattle.std.specs.Prelude.{ℕ, ◌==◌, ◌^◌, ℤ, pos, ◌-ℤ◌, int_le, int_lt, nat_le, Bool, not, ◌&&◌, List, [], ◌∷◌, ◌++◌, length, Option, bytes_eq}
 use Rattle.std.specs.List.{list_all, list_any, zip}
 use Rattle.std.specs.Ordering.{int_eq}
@@ -91,7 +92,8 @@ is_counted most e = nat_le e.total.count most
 unfoldable pub has_groups : PlanData → Contents → Bool
 has_groups plan s = every_entry (is_in_group plan.max) s.groups
 
--- each entry's window is one of the plan's, which has not fired by the watermark of all partitions at the savepoint's cut
+-- each entry's window is one of the plan's, which has not fired by the watermark of all partitions at the savepoint's
+-- cut
 unfoldable pub has_open_windows : PlanData → InputData → Contents → Bool
 has_open_windows plan i s = every_entry (λ g. is_open plan.window (merged_watermark i.sources (cut_of (saved_sources plan s)))) s.groups
 

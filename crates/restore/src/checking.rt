@@ -122,13 +122,14 @@ fn meet_input(
     Ok(())
 }
 
-/// The start from a savepoint, of a job with this plan and this input: its number, how far each partition was read, and what
-/// stands in the windows. Where the input was read by the plan, a leg can begin with it, whoever wrote the savepoint.
+/// The start from a savepoint, of a job with this plan and this input: its number, how far each partition was read, and
+/// what stands in the windows. Where the input was read by the plan, a leg can begin with it, whoever wrote the
+/// savepoint.
 ///
 /// # Errors
 ///
-/// The first fault of the savepoint, in the order of [`RestoreFault`]'s variants, each looked for in the whole savepoint
-/// before the next. [`RestoreFault::Memory`] where memory runs out, in place of any other.
+/// The first fault of the savepoint, in the order of [`RestoreFault`]'s variants, each looked for in the whole
+/// savepoint before the next. [`RestoreFault::Memory`] where memory runs out, in place of any other.
 pub fn check(
     alloc: Global,
     plan: &Plan,

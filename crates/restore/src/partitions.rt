@@ -65,7 +65,8 @@ pub fn have_watermarks(saved: &[Items<SavedPartition>], sources: &[Source]) -> b
     ))
 }
 
-/// How far partitions were read: their least watermark, and how many records they have before it, as far as they can be counted.
+/// How far partitions were read: their least watermark, and how many records they have before it, as far as they can be
+/// counted.
 #[derive(Clone, Copy, Debug)]
 pub struct Reached {
     pub watermark: i64,

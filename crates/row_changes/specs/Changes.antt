@@ -16,8 +16,8 @@ numbers_eq [] (y ∷ ys) = false
 numbers_eq (x ∷ xs) [] = false
 numbers_eq (x ∷ xs) (y ∷ ys) = int_eq x y && numbers_eq xs ys
 
--- a row that is gone, one that is new, one whose window has another end, or one with other numbers. Rows with more or fewer
--- numbers are told as those with another end
+-- a row that is gone, one that is new, one whose window has another end, or one with other numbers. Rows with more or
+-- fewer numbers are told as those with another end
 pub data Change : Type 0 where
   Gone : Row → Change
   New : Row → Change
@@ -47,7 +47,8 @@ gone_line row = 45 ∷ 32 ∷ line_of row
 abbrev pub new_line : Row → List ℕ
 new_line row = 43 ∷ 32 ∷ line_of row
 
--- the lines of a change: a hyphen and the old row, a plus and the new one, or a tilde, the window, the key, and the numbers beside one another
+-- the lines of a change: a hyphen and the old row, a plus and the new one, or a tilde, the window, the key, and the
+-- numbers beside one another
 abbrev pub lines_of : Change → List ℕ
 lines_of (Gone row) = gone_line row
 lines_of (New row) = new_line row

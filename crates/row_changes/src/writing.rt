@@ -150,13 +150,13 @@ impl<R: Read + Drop, S: Read + Drop> Pair<R, S> {
     }
 }
 
-/// Writes what changed between two texts of rows: a line for each start and key at which one text has a row and the other has
-/// none, or one with another end or other numbers, in their order.
+/// Writes what changed between two texts of rows: a line for each start and key at which one text has a row and the
+/// other has none, or one with another end or other numbers, in their order.
 ///
 /// # Errors
 ///
-/// `Old` and `New` with the line at which a text is none of rows in order with as many numbers as the first; `Write`; `Memory`.
-/// What comes before may have been written then.
+/// `Old` and `New` with the line at which a text is none of rows in order with as many numbers as the first; `Write`;
+/// `Memory`. What comes before may have been written then.
 pub fn write_changes<R: Read + Drop, S: Read + Drop, W: Write>(
     alloc: Global,
     old: R,

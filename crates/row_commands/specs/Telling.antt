@@ -51,7 +51,8 @@ abbrev pub WritesRows : RowsForm → List CellKind → List (List ℕ) → List 
 WritesRows (Table has_header) kinds titles names = WritesTable csv_line kinds names (header_shown has_header titles)
 WritesRows Objects kinds titles names = WritesTable (object_line titles kinds) kinds names []
 
--- some text of rows was written in some form, each row with as many numbers as the plan's, by what its numbers are called and shown as with some columns
+-- some text of rows was written in some form, each row with as many numbers as the plan's, by what its numbers are
+-- called and shown as with some columns
 abbrev pub HasExported : PlanData → Option (List ℕ) → Option (List ℕ) → Type 0
 HasExported p before after =
     (form : RowsForm) × (columns : List ColumnWord) × (names : List (List ℕ)) × (text : Option (List ℕ))

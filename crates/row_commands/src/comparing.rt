@@ -34,8 +34,8 @@ fn refused_changes(alloc: Global, words: &DiffWords<'_>, fault: ChangesFault) ->
 ///
 /// # Errors
 ///
-/// `Read` where a file cannot be read; `Rows` and `Order` with file and line; `Write`; `Memory`. Some lines may have been written
-/// then.
+/// `Read` where a file cannot be read; `Rows` and `Order` with file and line; `Write`; `Memory`. Some lines may have
+/// been written then.
 pub fn diff<R: Files + AllocGlobal, W: Write>(
     rt: &R,
     words: &DiffWords<'_>,

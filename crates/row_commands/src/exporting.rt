@@ -162,12 +162,13 @@ fn write_rows<R: Read + Drop, W: Write + Drop>(
     }
 }
 
-/// Writes the rows of a plan as CSV or as JSON objects: times, dates, names and decimals as they were imported with these columns.
+/// Writes the rows of a plan as CSV or as JSON objects: times, dates, names and decimals as they were imported with
+/// these columns.
 ///
 /// # Errors
 ///
-/// The words first: `Word`, and the columns as an import refuses them; then the table of names, and the rows with file and line:
-/// `Rows`, `Order`, `Cell`; `Read`; `Write`; `Memory`. Some records may have been written then.
+/// The words first: `Word`, and the columns as an import refuses them; then the table of names, and the rows with file
+/// and line: `Rows`, `Order`, `Cell`; `Read`; `Write`; `Memory`. Some records may have been written then.
 pub fn export<R: Files + RandomSource + AllocGlobal, W: Write + Drop>(
     rt: &R,
     plan: &Plan,

@@ -44,13 +44,13 @@ fn texts_of<R: Files + AllocGlobal>(rt: &R, files: &[&str]) -> Result<Merge<R::F
     Ok(merge)
 }
 
-/// Writes the rows of files, each in the order of start and key, as one text in that order, in memory that does not grow with
-/// them.
+/// Writes the rows of files, each in the order of start and key, as one text in that order, in memory that does not
+/// grow with them.
 ///
 /// # Errors
 ///
-/// `Read` where a file cannot be read; `Rows` and `Order` with file and line, also where a row stands at the start and key of
-/// another file's; `Write`; `Memory`. Some lines may have been written then.
+/// `Read` where a file cannot be read; `Rows` and `Order` with file and line, also where a row stands at the start and
+/// key of another file's; `Write`; `Memory`. Some lines may have been written then.
 pub fn merge<R: Files + AllocGlobal, W: Write>(
     rt: &R,
     words: &MergeWords<'_>,

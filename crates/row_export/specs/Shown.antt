@@ -56,7 +56,8 @@ header_shown false titles = []
 abbrev pub csv_line : List (List ℕ) → List ℕ
 csv_line = row_text default_writer
 
--- a text is that of rows, and what is written is the lines of a header and of a record that shows each of them, in order
+-- a text is that of rows, and what is written is the lines of a header and of a record that shows each of them, in
+-- order
 pub record WritesTable (line : List (List ℕ) → List ℕ) (kinds : List CellKind) (names : List (List ℕ)) (header : List (List (List ℕ))) (width : Option ℕ) (last : Option Pane) (text before after : Option (List ℕ)) : Type 0 where
   pub rows : List Row
   pub records : List (List (List ℕ))

@@ -83,8 +83,8 @@ impl WrittenTime {
     }
 }
 
-/// Puts cells behind lines. Rows of one window have its times, and a window often begins where one before it ends, so that the
-/// last two times are kept.
+/// Puts cells behind lines. Rows of one window have its times, and a window often begins where one before it ends, so
+/// that the last two times are kept.
 #[derive(Drop)]
 pub(crate) struct CellWriter {
     text: String,

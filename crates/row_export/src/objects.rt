@@ -139,8 +139,8 @@ fn put_rows<R: Read + Drop, W: Write>(
     Err(ExportFault::Rows(RowsFault::Read))
 }
 
-/// Writes rows as JSON objects, a line each, and gives back the writer. A member of an object has the name of its number;
-/// decimals are numbers of JSON, with all their places, and times, dates and names are strings.
+/// Writes rows as JSON objects, a line each, and gives back the writer. A member of an object has the name of its
+/// number; decimals are numbers of JSON, with all their places, and times, dates and names are strings.
 ///
 /// # Errors
 ///

@@ -78,7 +78,8 @@ fn put_fields(
 ///
 /// # Errors
 ///
-/// `Rows` where the row has other numbers than are shown; `Cell` of the first number that is shown as nothing; `Memory`.
+/// `Rows` where the row has other numbers than are shown; `Cell` of the first number that is shown as nothing;
+/// `Memory`.
 pub(crate) fn fill_record(
     line: &mut Vec<u8>,
     writer: &mut CellWriter,

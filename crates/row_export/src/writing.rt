@@ -92,7 +92,8 @@ fn write_header<W: Write + Drop>(
     }
 }
 
-/// Writes rows as CSV, behind a record of the names of their numbers where there is to be a header, and gives back the writer.
+/// Writes rows as CSV, behind a record of the names of their numbers where there is to be a header, and gives back the
+/// writer.
 ///
 /// # Errors
 ///

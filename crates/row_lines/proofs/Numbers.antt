@@ -1,4 +1,5 @@
--- Numbers in decimal, however large: no space and no line feed stands in one, and the text of a number of 128 bits is that of no other.
+-- Numbers in decimal, however large: no space and no line feed stands in one, and the text of a number of 128 bits is
+-- that of no other.
 use Rattle.std.proofs.Common.{◌≡◌, ◌≢◌, ℕ, zero, suc, ℤ, pos, negsuc, ◌+◌, ◌*◌, ◌/◌, ◌%◌, ◌^◌, ◌<◌, ◌≤◌, ◌==◌, Bool, true, false, cond, ltb, List, [], ◌∷◌, length, map, get_or, drop, inl, inr, FitsSigned, rules, arith, refl, sym, ap, ◌∙◌, pow-suc, if◌then◌else◌}
 use mir.Syntax.{w128}
 use Rattle.std.specs.Fmt.{decimal, signed_decimal, digits, digits_onto, digit_glyph}

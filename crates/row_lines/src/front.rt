@@ -18,7 +18,8 @@ pub(crate) struct Front {
     ghost spells: { HasFront text.items start end [] },
 }
 
-/// The start and the end of a line, and what stands behind them. Of a line without a start and an end of 64 bits there are none.
+/// The start and the end of a line, and what stands behind them. Of a line without a start and an end of 64 bits there
+/// are none.
 fn read_front(line: &[u8]) -> Option<(i64, i64, &[u8])>
     ensures { IfSome result (λ read. HasFront line.now read.0 read.1 read.2.now) }
 {

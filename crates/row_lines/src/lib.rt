@@ -1,5 +1,5 @@
-//! The texts of numbers and of rows, and rows in the order of their text; and such a text read line by line: of each line the
-//! row, or that it is none.
+//! The texts of numbers and of rows, and rows in the order of their text; and such a text read line by line: of each
+//! line the row, or that it is none.
 #![tactic(auto)]
 
 mod front;

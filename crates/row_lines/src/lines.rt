@@ -8,7 +8,8 @@ use std::alloc::{AllocError, Global};
 use std::io;
 use std::io::{ErrorKind, Read};
 
-/// More bytes than the longest line of a row has: three numbers of 64 bits and eight of 128, each with what stands behind it.
+/// More bytes than the longest line of a row has: three numbers of 64 bits and eight of 128, each with what stands
+/// behind it.
 pub const LONGEST_LINE: usize = 3 * 21 + 8 * 41;
 
 /// How many bytes are asked for at once.

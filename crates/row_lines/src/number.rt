@@ -71,8 +71,8 @@ fn negative_front(digits: &[u8]) -> Option<(i64, &[u8])>
     }
 }
 
-/// The number of at most 18 digits that is printed in front of a text, and what stands behind its digits. Of a text of another
-/// number, or of none, there is none.
+/// The number of at most 18 digits that is printed in front of a text, and what stands behind its digits. Of a text of
+/// another number, or of none, there is none.
 #[inline(always)]
 pub(crate) fn narrow_front(text: &[u8]) -> Option<(i64, &[u8])>
     ensures { IfSome result (λ front. IsNumberFront text.now front.0 front.1.now) }
@@ -119,7 +119,8 @@ fn wide_of(text: &str) -> Option<i128>
     }
 }
 
-/// The number that is printed so, if it has 128 bits: a hyphen where it is negative, and digits without a zero before them.
+/// The number that is printed so, if it has 128 bits: a hyphen where it is negative, and digits without a zero before
+/// them.
 pub fn number_of(text: &[u8]) -> Option<i128>
     ensures { GivesNumber text.now result }
 {

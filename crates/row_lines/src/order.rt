@@ -27,7 +27,8 @@ fn is_after(last: Option<Pane>, pane: Pane) -> bool
     }
 }
 
-/// Refuses a row at a place where it has another number of numbers than is wanted, or does not stand behind the last one.
+/// Refuses a row at a place where it has another number of numbers than is wanted, or does not stand behind the last
+/// one.
 ///
 /// # Errors
 ///

@@ -15,8 +15,9 @@ pub struct RowPlace {
     pub width: usize,
 }
 
-/// How many numbers stand in front of the first line feed of a text, each behind a space, and what stands behind the line feed.
-/// Of other texts, of numbers of more than 18 digits, and of more numbers than a row has, there is no telling.
+/// How many numbers stand in front of the first line feed of a text, each behind a space, and what stands behind the
+/// line feed. Of other texts, of numbers of more than 18 digits, and of more numbers than a row has, there is no
+/// telling.
 fn count_front(text: &[u8]) -> Option<(usize, &[u8])>
     ensures { IfSome result (λ counted. AreSpaced text.now counted.0 counted.1.now) }
 {
@@ -34,8 +35,8 @@ fn count_front(text: &[u8]) -> Option<(usize, &[u8])>
     None
 }
 
-/// The place of the row whose line stands in front of a text, with its line feed, and what stands behind it. The front of the
-/// line before is at hand. Of other texts, and where a number has more than 18 digits, there is no telling.
+/// The place of the row whose line stands in front of a text, with its line feed, and what stands behind it. The front
+/// of the line before is at hand. Of other texts, and where a number has more than 18 digits, there is no telling.
 pub(crate) fn front_place<'a>(
     kept: &mut Option<Front>,
     text: &'a [u8],

@@ -45,7 +45,8 @@ fn read_fault(fault: ReadFault) -> RowsFault
     }
 }
 
-/// The rows of what a reader gives, each behind the one before by start and then key, and all with so many numbers as the first.
+/// The rows of what a reader gives, each behind the one before by start and then key, and all with so many numbers as
+/// the first.
 #[derive(Drop)]
 pub struct RowLines<R> {
     alloc: Global,
@@ -161,8 +162,8 @@ impl<R: Read + Drop> RowLines<R> {
         Ok(Some(self.take_row()?))
     }
 
-    /// Goes on to the next line, if all of it was read before, and tells where its row stands. Of other lines, and of rows with a
-    /// number of more than 18 digits, there is no telling.
+    /// Goes on to the next line, if all of it was read before, and tells where its row stands. Of other lines, and of
+    /// rows with a number of more than 18 digits, there is no telling.
     fn next_held(&mut self) -> Option<RowPlace>
         ensures read { IfSome result (IsPlaceRead R.remaining self.old self.new) }
         ensures none { result ≡ None → IsAsBefore self.old self.new }

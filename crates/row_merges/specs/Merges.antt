@@ -29,7 +29,8 @@ IsRowsText text rows = AreRows None None rows × IsTextOf text rows
 abbrev pub rows_in : List (List Row) → List Row
 rows_in lists = flat_map (λ rows. rows) lists
 
--- texts are of rows, and what is written are the lines of them all, of rows that are alike and each behind the one before
+-- texts are of rows, and what is written are the lines of them all, of rows that are alike and each behind the one
+-- before
 pub record MergesRows (texts : List (Option (List ℕ))) (before after : Option (List ℕ)) : Type 0 where
   pub lists : List (List Row)
   pub rows : List Row

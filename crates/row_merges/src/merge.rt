@@ -106,8 +106,8 @@ impl<R: Read + Drop> Merge<R> {
         }
     }
 
-    /// Refuses the row at hand of the text at a place where it has another number of numbers than those before, or is not behind
-    /// the last one. Tells how many numbers it has, and where it stands.
+    /// Refuses the row at hand of the text at a place where it has another number of numbers than those before, or is
+    /// not behind the last one. Tells how many numbers it has, and where it stands.
     fn admit(&self, place: usize) -> Result<RowPlace, MergeFault>
         requires { HasRowAt self.now.heads.items place }
         ensures admitted { IfOk result (IsAdmitted self.now place) }
@@ -154,8 +154,9 @@ impl<R: Read + Drop> Merge<R> {
     ///
     /// # Errors
     ///
-    /// `Text` with the place of a text and the line at which it is none of rows in order with as many numbers as those before, or
-    /// has a row at the start and key of another text's; `Write`; `Memory`. What comes before may have been written then.
+    /// `Text` with the place of a text and the line at which it is none of rows in order with as many numbers as those
+    /// before, or has a row at the start and key of another text's; `Write`; `Memory`. What comes before may have been
+    /// written then.
     pub fn write<W: Write>(self, out: &mut W) -> Result<(), MergeFault>
         ensures rows { OnOk result ((texts : List (Option (List ℕ))) → HoldsTexts R.remaining texts self → MergesRows texts (W.contents out.old) (W.contents out.new)) }
         ensures refused { IfErr result (IsOfText (length self.heads.items)) }

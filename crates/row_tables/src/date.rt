@@ -96,8 +96,8 @@ fn moment_of(part: DatePart) -> &'static str
     }
 }
 
-/// Writes a day, a month or a year into a cell: a number that counts them from 1970 on, as the one in ISO 8601 whose first
-/// moment in UTC reads as a time of the day of this number.
+/// Writes a day, a month or a year into a cell: a number that counts them from 1970 on, as the one in ISO 8601 whose
+/// first moment in UTC reads as a time of the day of this number.
 ///
 /// # Errors
 ///

@@ -40,8 +40,8 @@ pub(crate) fn push_bytes(text: &mut String, bytes: &[u8]) -> Result<(), CellFaul
     Ok(())
 }
 
-/// Writes a point and as many digits as there are places behind it to the end of their room, and answers where they start. Of no
-/// places there is no point.
+/// Writes a point and as many digits as there are places behind it to the end of their room, and answers where they
+/// start. Of no places there is no point.
 fn put_places(line: &mut [u8; ROOM], number: u64, places: usize) -> usize
     ensures few { 48 ≤ result + 21 }
     ensures inside { result ≤ 48 }
@@ -55,8 +55,8 @@ fn put_places(line: &mut [u8; ROOM], number: u64, places: usize) -> usize
     start - 1
 }
 
-/// Writes a point and as many digits of a part as its power of ten has zeros to the end of their room, and answers where the point
-/// stands. The power and the part have a 1 and these digits, so that the point goes where the 1 is.
+/// Writes a point and as many digits of a part as its power of ten has zeros to the end of their room, and answers
+/// where the point stands. The power and the part have a 1 and these digits, so that the point goes where the 1 is.
 fn fill_part(room: &mut [u8; ROOM], scale: u64, part: u64) -> usize
     requires part { part < scale }
     requires scale { scale ≤ 10 ^ 18 }
@@ -68,7 +68,8 @@ fn fill_part(room: &mut [u8; ROOM], scale: u64, part: u64) -> usize
     point
 }
 
-/// Writes a number that is scaled by ten to the power of the places to the end of its room, and answers where it starts.
+/// Writes a number that is scaled by ten to the power of the places to the end of its room, and answers where it
+/// starts.
 fn fill_size(room: &mut [u8; ROOM], size: u64, places: u32) -> usize
     requires size { size ≤ 2 ^ 63 }
     requires places { places ≤ 18 }
@@ -97,7 +98,8 @@ fn fill_scaled(room: &mut [u8; ROOM], number: i64, places: Places) -> usize
     start - 1
 }
 
-/// Puts a decimal behind a line: a number of 64 bits that is scaled by ten to the power of the places, which reads as the number.
+/// Puts a decimal behind a line: a number of 64 bits that is scaled by ten to the power of the places, which reads as
+/// the number.
 ///
 /// # Errors
 ///
@@ -140,7 +142,8 @@ fn push_wide(text: &mut String, number: i128, places: u32) -> Result<(), CellFau
     push_bytes(text, &line[start..])
 }
 
-/// Writes a decimal into a cell: a number that is scaled by ten to the power of the places. One of 64 bits reads as the number.
+/// Writes a decimal into a cell: a number that is scaled by ten to the power of the places. One of 64 bits reads as the
+/// number.
 ///
 /// # Errors
 ///

@@ -71,8 +71,8 @@ fn kind_at(columns: &[ColumnWord<'_>], column: u32) -> CellKind
     }
 }
 
-/// What the numbers of an aggregate are shown as: a count as it is, a sum by its column's places, and the least and the greatest as
-/// the column's numbers. Sums of times, dates and names, and the least of names, are shown as they are.
+/// What the numbers of an aggregate are shown as: a count as it is, a sum by its column's places, and the least and the
+/// greatest as the column's numbers. Sums of times, dates and names, and the least of names, are shown as they are.
 pub fn kind_of_aggregate(aggregate: Aggregate, columns: &[ColumnWord<'_>]) -> CellKind
     ensures { result ≡ aggregate_kind columns.now aggregate }
 {

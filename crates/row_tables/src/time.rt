@@ -84,7 +84,8 @@ fn push_moment(
     push_filled(text, time, digits, part)
 }
 
-/// Puts the time behind a text that is so many parts of a second after 1970, of which a second has ten to the power of the digits.
+/// Puts the time behind a text that is so many parts of a second after 1970, of which a second has ten to the power of
+/// the digits.
 fn push_time(text: &mut String, number: i64, digits: usize) -> Result<(), CellFault> {
     let (seconds, part) = seconds_of(number, digits);
     let Ok(date) = Date::from_unix_epoch_day(seconds.div_euclid(DAY)) else {

@@ -1,5 +1,5 @@
-//! Reads a savepoint and decodes or encodes it so many times, or reads one of its key groups: the program that `bench/savepoint`
-//! measures.
+//! Reads a savepoint and decodes or encodes it so many times, or reads one of its key groups: the program that
+//! `bench/savepoint` measures.
 #![tactic(auto)]
 
 ghost use Rattle.std.specs.Prelude.{◌≡◌, IfOk};

@@ -1,4 +1,5 @@
--- Whatever is read of a spelling is what was spelled, also where a place passes what eight bytes hold: then nothing is read.
+-- Whatever is read of a spelling is what was spelled, also where a place passes what eight bytes hold: then nothing is
+-- read.
 use Rattle.std.proofs.Common.{◌≡◌, ℕ, ◌+◌, ◌*◌, Bool, true, false, List, [], ◌∷◌, ◌++◌, length, Option, Some, None, Result, Ok, refl, sym, ap, subst, ◌∙◌, append_assoc, arith, length-append}
 use Rattle.std.specs.Prelude.{nat_lt, codes, ◌==◌}
 use Rattle.std.specs.Option.{option_map}

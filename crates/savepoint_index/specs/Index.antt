@@ -13,7 +13,8 @@ use Rattle.savepoint_codec.specs.Fields.{entry_after, group_number}
 use Rattle.savepoint_index.specs.declared.head.GroupHead.{GroupHead}
 use Rattle.savepoint_index.specs.declared.head.TheConstants.{HEAD_BYTES}
 
--- where the entries of a key group begin, each of so many bytes: behind those of the group before, or else where the first do
+-- where the entries of a key group begin, each of so many bytes: behind those of the group before, or else where the
+-- first do
 abbrev pub place_after : ℕ → ℕ → Option GroupHead → ℕ
 place_after size first None = first
 place_after size first (Some last) = last.place + size * last.count

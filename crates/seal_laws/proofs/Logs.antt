@@ -134,7 +134,8 @@ plain_onto j (x ∷ ps) log a = elim (cases_Bool (eqb j x.0)) [
 
 -- ---- an output
 
--- what was given to an output by a task that has passed n barriers: just those, and an end only at last, where the task is over
+-- what was given to an output by a task that has passed n barriers: just those, and an end only at last, where the task
+-- is over
 pub record IsGiven (n : ℕ) (over : Bool) (log : List Message) : Type 0 where
   pub barriers : barriers_in log ≡ n
   pub going : over ≡ false → has_end log ≡ false

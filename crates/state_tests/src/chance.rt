@@ -50,8 +50,8 @@ pub(crate) struct MadeGroup {
 /// How many bytes a key group has in the index: its number, how many entries it has, and the place of the first.
 pub(crate) const HEAD_SIZE: usize = 18;
 
-/// A savepoint: the bytes behind the mark and before the key groups, how many key groups the plan has, how many bytes an entry has,
-/// and the key groups that have entries.
+/// A savepoint: the bytes behind the mark and before the key groups, how many key groups the plan has, how many bytes
+/// an entry has, and the key groups that have entries.
 #[derive(Drop)]
 pub(crate) struct Made {
     pub front: Vec<u8>,

@@ -81,7 +81,8 @@ fn each_layout_and_each_group_is_read(rt: HostRuntime) -> Result<(), Fail> {
     Ok(())
 }
 
-/// Bytes without an index have no group to read by it, whatever stands behind the mark; nor have those that break off in it.
+/// Bytes without an index have no group to read by it, whatever stands behind the mark; nor have those that break off
+/// in it.
 #[test]
 fn no_group_without_an_index(rt: HostRuntime) -> Result<(), Fail> {
     let old = make(rt.alloc(), 1)?.unindexed(rt.alloc())?;
@@ -174,7 +175,8 @@ fn missed(
     Ok(None)
 }
 
-/// A place that is taken though it is not the right one: one byte too few or too many, one entry too far, or half of all bytes.
+/// A place that is taken though it is not the right one: one byte too few or too many, one entry too far, or half of
+/// all bytes.
 fn missed_place(alloc: Global, made: &Made) -> Result<Option<(usize, u64)>, Fail> {
     let added = [1, u64::MAX, made.entry_size, 1 << 63];
     for i in 0..made.groups.len() {
@@ -186,8 +188,8 @@ fn missed_place(alloc: Global, made: &Made) -> Result<Option<(usize, u64)>, Fail
     Ok(None)
 }
 
-/// A count that is taken though its entries pass the end of 64 bits and have no place behind them, also where their bytes come to the
-/// right one by wrapping. Behind the last key group stands no place, so its entries break off.
+/// A count that is taken though its entries pass the end of 64 bits and have no place behind them, also where their
+/// bytes come to the right one by wrapping. Behind the last key group stands no place, so its entries break off.
 fn missed_count(alloc: Global, made: &Made) -> Result<Option<(usize, u64)>, Fail> {
     for i in 0..made.groups.len() {
         let is_last = i.saturating_add(1) == made.groups.len();

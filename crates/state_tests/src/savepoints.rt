@@ -6,8 +6,8 @@ use savepoint_index::{decode, encode};
 use std::alloc::{AllocError, Global};
 use std::test::Fail;
 
-/// A savepoint of one source with two partitions, in which one record stands in a window: its fields before the entry, but for the
-/// mark in front.
+/// A savepoint of one source with two partitions, in which one record stands in a window: its fields before the entry,
+/// but for the mark in front.
 const FIELDS: &[&[u8]] = &[
     b"\0\0\0\0\0\0\0\x01",
     b"\0\x2b",
@@ -58,7 +58,8 @@ fn indexed(alloc: Global) -> Result<Vec<u8>, Fail> {
     Ok(bytes)
 }
 
-/// How many of some bytes are savepoints, how many have each fault, and how many are savepoints that are spelled otherwise.
+/// How many of some bytes are savepoints, how many have each fault, and how many are savepoints that are spelled
+/// otherwise.
 #[derive(Clone, Copy, Debug, PartialEq, Eq)]
 struct Tally {
     accepted: u32,
@@ -166,7 +167,8 @@ fn changes(alloc: Global, bytes: &mut [u8]) -> Tally {
     tally
 }
 
-// How many there are of each is what the model says, scripts/model. One change of the mark makes it that of the other layout.
+// How many there are of each is what the model says, scripts/model. One change of the mark makes it that of the other
+// layout.
 const OF_UNINDEXED: Tally = Tally {
     accepted: 31_483,
     magic: 1_019,

@@ -1,4 +1,5 @@
--- What the reading token by token answers: entries that meet what the format asks of each, and the sources that they make up.
+-- What the reading token by token answers: entries that meet what the format asks of each, and the sources that they
+-- make up.
 use Rattle.std.specs.Prelude.{◌≡◌, ℕ, ◌+◌, ◌*◌, ℤ, pos, Bool, true, false, ◌&&◌, List, map, Option, Some, None, bytes_eq, slice_index_or, if◌then◌else◌}
 use Rattle.std.specs.List.{list_all, list_any, find, range_with_len}
 use Rattle.std.specs.Option.{option_map, option_and_then}
@@ -52,7 +53,8 @@ own_entry bound columns time d = option_and_then (if_own bound columns time) (en
 abbrev pub partitions_at : PlanData → InputText → List ℕ → Option (List (List Marked))
 partitions_at plan text uid = option_map (map (map (marked_of (bound_under plan uid) plan.columns plan.window.time))) (option_map (λ m. m.1) (find (λ m. bytes_eq m.0 uid) text))
 
--- an object whose members name sources of the plan, and whose entries are fit there, has for each source these partitions
+-- an object whose members name sources of the plan, and whose entries are fit there, has for each source these
+-- partitions
 pub record IsSlots (plan : PlanData) (ms : Members) (slots : List (Option (List (List Marked)))) : Type 0 where
   pub text : InputText
   pub says : each_member (list_text (list_text entry_text)) ms ≡ Some text

@@ -52,7 +52,8 @@ no_entry = record { entry = Watermark lowest; mark = lowest }
 abbrev pub AreMarked : PlanData → InputData → Type 0
 AreMarked plan i = AllZip (λ s partitions. All (λ entries. All (IsMarked s.bound i.time) entries) partitions) plan.sources i.sources
 
--- the input was read by the plan: its columns and time are the plan's, it has the plan's sources and partitions, and each source's marks
+-- the input was read by the plan: its columns and time are the plan's, it has the plan's sources and partitions, and
+-- each source's marks
 pub record BelongsTo (plan : PlanData) (i : InputData) : Type 0 where
   pub columns : i.columns ≡ plan.columns
   pub time : i.time ≡ plan.window.time

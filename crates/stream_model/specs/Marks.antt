@@ -1,4 +1,5 @@
--- The watermark that an entry brings. A source makes its own, as Flink's bounded out-of-orderness does, or has them in its partitions.
+-- The watermark that an entry brings. A source makes its own, as Flink's bounded out-of-orderness does, or has them in
+-- its partitions.
 use Rattle.std.specs.Prelude.{◌≡◌, ℕ, ℤ, pos, ◌-ℤ◌, ◌≤ℤ◌, ◌<ℤ◌, List, [], Option, Some, None}
 use Rattle.std.specs.List.{All}
 use Rattle.lane_kernels.specs.Compare.{greatest_of}
@@ -24,7 +25,8 @@ IsEntryOf columns time (Watermark t) = IsTime t
 abbrev pub greatest_time : ℕ → Entry → Option ℤ
 greatest_time time e = greatest_of (column_of time (rows_in e))
 
--- the watermark that a source makes of the greatest time so far: that time less the bound less 1, or the least i64 where there is none
+-- the watermark that a source makes of the greatest time so far: that time less the bound less 1, or the least i64
+-- where there is none
 abbrev pub made : ℤ → Option ℤ → ℤ
 made bound None = lowest
 made bound (Some t) = t -ℤ bound -ℤ pos 1

@@ -1,4 +1,5 @@
--- Watermarks, cuts and the records before a cut. A cut has one list for each source, with a count of entries for each partition.
+-- Watermarks, cuts and the records before a cut. A cut has one list for each source, with a count of entries for each
+-- partition.
 use Rattle.std.specs.Prelude.{ℕ, ℤ, ◌-◌, ◌==◌, ◌<ℤ◌, ◌<◌, ◌≤◌, List, [], ◌∷◌, ◌++◌, map, take, drop, length, slice_index_or, if◌then◌else◌}
 use Rattle.std.specs.Int.{int_min, int_max}
 use Rattle.std.specs.List.{All, AllByRecursion, AllZip, fold}
@@ -10,7 +11,8 @@ use Rattle.stream_model.specs.InputData.{records_of_entry, records_in}
 abbrev pub watermark_of_entry : Marked → ℤ
 watermark_of_entry m = m.mark
 
--- the partition's watermark after n entries: the greatest i64 at its end, else the greatest among them, else the least i64
+-- the partition's watermark after n entries: the greatest i64 at its end, else the greatest among them, else the least
+-- i64
 abbrev pub partition_watermark : List Marked → ℕ → ℤ
 partition_watermark entries n = if n == length entries then highest else fold (λ w e. int_max w (watermark_of_entry e)) lowest (take n entries)
 

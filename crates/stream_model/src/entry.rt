@@ -32,8 +32,8 @@ pub type Partition = Items<Marked>;
 pub type Source = Items<Partition>;
 
 impl Marked {
-    /// The entry of a source with this bound, marked. Where the source has a bound, an entry brings the greatest time of
-    /// its rows, less the bound and 1; where it has none, a watermark brings itself, and rows bring the least i64.
+    /// The entry of a source with this bound, marked. Where the source has a bound, an entry brings the greatest time
+    /// of its rows, less the bound and 1; where it has none, a watermark brings itself, and rows bring the least i64.
     #[inline(always)]
     pub fn new(entry: Entry, bound: Option<i64>, columns: usize, time: usize) -> Marked
         requires time_in { time < columns }

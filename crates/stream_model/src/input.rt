@@ -30,8 +30,8 @@ impl Model for Input {
 }
 
 impl Input {
-    /// An input of such sources, in the order of its plan. Records have so many columns, counted from 0, and their time stands
-    /// in one of them. No record is at or below the watermark of its partition before it.
+    /// An input of such sources, in the order of its plan. Records have so many columns, counted from 0, and their time
+    /// stands in one of them. No record is at or below the watermark of its partition before it.
     pub fn new(columns: u32, time: u32, sources: Items<Source>) -> Input
         requires sound { IsInput (input_data_of columns time sources) }
         requires orderly { IsOrderly time sources }

@@ -13,7 +13,8 @@ use Rattle.task_steps.specs.Beginning.{CanBegin}
 use Rattle.task_steps.specs.TaskData.{windows_in, HasCounts}
 use Rattle.task_setups.specs.Setups.{setup_of, window_of}
 
--- what task t of a leg can begin with: a watermark for each input, of a source an offset for each partition, and of the window's task alone windows by the plan's operator, each of at most 2^40 records
+-- what task t of a leg can begin with: a watermark for each input, of a source an offset for each partition, and of the
+-- window's task alone windows by the plan's operator, each of at most 2^40 records
 pub record Suits (p : PlanData) (leg : Leg) (stages : List Stage) (t : ℕ) (offsets : List ℕ) (marks : List ℤ) (window : Option StateData) : Type 0 where
   pub marked : length marks ≡ (setup_of p leg stages t).inputs
   pub placed : (setup_of p leg stages t).role ≡ Source → length offsets ≡ (setup_of p leg stages t).inputs

@@ -28,7 +28,8 @@ IsWithin i ToEnd = Unit {0}
 IsWithin i (ToCut cut) = IsCut i.sources cut
 IsWithin i TillAsked = Unit {0}
 
--- a source of a compiled layout that is told what task t of a leg is to be told finds its partitions in the input, as far as the leg reads them, and reads there what the layout's task has
+-- a source of a compiled layout that is told what task t of a leg is to be told finds its partitions in the input, as
+-- far as the leg reads them, and reads there what the layout's task has
 abbrev pub EveryTaskReads : Type 0
 EveryTaskReads = (p : PlanData) (c : ScaleData) (i : InputData) (n : ℕ) (saves : List (List (List ℕ))) (until : Until) (stages : List Stage) (t : ℕ)
     → IsPlan p → IsScale p c → rules.IsCompiled p c stages → BelongsTo p i → AllByRecursion (IsCut i.sources) saves → IsWithin i until

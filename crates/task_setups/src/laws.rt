@@ -9,15 +9,15 @@ pub fn every_task_stands()
     ensures { EveryTaskStands }
 {}
 
-/// Each source of a plan's compiled layout, in every leg over an input, has a task of the code that reads what it reads:
-/// told what `setup_of` says, it finds its partitions in the input, as far as the leg reads them, and their entries are
-/// those that the layout's task has.
+/// Each source of a plan's compiled layout, in every leg over an input, has a task of the code that reads what it
+/// reads: told what `setup_of` says, it finds its partitions in the input, as far as the leg reads them, and their
+/// entries are those that the layout's task has.
 pub fn every_task_reads()
     ensures { EveryTaskReads }
 {}
 
-/// Each task of a plan's compiled layout, told what `setup_of` says, can begin with what suits it: its columns are there,
-/// each record has a subtask to go to, and a window's task has the plan's operator.
+/// Each task of a plan's compiled layout, told what `setup_of` says, can begin with what suits it: its columns are
+/// there, each record has a subtask to go to, and a window's task has the plan's operator.
 pub fn every_task_begins()
     ensures { EveryTaskBegins }
 {}

@@ -38,7 +38,8 @@ pub record HasFailed (e : Event) (old new : TaskData) : Type 0 where
 pub record GoesOn (old new : TaskData) : Type 0 where
   pub is : new ≡ record old { state = new.state }
 
--- the step of every task of a layout that it stands for is made; or there is none, and nothing has changed; or memory was refused
+-- the step of every task of a layout that it stands for is made; or there is none, and nothing has changed; or memory
+-- was refused
 abbrev pub Answers : (PlanData → AbstractTask → Type 0) → (PlanData → AbstractTask → State → Type 0) → Event → TaskData → TaskData → Result (Unit {0}) StepFault → Type 0
 Answers is can e old new (Ok x) = (old.has_failed ≡ false) × GoesOn old new × ((p : PlanData) (k : AbstractTask) → is p k → LocalStep p k old.state e new.state)
 Answers is can e old new (Err NotEnabled) = (old.has_failed ≡ false) × (new ≡ old) × ((p : PlanData) (k : AbstractTask) → is p k → can p k old.state → ⊥)

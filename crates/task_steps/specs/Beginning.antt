@@ -8,7 +8,8 @@ use Rattle.task_steps.specs.declared.setup.Setup.{Setup}
 use Rattle.task_steps.specs.Sending.{IsSplit}
 use Rattle.task_steps.specs.TaskData.{TaskData, windows_in, IsTurn, IsWindowing}
 
--- a setup that fits itself, with as many watermarks as inputs, the offsets of a source's partitions, and the windows of a window's task
+-- a setup that fits itself, with as many watermarks as inputs, the offsets of a source's partitions, and the windows of
+-- a window's task
 pub record CanBegin (s : Setup) (offsets : List ℕ) (marks : List ℤ) (window : Option StateData) : Type 0 where
   pub time : s.time < s.columns
   pub key : s.key < s.columns

@@ -31,7 +31,8 @@ abbrev pub kinds_in : Option WindowSpec → List Kind
 kinds_in None = []
 kinds_in (Some w) = map kind_of w.aggregates
 
--- what a task that was told so and has this operator keeps: a watermark for each input, of a source an offset for each partition, and parts of the windows, each pane once and in order
+-- what a task that was told so and has this operator keeps: a watermark for each input, of a source an offset for each
+-- partition, and parts of the windows, each pane once and in order
 pub record IsKept (s : Setup) (window : Option WindowSpec) (k : Kept) : Type 0 where
   pub offsets : s.role ≡ Source → length k.offsets.items ≡ s.inputs
   pub marks : length k.marks.items ≡ s.inputs

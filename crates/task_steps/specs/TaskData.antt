@@ -69,7 +69,8 @@ IsTurn role.Chain cursor outputs = cursor < outputs
 IsTurn role.Window cursor outputs = Unit {0}
 IsTurn role.Sink cursor outputs = Unit {0}
 
--- a window's task has the plan's operator; its counts come from a start's, at most 2^40, and the records taken, unless an `add` found no memory
+-- a window's task has the plan's operator; its counts come from a start's, at most 2^40, and the records taken, unless
+-- an `add` found no memory
 abbrev pub IsWindowing : Setup → ℕ → Bool → Option StateData → Type 0
 IsWindowing s taken has_failed None = s.role ≡ role.Window → ⊥
 IsWindowing s taken has_failed (Some w) = CanAggregate s.columns w.window × (w.window.time ≡ s.time) × (s.having ≡ w.window.having) × (has_failed ≡ false → HasCounts (MOST_RECORDS + taken) w.windows)

@@ -6,7 +6,8 @@ use plain_data::Items;
 use plan_model::{Numbers, Row};
 use std::alloc::{AllocError, Global};
 
-/// Puts rows after those that are there; where there are none, no row is copied. Where no memory is to be had, nothing has changed.
+/// Puts rows after those that are there; where there are none, no row is copied. Where no memory is to be had, nothing
+/// has changed.
 pub(crate) fn collect(rows: &mut Vec<Row>, more: Items<Row>) -> Result<(), AllocError>
     ensures collected { OnOk result (rows.new.items ≡ rows.old.items ++ more) }
     ensures kept { OnErr result (rows.new.items ≡ rows.old.items) }

@@ -59,8 +59,8 @@ impl Task {
         }
     }
 
-    /// What stands in the task's windows, or stood there then, in the order of start and key: nothing, but in a window's
-    /// task.
+    /// What stands in the task's windows, or stood there then, in the order of start and key: nothing, but in a
+    /// window's task.
     ///
     /// # Errors
     ///

@@ -678,8 +678,8 @@ impl Task {
         }
     }
 
-    /// Passes the leg's next barrier, to which input i was the last to come: by that of the leg's stop the task is over,
-    /// else it keeps itself and lets its inputs go. Where no memory is to be had for that, input i is free again.
+    /// Passes the leg's next barrier, to which input i was the last to come: by that of the leg's stop the task is
+    /// over, else it keeps itself and lets its inputs go. Where no memory is to be had for that, input i is free again.
     fn pass_barrier(&mut self, i: u32) -> Result<(), StepFault>
         requires going { (self.old.has_failed ≡ false) × (self.old.state.over ≡ false) }
         requires taker { is_source self.old.setup.role ≡ false }

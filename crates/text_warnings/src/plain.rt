@@ -57,9 +57,9 @@ fn are_quiet(partitions: &[Partition]) -> bool {
     partitions.iter().all(|partition| is_quiet(partition))
 }
 
-/// Whether a text, of which the input was read, has no more quotation marks than it needs, so that no name stands in it twice, and
-/// nothing is told of the watermarks of a partition. [`warnings_of`](crate::warnings_of) then finds nothing in it, and takes some five
-/// times as long to say so.
+/// Whether a text, of which the input was read, has no more quotation marks than it needs, so that no name stands in it
+/// twice, and nothing is told of the watermarks of a partition. [`warnings_of`](crate::warnings_of) then finds nothing
+/// in it, and takes some five times as long to say so.
 pub fn is_plain(text: &[u8], input: &Input) -> bool
     ensures { IsTrue result → plain.quotes_in text.now ≡ 2 * plain.names_in input.now.sources }
 {

@@ -157,8 +157,8 @@ impl<'t> Walk<'t> {
     }
 }
 
-/// The warnings of a text, which is JSON, in the order in which they are found. There are none where a number is too large or
-/// the nesting too deep for what reads it.
+/// The warnings of a text, which is JSON, in the order in which they are found. There are none where a number is too
+/// large or the nesting too deep for what reads it.
 pub(crate) fn found_in(alloc: Global, text: &str, kind: TextKind) -> Result<Findings, AllocError>
     ensures { IfOk result (λ found. found.end ≡ length text.now) }
 {

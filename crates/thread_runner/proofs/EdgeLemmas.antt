@@ -1,4 +1,5 @@
--- What holds of lists of ends after a change that a function of them cannot tell, and of edges that are settled one after another.
+-- What holds of lists of ends after a change that a function of them cannot tell, and of edges that are settled one
+-- after another.
 use Rattle.std.proofs.Common.{◌≡◌, ℕ, suc, ◌+◌, ◌-◌, ◌*◌, ◌<◌, ◌≤◌, List, [], ◌∷◌, ◌++◌, map, length, get_or, set, take, drop, Some, sym, ap, subst, ◌∙◌, arith, inl, inr, get_or-set_same}
 use Rattle.std.specs.List.{slice_get}
 use Rattle.std.proofs.lemmas.List.{map-append, length-map, length-set, length-append, get_or-map, get_or_append_left, get_or_at, take-append-drop}

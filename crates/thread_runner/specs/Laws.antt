@@ -14,7 +14,8 @@ use Rattle.thread_runner.specs.declared.jobs.Done.{Done}
 use Rattle.thread_runner.specs.Edges.{HasEdges, HasRings, AreJoined, AreLeft, SameDones, job_task, done_task, out_names, in_names, put_tables, taken_tables}
 use Rattle.thread_runner.specs.Legs.{Wired, AreWired, AreWorked, NoFaults}
 
--- in the layout of a plan each output of a task is an edge with a place among the inputs of a later task, and each ring an output
+-- in the layout of a plan each output of a task is an edge with a place among the inputs of a later task, and each ring
+-- an output
 abbrev pub LayoutsHaveEdges : Type 0
 LayoutsHaveEdges = (p : PlanData) (l : LayoutData) → IsPlan p → IsLayoutOf p l → HasEdges l.stages × HasRings l.stages
 
@@ -27,7 +28,8 @@ abbrev pub WorkersHandBackRings : Type 0
 WorkersHandBackRings = (g : GivenData) (ds : List Done) → AreWorked g ds
     → (length ds ≡ task_count g.layout.stages) × AreJoined g.layout.stages (out_names ds) (in_names ds)
 
--- and what they hand back, settled, stands on the way of a leg: a consistent history of the steps that were accepted leads there
+-- and what they hand back, settled, stands on the way of a leg: a consistent history of the steps that were accepted
+-- leads there
 abbrev pub WorkersAreOnTheWay : Type 0
 WorkersAreOnTheWay = (g : GivenData) (ds ds' : List Done) → IsSound g → AreWorked g ds → SameDones ds ds' → AreLeft g.layout.stages (put_tables ds') (taken_tables ds') → AreOnTheWay g (map done_task ds')
 

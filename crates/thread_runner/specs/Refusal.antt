@@ -10,6 +10,7 @@ use Rattle.redistribute.specs.Stopping.{CanGo, CanSaveAt, IsRefusal}
 abbrev pub IsWant : LegFault → Type 0
 IsWant fault = (fault ≡ Memory) ⊎ (fault ≡ Threads)
 
--- why a leg in one thread has none, or a thread was refused to a leg that can go so far, and take its savepoints on the way
+-- why a leg in one thread has none, or a thread was refused to a leg that can go so far, and take its savepoints on the
+-- way
 abbrev pub IsThreadRefusal : List (List (List Marked)) → List (List ℕ) → List (List (List ℕ)) → Until → LegFault → Type 0
 IsThreadRefusal sources begin saves until fault = IsRefusal sources begin saves until fault ⊎ ((fault ≡ Threads) × CanGo sources begin until × CanSaveAt sources begin saves until)

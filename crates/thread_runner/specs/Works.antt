@@ -1,4 +1,5 @@
--- What a worker did: a list of its task's local steps, and what they took from its rings and put on them. As in a history, steps and logs have the newest first.
+-- What a worker did: a list of its task's local steps, and what they took from its rings and put on them. As in a
+-- history, steps and logs have the newest first.
 use Rattle.std.specs.Prelude.{◌≡◌, ◌⊎◌, ℕ, ◌==◌, ◌≤◌, if◌then◌else◌, length, List, [], ◌++◌, map, reverse, slice_index_or, true, Bool}
 use Rattle.plan_model.specs.PlanData.{PlanData}
 use Rattle.stream_model.specs.InputData.{InputData}
@@ -51,14 +52,16 @@ pub record Works (i : InputData) (d : TaskData) (ins : List Receiver) (outs : Li
   pub taken : (n : ℕ) → taken_at ins' n ≡ taken n steps ++ taken_at ins n
   pub put : (n : ℕ) → put_at outs' n ≡ sent n steps ++ put_at outs n
 
--- a task is as its accepted steps left it, but for its windows, which are the same where it is over, and whether a step found no memory
+-- a task is as its accepted steps left it, but for its windows, which are the same where it is over, and whether a step
+-- found no memory
 pub record IsLeftOf (u d : TaskData) : Type 0 where
   pub windows : Windows
   pub has_failed : Bool
   pub is : d ≡ record u { state = record u.state { windows = windows }; has_failed = has_failed }
   pub whole : u.state.over ≡ true → windows ≡ u.state.windows
 
--- the same up to a step that was not made, for which a message more may have been taken from one input that could be taken from
+-- the same up to a step that was not made, for which a message more may have been taken from one input that could be
+-- taken from
 pub record WorksUpTo (i : InputData) (d : TaskData) (ins : List Receiver) (outs : List Sender) (d' : TaskData) (ins' : List Receiver) (outs' : List Sender) : Type 0 where
   pub last : TaskData
   pub steps : List Event

@@ -86,8 +86,8 @@ fn finished(
     finish_of(alloc, given, until, tasks)
 }
 
-/// What a leg comes to that is given up, since memory was refused to a worker: what it had sealed on its way. The barrier of a stop
-/// is none of these: where every task has passed it, no worker has ended early.
+/// What a leg comes to that is given up, since memory was refused to a worker: what it had sealed on its way. The
+/// barrier of a stop is none of these: where every task has passed it, no worker has ended early.
 fn given_up(
     alloc: Global,
     given: Given<'_>,

@@ -2,8 +2,8 @@
 
 /// What may hold a worker up, as a test does: it is called before each step.
 pub trait Gate: Sync {
-    /// Lets a task's step of this number, counted from 0, pass. An attempt that takes or puts nothing uses up no number, so
-    /// the same one may come again; after the greatest number it stays there.
+    /// Lets a task's step of this number, counted from 0, pass. An attempt that takes or puts nothing uses up no
+    /// number, so the same one may come again; after the greatest number it stays there.
     fn pass(&self, task: u32, step: u64);
 }
 

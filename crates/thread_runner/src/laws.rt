@@ -1,9 +1,10 @@
-//! Laws for callers that make a leg's rings and settle them themselves, each the contract of a function that does nothing.
+//! Laws for callers that make a leg's rings and settle them themselves, each the contract of a function that does
+//! nothing.
 
 ghost use Rattle.thread_runner.specs.Laws.{LayoutsHaveEdges, JobsAreWired, WorkersHandBackRings, WorkersAreOnTheWay, WorkersAreAtEnd};
 
-/// In the layout of a plan each output of a task is an edge to a later task, with one place among its inputs, and each ring is
-/// an output: what `wire` and `settle_all` ask of it.
+/// In the layout of a plan each output of a task is an edge to a later task, with one place among its inputs, and each
+/// ring is an output: what `wire` and `settle_all` ask of it.
 pub fn layouts_have_edges()
     ensures { LayoutsHaveEdges }
 {}
@@ -13,14 +14,14 @@ pub fn jobs_are_wired()
     ensures { JobsAreWired }
 {}
 
-/// Of the jobs of a leg, workers hand back one task each, with both ends of each ring, also where memory was refused: what
-/// `settle_all` asks of them.
+/// Of the jobs of a leg, workers hand back one task each, with both ends of each ring, also where memory was refused:
+/// what `settle_all` asks of them.
 pub fn workers_hand_back_rings()
     ensures { WorkersHandBackRings }
 {}
 
-/// What workers hand back, with all edges settled, stands on the way of the leg, also where memory was refused to some of them: what
-/// `sealed_of` asks of tasks.
+/// What workers hand back, with all edges settled, stands on the way of the leg, also where memory was refused to some
+/// of them: what `sealed_of` asks of tasks.
 pub fn workers_are_on_the_way()
     ensures { WorkersAreOnTheWay }
 {}

@@ -42,12 +42,13 @@ use window_state::HashKeys;
 
 /// The jobs of a leg: its tasks as they begin, with a new ring for each edge of the layout.
 ///
-/// The input was read by the plan, the layout is one of the plan, the start one of the input, and the leg goes on from there.
+/// The input was read by the plan, the layout is one of the plan, the start one of the input, and the leg goes on from
+/// there.
 ///
 /// # Errors
 ///
-/// `StopRange` where a leg from the start cannot stop so, `SaveRange` where it cannot take its savepoints on the way there;
-/// `Memory`.
+/// `StopRange` where a leg from the start cannot stop so, `SaveRange` where it cannot take its savepoints on the way
+/// there; `Memory`.
 pub fn prepared(
     alloc: Global,
     keys: HashKeys,
@@ -85,23 +86,24 @@ fn word_in(asked: &Option<Arc<AtomicBool>>) -> Option<&AtomicBool> {
     }
 }
 
-/// Runs a leg that begins at a start, on the layout of the plan at a scale, in a thread for each task, to the end of its input or
-/// to the cut where it stops and leaves a savepoint. The panes of the windows are hashed by the keys, and each worker passes
-/// the gate before each of its steps.
+/// Runs a leg that begins at a start, on the layout of the plan at a scale, in a thread for each task, to the end of
+/// its input or to the cut where it stops and leaves a savepoint. The panes of the windows are hashed by the keys, and
+/// each worker passes the gate before each of its steps.
 ///
-/// A leg that may be asked to stop looks for the word before each step of a source: a source that sees it reads no further entry.
-/// It ends at a cut that no one knows before, with the savepoint of there, or at the end of its input, where all its sources were
-/// closed before they saw the word.
+/// A leg that may be asked to stop looks for the word before each step of a source: a source that sees it reads no
+/// further entry. It ends at a cut that no one knows before, with the savepoint of there, or at the end of its input,
+/// where all its sources were closed before they saw the word.
 ///
-/// At each of its savepoints on the way every task keeps its state and goes on. Where memory is refused to a worker behind one that
-/// is complete, the leg is given up with what it had sealed there.
+/// At each of its savepoints on the way every task keeps its state and goes on. Where memory is refused to a worker
+/// behind one that is complete, the leg is given up with what it had sealed there.
 ///
 /// The input and the scale were read by the plan, and the start is one of the input.
 ///
 /// # Errors
 ///
-/// `StopRange` where a leg from the start cannot stop so, else `SaveRange` where it cannot take its savepoints on the way, else
-/// `Threads` where a thread was refused, and `Memory` where memory runs out and no savepoint on the way is complete.
+/// `StopRange` where a leg from the start cannot stop so, else `SaveRange` where it cannot take its savepoints on the
+/// way, else `Threads` where a thread was refused, and `Memory` where memory runs out and no savepoint on the way is
+/// complete.
 pub fn run_leg<R: Threads + Wait + Clock + Sync, G: Gate>(
     rt: &R,
     alloc: Global,

@@ -1,8 +1,8 @@
 //! A leg of a job on threads: one for each task, joined by a ring for each edge of the layout.
 //!
-//! `wiring` makes the rings, `work` is what one thread does, `run` starts a thread for each task and waits for all, `edges`
-//! settles the rings once both of their ends are back, and `leg` is the whole. Which steps fall together is the system's
-//! choice: `specs/Works` says of each worker that it made one list of its task's local steps, and the law
+//! `wiring` makes the rings, `work` is what one thread does, `run` starts a thread for each task and waits for all,
+//! `edges` settles the rings once both of their ends are back, and `leg` is the whole. Which steps fall together is the
+//! system's choice: `specs/Works` says of each worker that it made one list of its task's local steps, and the law
 //! `workers_are_at_end` that these lists are together a consistent history that has come to its end.
 #![tactic(auto)]
 

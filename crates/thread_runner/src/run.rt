@@ -20,7 +20,8 @@ use std::thread::{Promise, Threads};
 use std::time::Clock;
 use stream_model::Input;
 
-/// The stack of a worker, in bytes: no step goes deep, and 256 workers have to start where a process has 1 GB of addresses.
+/// The stack of a worker, in bytes: no step goes deep, and 256 workers have to start where a process has 1 GB of
+/// addresses.
 const STACK: usize = 1 << 20;
 
 /// The promise of a thread: its result is the work of the job.
@@ -34,8 +35,8 @@ impl Promise<Done> for WorkOf {
     ghost kept_by = { λ p d. IsWorkOf p.input.value p.job.value d };
 }
 
-/// Waits until each job has a thread, or one was refused: what a worker takes of the addresses, or of the processors, is what the
-/// next thread may want.
+/// Waits until each job has a thread, or one was refused: what a worker takes of the addresses, or of the processors,
+/// is what the next thread may want.
 fn await_threads<R: Wait + Clock>(rt: &R, started: &AtomicBool, failed: &AtomicBool) {
     let mut patience = Patience::new();
     for _ in rt.forever() {
@@ -68,8 +69,8 @@ fn run_job<R: Wait + Clock, G: Gate>(
     worker(rt, input, task, inputs, outputs, gate, Some(asked), failed)
 }
 
-/// Runs each job in a thread of its own, as [`run_all`] does. The word `started` is set, and the workers begin, once there is no job
-/// without one.
+/// Runs each job in a thread of its own, as [`run_all`] does. The word `started` is set, and the workers begin, once
+/// there is no job without one.
 fn run_jobs<R: Threads + Wait + Clock + Sync, G: Gate>(
     rt: &R,
     alloc: Global,
@@ -129,12 +130,13 @@ fn run_jobs<R: Threads + Wait + Clock + Sync, G: Gate>(
 
 /// Runs each job in a thread of its own, and gives what each worker hands back, in the order of the jobs.
 ///
-/// Each task finds in the input what it is to read. Sources that may be asked to stop do so once the word `asked` is set.
+/// Each task finds in the input what it is to read. Sources that may be asked to stop do so once the word `asked` is
+/// set.
 ///
 /// # Errors
 ///
-/// `Threads` where a thread was refused, `Memory` where room for what the workers hand back was. The failure word is set
-/// then, and the jobs are dropped.
+/// `Threads` where a thread was refused, `Memory` where room for what the workers hand back was. The failure word is
+/// set then, and the jobs are dropped.
 pub fn run_all<R: Threads + Wait + Clock + Sync, G: Gate>(
     rt: &R,
     alloc: Global,

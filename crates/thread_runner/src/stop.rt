@@ -11,8 +11,8 @@ pub enum Stop {
     Never,
     /// At a cut, with a savepoint.
     At(Cut),
-    /// Where it has come once this word is set, with a savepoint. A leg that comes to the end of its input before it sees the
-    /// word goes on to the end.
+    /// Where it has come once this word is set, with a savepoint. A leg that comes to the end of its input before it
+    /// sees the word goes on to the end.
     Asked(Arc<AtomicBool>),
 }
 

@@ -9,8 +9,8 @@ const YIELDS: u32 = 8;
 
 const LONGEST: u32 = 12;
 
-/// How long a worker has waited that found nothing to do. It spins, then leaves the processor to others, and then sleeps: for a
-/// microsecond, and each time twice as long, up to 4 milliseconds.
+/// How long a worker has waited that found nothing to do. It spins, then leaves the processor to others, and then
+/// sleeps: for a microsecond, and each time twice as long, up to 4 milliseconds.
 #[derive(Clone, Copy, Debug)]
 pub(crate) struct Patience {
     rounds: u32,

@@ -48,8 +48,8 @@ fn wire_task(alloc: Global, layout: &Layout, jobs: &mut [Job], task: u32) -> Res
     Ok(())
 }
 
-/// Makes a ring for each edge of a layout, and gives its ends to the jobs of the two tasks, which have none yet. The jobs are
-/// those of the layout's tasks, in their order.
+/// Makes a ring for each edge of a layout, and gives its ends to the jobs of the two tasks, which have none yet. The
+/// jobs are those of the layout's tasks, in their order.
 ///
 /// # Errors
 ///

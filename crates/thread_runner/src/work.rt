@@ -96,8 +96,8 @@ fn stop_source(task: &mut Task) -> Result<bool, StepFault>
     }
 }
 
-/// Makes a step of a source that has nothing pending, if there is one. One that is asked to stop, and may be, does so rather than
-/// read or close.
+/// Makes a step of a source that has nothing pending, if there is one. One that is asked to stop, and may be, does so
+/// rather than read or close.
 fn run_source(input: &Input, task: &mut Task, asked: bool) -> Result<bool, StepFault>
     requires { Finds input.now task.old }
     ensures ok { OnOk result ((ins : List Receiver) (outs : List Sender) → Works input.now task.old ins outs task.new ins outs) }
@@ -203,10 +203,10 @@ fn work<R: Wait + Clock, G: Gate>(
 
 /// Runs one task to its end: it makes the task's local steps as they become possible, and passes the gate before each.
 ///
-/// The task finds in the input what it is to read, and there is one ring end for each of its inputs and outputs, in their
-/// order. A source that may be asked to stop does so once the word `asked` is set, as soon as it is open and has nothing pending,
-/// in place of its next read. A worker that finds no memory sets the failure word `failed`, and one that sees it set ends early;
-/// either has the fault `Memory`.
+/// The task finds in the input what it is to read, and there is one ring end for each of its inputs and outputs, in
+/// their order. A source that may be asked to stop does so once the word `asked` is set, as soon as it is open and has
+/// nothing pending, in place of its next read. A worker that finds no memory sets the failure word `failed`, and one
+/// that sees it set ends early; either has the fault `Memory`.
 pub fn worker<R: Wait + Clock, G: Gate>(
     rt: &R,
     input: &Input,

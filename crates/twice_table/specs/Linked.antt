@@ -2,8 +2,8 @@
 use Rattle.std.specs.Prelude.{◌≡◌, ◌≢◌, ℕ, ◌-◌, ◌%◌, ◌^◌, ◌<◌, ◌≤◌, List, length, map, slice_index_or}
 use Rattle.twice_table.specs.declared.chains.Link.{Link}
 
--- of the first so many codes the last of a chain stands at a place, counted from 1, or there is none and that is 0. A code is of the
--- chain that is left where it is divided by how many there are
+-- of the first so many codes the last of a chain stands at a place, counted from 1, or there is none and that is 0. A
+-- code is of the chain that is left where it is divided by how many there are
 abbrev pub IsLast : ℕ → ℕ → List ℕ → ℕ → ℕ → Type 0
 IsLast chains chain codes count place = (place ≤ count)
     × ((i : ℕ) → place ≤ i → i < count → slice_index_or codes i 0 % chains ≢ chain)

@@ -18,8 +18,8 @@ fn code_of(state: &RandomState, text: &[u8]) -> u32
     (hasher.finish() & 0xffff_ffff) as u32
 }
 
-/// Texts of any bytes, each once, in the order in which they came, by hashes that start from secret numbers: so no texts can be
-/// made whose hashes are all alike. Where hashes are alike the texts are compared.
+/// Texts of any bytes, each once, in the order in which they came, by hashes that start from secret numbers: so no
+/// texts can be made whose hashes are all alike. Where hashes are alike the texts are compared.
 #[derive(Drop)]
 pub struct TextTable {
     state: RandomState,

@@ -61,8 +61,8 @@ fn write_if_commit<W: Write>(out: &mut W, text: &str) -> Result<(), TextFault>
     Ok(())
 }
 
-/// Writes the version of the program and its toolchain, a line for each, and a line for the commit that it is of, where one
-/// is given that may be the name of one.
+/// Writes the version of the program and its toolchain, a line for each, and a line for the commit that it is of, where
+/// one is given that may be the name of one.
 ///
 /// # Errors
 ///

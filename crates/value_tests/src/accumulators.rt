@@ -2,7 +2,8 @@ use aggregates::{Acc, Kind};
 
 const MOST: i128 = 1 << 63;
 
-/// Kinds of aggregates, records and numbers: no kinds, nine, one number of two, no records and too many, and numbers out of range.
+/// Kinds of aggregates, records and numbers: no kinds, nine, one number of two, no records and too many, and numbers
+/// out of range.
 const OUT_OF_RANGE: &[(&[Kind], u64, &[i128])] = &[
     (&[], 1, &[]),
     (&[Kind::Sum; 9], 1, &[0; 9]),

@@ -5,7 +5,8 @@ const FINE_TIME: &str = "2026-03-01T12:00:00.123456789+01:00";
 
 const COARSE_TIME: &str = "1969-12-31 23:59:59.5Z";
 
-/// Texts, and the number of units that they say: as many digits behind the point as the unit has, and no number beyond 64 bits.
+/// Texts, and the number of units that they say: as many digits behind the point as the unit has, and no number beyond
+/// 64 bits.
 const TIMES: [(&str, FineUnit, Result<i64, FieldFault>); 9] = [
     (
         FINE_TIME,

@@ -1,5 +1,5 @@
-//! Tests of values: batches, accumulators, numbers of rows, tokens of JSON, key groups and kernels; and of what an import takes from a
-//! field: decimals, instants, numbers of the calendar, and fields that are asked for.
+//! Tests of values: batches, accumulators, numbers of rows, tokens of JSON, key groups and kernels; and of what an
+//! import takes from a field: decimals, instants, numbers of the calendar, and fields that are asked for.
 #![tactic(auto)]
 
 #[cfg(test)]

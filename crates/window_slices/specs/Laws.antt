@@ -34,7 +34,8 @@ SlicesEndAtBoundaries = (w : WindowSpec) (b : ℤ) → pos 1 ≤ℤ w.slide → 
 abbrev pub WindowsHaveWholeSlices : Type 0
 WindowsHaveWholeSlices = (w : WindowSpec) (s t : ℤ) → pos 1 ≤ℤ w.slide → is_start w s ≡ true → is_within w s t ≡ is_within w s (slice_start w t)
 
--- the slices of a pane, in any order: none twice, all in the pane's window, and among them that of each record of the pane
+-- the slices of a pane, in any order: none twice, all in the pane's window, and among them that of each record of the
+-- pane
 pub record AreSlicesOf (w : WindowSpec) (records : List Record) (q : Pane) (bs : List ℤ) : Type 0 where
   pub distinct : IsDistinct int_eq bs
   pub inside : All (λ b. is_within w q.start b ≡ true) bs

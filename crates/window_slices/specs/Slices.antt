@@ -1,4 +1,5 @@
--- Slices: time is cut where a window of the plan starts and where one ends, and a slice goes from one cut up to the next.
+-- Slices: time is cut where a window of the plan starts and where one ends, and a slice goes from one cut up to the
+-- next.
 use Rattle.std.specs.Prelude.{ℤ, neg_ℤ, ◌+ℤ◌, ◌-ℤ◌, ◌≤ℤ◌, ◌<ℤ◌, Bool, ◌&&◌, ◌||◌, List, Option}
 use Rattle.std.specs.Int.{int_rem_euclid, int_min, int_max}
 use Rattle.std.specs.List.{filter}

@@ -1,4 +1,5 @@
-//! Slices of time: what the records of a key come to between two cuts. Time is cut where a window starts and where one ends.
+//! Slices of time: what the records of a key come to between two cuts. Time is cut where a window starts and where one
+//! ends.
 
 ghost use Rattle.std.specs.Prelude.{◌≡◌, ◌⊎◌, ℤ, pos, true, false, ◌<◌, ◌≤◌, ◌<ℤ◌, ◌≤ℤ◌, ◌-ℤ◌, [], length, slice_index_or, Some, OnOk, OnErr, IfSome, IfNone};
 ghost use Rattle.std.specs.List.{All, HoldsAt};

@@ -14,8 +14,8 @@ pub fn slices_end_at_boundaries()
     ensures { SlicesEndAtBoundaries }
 {}
 
-/// A window has a time just where it has the start of the time's slice, whether the slide divides the size or not, is longer than
-/// it or shorter, and wherever windows are offset to.
+/// A window has a time just where it has the start of the time's slice, whether the slide divides the size or not, is
+/// longer than it or shorter, and wherever windows are offset to.
 pub fn windows_have_whole_slices()
     ensures { WindowsHaveWholeSlices }
 {}

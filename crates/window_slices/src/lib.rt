@@ -1,8 +1,8 @@
 //! Slices of time: time is cut where a window of the plan starts and where one ends, so that each window is made of
 //! whole slices, however many windows a time lies in.
 //!
-//! `specs/Slices` says what a slice is, and `laws` that what a window comes to is what its slices come to, merged. `Spans` holds
-//! what the records of each key come to in each slice, and `pane_total` what those of a window do.
+//! `specs/Slices` says what a slice is, and `laws` that what a window comes to is what its slices come to, merged.
+//! `Spans` holds what the records of each key come to in each slice, and `pane_total` what those of a window do.
 #![tactic(auto)]
 
 mod key_slices;

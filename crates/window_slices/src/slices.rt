@@ -33,8 +33,8 @@ fn last_end_by(window: &WindowSpec, number: i64) -> i64
     last_start_by(window, number - window.size) + window.size
 }
 
-/// The last start of a window that is at most a time, where a window begins at `start`. Mostly that is the one, and nothing is
-/// divided: a division of 64 bits can take longer than all else that is done to a record.
+/// The last start of a window that is at most a time, where a window begins at `start`. Mostly that is the one, and
+/// nothing is divided: a division of 64 bits can take longer than all else that is done to a record.
 fn last_start_from(window: &WindowSpec, time: i64, start: Option<i64>) -> i64
     requires window { IsWindow window.now }
     requires time { IsTime time }
@@ -51,7 +51,8 @@ fn last_start_from(window: &WindowSpec, time: i64, start: Option<i64>) -> i64
     last_start_by(window, time)
 }
 
-/// How far the last window of a time begins before it. A window begins at `start`, and then the last one of the time does.
+/// How far the last window of a time begins before it. A window begins at `start`, and then the last one of the time
+/// does.
 pub fn back_to_start(window: &WindowSpec, time: i64, start: &mut Option<i64>) -> u64
     requires window { IsWindow window.now }
     requires time { IsTime time }

@@ -39,7 +39,8 @@ pub fn slices_in(spans: &Spans, span: i128, key: i64) -> &[Slice]
     }
 }
 
-/// Brings a record in at a slice, if it is there, and says whether it is: `slice` says where it starts and of which key it is.
+/// Brings a record in at a slice, if it is there, and says whether it is: `slice` says where it starts and of which key
+/// it is.
 pub fn add_to_slice(
     spans: &mut Spans,
     w: &WindowSpec,

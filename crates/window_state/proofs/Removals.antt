@@ -29,8 +29,8 @@ use Rattle.window_state.proofs.Starts.{due_none}
 
 -- ---- from where on windows are made of slices, once those that fire are gone
 
--- the new `from` is not less than the one before, windows that fire begin before it, and of those that begin between the two
--- each does
+-- the new `from` is not less than the one before, windows that fire begin before it, and of those that begin between
+-- the two each does
 pub record IsRaised (w : WindowSpec) (mark before from : ℤ) : Type 0 where
   pub more : (s : ℤ) → int_lt s before ≡ true → int_lt s from ≡ true
   pub due : (s : ℤ) → is_due w mark s ≡ true → int_lt s from ≡ true

@@ -11,7 +11,8 @@ use Rattle.window_state.specs.Parts.{entries_at}
 use Rattle.window_slices.specs.KeySlices.{IsCounted}
 use Rattle.window_slices.specs.Spans.{AreInSpans, in_spans}
 
--- what stands in a pane: what is in its place where its window begins before `from`, and elsewhere what its slices come to
+-- what stands in a pane: what is in its place where its window begins before `from`, and elsewhere what its slices come
+-- to
 abbrev pub standing : WindowsInside → Pane → Option Aggregated
 standing s q = if int_lt q.start s.from then total_at s.places.entries q else in_spans s.places.window s.spans.entries q
 

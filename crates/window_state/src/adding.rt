@@ -37,8 +37,8 @@ fn add_at(windows: &mut Windows, pane: Pane, batch: &Batch, row: usize) -> Resul
     windows.put_first(pane, batch, row)
 }
 
-/// Brings a record in at the windows of its time that begin before `from`: of those that begin `first`, and whole slides more,
-/// before its time.
+/// Brings a record in at the windows of its time that begin before `from`: of those that begin `first`, and whole
+/// slides more, before its time.
 fn add_from(windows: &mut Windows, batch: &Batch, row: usize, first: u64) -> Result<(), AllocError>
     requires row_in { row < length batch.now.rows }
     requires window { CanAggregate batch.now.width windows.old.window }

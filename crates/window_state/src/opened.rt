@@ -19,8 +19,8 @@ use std::alloc::{AllocError, Global};
 use std::collections::BTreeMap;
 use window_slices::{Slice, start_above, start_below};
 
-/// For each start of an open window the keys that have a pane there, in the order in which they came. They are put in order
-/// only when their window fires, which costs less than to keep all panes in order.
+/// For each start of an open window the keys that have a pane there, in the order in which they came. They are put in
+/// order only when their window fires, which costs less than to keep all panes in order.
 pub(crate) type OpenPanes = BTreeMap<i64, Vec<i64>>;
 
 /// Puts a pane behind those of its start. Where no memory is to be had, nothing has changed.
@@ -43,8 +43,8 @@ pub(crate) fn open_pane(alloc: Global, opened: &mut OpenPanes, pane: Pane) -> Re
     }
 }
 
-/// Opens the panes of a key at the windows of a time that begin at `from` or later and have none of the key's slices yet. The
-/// last window of the time begins `first` before it.
+/// Opens the panes of a key at the windows of a time that begin at `from` or later and have none of the key's slices
+/// yet. The last window of the time begins `first` before it.
 pub(crate) fn open_new(
     alloc: Global,
     opened: &mut OpenPanes,
@@ -154,8 +154,8 @@ pub(crate) fn are_all_due(opened: &OpenPanes, w: &WindowSpec, watermark: i64) ->
     }
 }
 
-/// Takes the panes of the first window out, where it fires by the watermark. All windows have one size, so that those that
-/// fire come before those that do not.
+/// Takes the panes of the first window out, where it fires by the watermark. All windows have one size, so that those
+/// that fire come before those that do not.
 pub(crate) fn pop_due(
     opened: &mut OpenPanes,
     w: &WindowSpec,

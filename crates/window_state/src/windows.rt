@@ -28,15 +28,15 @@ use std::collections::BTreeMap;
 use std::marker::Model;
 use window_slices::{Spans, add_in_span, add_to_slice, pane_total, slices_in, span_of};
 
-/// For how many windows of a time a record goes to a slice of time instead of to each of them. With fewer there is nothing to
-/// gain. The slide has to divide the size, so that spans begin where windows do.
+/// For how many windows of a time a record goes to a slice of time instead of to each of them. With fewer there is
+/// nothing to gain. The slide has to divide the size, so that spans begin where windows do.
 const FEWEST_WINDOWS: i64 = 4;
 
 /// Behind every start of a window.
 const NOWHERE: i128 = 1 << 64;
 
-/// The open windows of a window operator, and the panes by their starts. What stands in the panes of windows that begin before
-/// `from` is in `places`, and of those that begin later it is what their slices come to.
+/// The open windows of a window operator, and the panes by their starts. What stands in the panes of windows that begin
+/// before `from` is in `places`, and of those that begin later it is what their slices come to.
 #[derive(Drop)]
 pub(crate) struct Windows {
     alloc: Global,
@@ -138,8 +138,8 @@ impl Windows {
         Ok(pane_total(&self.spans, self.places.window(), pane))
     }
 
-    /// Brings a record in in a pane where nothing stands, of a window that begins before `from`. Where no memory is to be
-    /// had, what stands in the panes is as it was.
+    /// Brings a record in in a pane where nothing stands, of a window that begins before `from`. Where no memory is to
+    /// be had, what stands in the panes is as it was.
     pub fn put_first(&mut self, pane: Pane, batch: &Batch, row: usize) -> Result<(), AllocError>
         requires row_in { row < length batch.now.rows }
         requires window { CanAggregate batch.now.width self.old.window }
@@ -157,8 +157,8 @@ impl Windows {
         Ok(())
     }
 
-    /// The same as `add_to_slice` of a record whose last window begins at `from` or later and has its time, where the slice may
-    /// have to be made first.
+    /// The same as `add_to_slice` of a record whose last window begins at `from` or later and has its time, where the
+    /// slice may have to be made first.
     fn begin_slice(&mut self, batch: &Batch, row: usize, first: u64) -> Result<(), AllocError>
         requires row_in { row < length batch.now.rows }
         requires window { CanAggregate batch.now.width self.old.window }
@@ -196,8 +196,8 @@ impl Windows {
         Ok(())
     }
 
-    /// Brings a record in at the slice of its time: at each window of its time that begins at `from` or later. The last window
-    /// of its time begins `first` before it.
+    /// Brings a record in at the slice of its time: at each window of its time that begins at `from` or later. The last
+    /// window of its time begins `first` before it.
     pub fn add_to_slice(&mut self, batch: &Batch, row: usize, first: u64) -> Result<(), AllocError>
         requires row_in { row < length batch.now.rows }
         requires window { CanAggregate batch.now.width self.old.window }
@@ -215,7 +215,8 @@ impl Windows {
             return Ok(());
         }
         let key = batch.value(row, w.key as usize);
-        // The slide divides the size, so that a slice starts where a window does. Mostly it is there, and so its windows are open.
+        // The slide divides the size, so that a slice starts where a window does. Mostly it is there, and so its
+        // windows are open.
         let slice = Pane { start: last, key };
         if add_to_slice(&mut self.spans, w, slice, batch, row) {
             return Ok(());
