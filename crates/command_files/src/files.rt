@@ -4,8 +4,7 @@ ghost use Rattle.std.specs.Prelude.{◌≡◌, ◌⊎◌, is_some, IfErr, IfOk};
 ghost use Rattle.std.specs.IoError.{error_kind};
 ghost use Rattle.command_files.specs.Files as said;
 
-use job::read_all;
-use job_texts::JobFault;
+use job_texts::{JobFault, read_all};
 use std::fs::File;
 use std::io;
 use std::io::ErrorKind;

@@ -6,5 +6,4 @@ mod RunAnswers
 mod CutAnswers
 mod TextAnswers
 mod ShowAnswers
-mod Loses
 mod Written

@@ -7,4 +7,3 @@ pub mod Show
 pub mod Leg
 pub mod Start
 pub mod Asked
-pub mod Readers

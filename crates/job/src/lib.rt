@@ -5,7 +5,6 @@ mod cuts;
 mod layout;
 mod leg;
 mod parallel;
-mod readers;
 mod reading;
 mod run;
 mod show;
@@ -14,11 +13,12 @@ mod start;
 mod whole;
 
 pub use cuts::{CutQuestion, job_cuts};
-pub use job_texts::{JobFault, fault_line, job_group, read_cut, read_cuts, status_of};
+pub use job_texts::{
+    JobFault, MOST_BYTES, fault_line, job_group, read_all, read_cut, read_cuts, status_of,
+};
 pub use layout::job_layout;
 pub use leg::{LegOut, job_leg, job_leg_asked, start_of};
 pub use parallel::job_run_parallel;
-pub use readers::{MOST_BYTES, read_all};
 pub use run::job_run;
 pub use show::job_show;
 pub use simulate::job_simulate;

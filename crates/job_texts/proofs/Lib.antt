@@ -4,3 +4,4 @@ mod Lines
 mod Parts
 pub mod Ascii
 pub mod Facts
+mod Loses

@@ -6,3 +6,5 @@ pub mod Cut
 pub mod LayoutText
 pub mod Tells
 pub mod ShowText
+pub mod Readers
+pub mod Ends

@@ -1,3 +1,13 @@
 mod Orders
 mod Falling
 mod Tries
+mod Selecting
+mod ByKind
+mod Candidates
+mod Counting
+mod Standing
+mod OtherEnds
+mod Following
+mod Chosen
+mod Listing
+mod Frames

@@ -19,21 +19,21 @@ use Rattle.core_steps.proofs.States.{move_needs, move_task}
 use Rattle.leg_runs.specs.Order.{CanNothing, CannotRead, CannotTake}
 
 -- what is read and what is taken
-may_read : (w : WorldData) (t q : ℕ) → CanMake w (Read t q) → MayRead ((layout_in w.given).task t) ((world_in w).tasks t) q
+pub may_read : (w : WorldData) (t q : ℕ) → CanMake w (Read t q) → MayRead ((layout_in w.given).task t) ((world_in w).tasks t) q
 may_read w t q can =
     let m = can.1 in
     subst (Needs w.given.plan ((layout_in w.given).task t) ((world_in w).tasks t)) m.is (move_needs w.given.plan (layout_in w.given) w.given.layout.capacity (world_in w) t m.event can.0 m.move)
 
-can_take : (w : WorldData) (t i : ℕ) → CanMake w (Take t i) → CanTake ((layout_in w.given).task t) ((world_in w).tasks t) i
+pub can_take : (w : WorldData) (t i : ℕ) → CanMake w (Take t i) → CanTake ((layout_in w.given).task t) ((world_in w).tasks t) i
 can_take w t i can =
     let m = can.1 in
     (subst (Needs w.given.plan ((layout_in w.given).task t) ((world_in w).tasks t)) m.is.1 (move_needs w.given.plan (layout_in w.given) w.given.layout.capacity (world_in w) t m.event can.0 m.move)).can
 
-chosen : (b : Bool) (x y : ℕ) → b ≡ true → (if b then x else y) ≡ x
+pub chosen : (b : Bool) (x y : ℕ) → b ≡ true → (if b then x else y) ≡ x
 chosen true x y e = refl
 chosen false x y e = absurd (false≢true e)
 
-other : (b : Bool) (x y : ℕ) → b ≡ false → (if b then x else y) ≡ y
+pub other : (b : Bool) (x y : ℕ) → b ≡ false → (if b then x else y) ≡ y
 other true x y e = absurd (false≢true (sym e))
 other false x y e = refl
 

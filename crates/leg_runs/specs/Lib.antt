@@ -1,2 +1,4 @@
+pub mod Choosing
+pub mod Laws
 pub mod Order
 pub mod Running

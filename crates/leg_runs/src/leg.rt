@@ -1,6 +1,6 @@
 //! A leg of a job, run in one thread.
 
-ghost use Rattle.std.specs.Prelude.{◌≡◌, IfErr, IfOk, MatchResult, OnOk, false};
+ghost use Rattle.std.specs.Prelude.{◌≡◌, List, IfErr, IfOk, MatchResult, OnOk, false};
 ghost use Rattle.plan_model.specs.Rows.{AreRowsOf};
 ghost use Rattle.stream_model.specs.InputData.{BelongsTo};
 ghost use Rattle.stream_model.specs.PlanRows.{plan_rows};
@@ -13,7 +13,10 @@ ghost use Rattle.redistribute.specs.StartData.{offsets_of};
 ghost use Rattle.redistribute.specs.Begins.{IsStartIn, IsFromNothing};
 ghost use Rattle.redistribute.specs.Stopping.{CanSaveAt, CanStop, IsRefusal};
 ghost use Rattle.task_setups.specs.Legs.{IsLayoutOf, counts_of};
+ghost use Rattle.legs.specs.declared.choice.Choice.{Choice as Choosable};
+ghost use Rattle.core_steps.specs.World.{WorldData};
 ghost use Rattle.core_steps.specs.Ending.{IsEndOf, IsWholeOrGivenUp};
+ghost use Rattle.leg_runs.specs.Choosing.{EndsBy, IsLegBy, MakesThen};
 ghost use Rattle.leg_runs.specs.Running.{HasRun};
 
 use crate::running::{follow, run};
@@ -40,6 +43,7 @@ fn make_steps(
     requires going { world.old.has_failed ≡ false }
     ensures given { world.new.given ≡ world.old.given }
     ensures has { IfOk result (λ _. HasRun world.old world.new) }
+    ensures chosen { OnOk result (MakesThen choices.now world.old world.new) }
 {
     follow(alloc, world, layout, choices)?;
     run(alloc, world, layout)
@@ -53,6 +57,7 @@ fn make_steps(
 fn given_up(alloc: Global, world: &World<'_>) -> Result<Finish, AllocError>
     ensures ends { let g = world.now.given in IfOk result (IsEndOf g.plan g.input g.start g.saves g.until) }
     ensures whole { let g = world.now.given in IfOk result (IsWholeOrGivenUp g.plan g.input) }
+    ensures chosen { (choices : List Choosable) (old : WorldData) → IfOk result (EndsBy choices old) }
 {
     if !world.has_failed() {
         return Err(AllocError);
@@ -76,6 +81,7 @@ fn finish_by(
     requires going { world.has_failed ≡ false }
     ensures ends { let g = world.entry.given in IfOk result (λ finish. IsEndOf g.plan g.input g.start g.saves g.until finish) }
     ensures whole { let g = world.entry.given in IfOk result (λ finish. IsFromNothing g.input g.start → g.until ≡ ToEnd → IsWholeOrGivenUp g.plan g.input finish) }
+    ensures chosen { IfOk result (EndsBy choices.now world.entry) }
 {
     match make_steps(alloc, &mut world, layout, choices) {
         Ok(()) => {}
@@ -120,6 +126,7 @@ pub fn run_leg_by(
     ensures saves { OnOk result (CanSaveAt input.now.sources (offsets_of start.now) (counts_of saves.now) (until_of stop)) }
     ensures ends { IfOk result (λ finish. IsEndOf plan.now input.now start.now (counts_of saves.now) (until_of stop) finish) }
     ensures whole { IfOk result (λ finish. IsFromNothing input.now start.now → stop ≡ Never → IsWholeOrGivenUp plan.now input.now finish) }
+    ensures chosen { IfOk result (IsLegBy plan.now scale.now input.now start.now (counts_of saves.now) (until_of stop) choices.now) }
     ensures refused { IfErr result (λ fault. IsRefusal input.now.sources (offsets_of start.now) (counts_of saves.now) (until_of stop) fault) }
 {
     start.check_stop(input, &stop)?;

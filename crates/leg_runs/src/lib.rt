@@ -7,6 +7,7 @@
 #![tactic(auto)]
 
 mod hints;
+pub mod laws;
 mod leg;
 mod order;
 mod running;

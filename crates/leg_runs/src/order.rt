@@ -48,7 +48,7 @@ fn take_step(world: &World, layout: &Layout, task: u32) -> Option<Step>
 }
 
 /// The step if it could be made.
-pub(crate) fn enabled(world: &World, step: Step) -> Option<Step>
+fn enabled(world: &World, step: Step) -> Option<Step>
     requires going { world.now.has_failed ≡ false }
     ensures { MatchOption result (CanMake world.now step → ⊥) (λ it. CanMake world.now it) }
 {

@@ -2,11 +2,12 @@
 
 ghost use Rattle.std.specs.Prelude.{◌≡◌, IfOk, OnOk, false};
 ghost use Rattle.task_setups.specs.Legs.{IsLayoutOf};
+ghost use Rattle.leg_runs.specs.Choosing.{Follows, MakesSteps};
 ghost use Rattle.leg_runs.specs.Running.{HasRun, IsTryOfAll};
 
 use crate::hints::{Hint, make_found, try_hint};
 use crate::order::step_from;
-use crate::schedule::{Schedule, other_end};
+use crate::schedule::{chosen, counts_of, note, other_end};
 use core_steps::World;
 use legs::Choice;
 use plan_compiler::Layout;
@@ -62,10 +63,11 @@ pub fn follow(
     requires going { world.old.has_failed ≡ false }
     ensures given { world.new.given ≡ world.old.given }
     ensures going { OnOk result (world.new.has_failed ≡ false) }
+    ensures follows { layout.now ≡ world.old.given.layout → OnOk result (Follows choices.now world.old world.new) }
 {
-    let mut schedule = Schedule::new(alloc, world, layout)?;
+    let mut counts = counts_of(alloc, world, layout)?;
     for choice in choices {
-        let Some(step) = schedule.chosen(world, layout, *choice) else {
+        let Some(step) = chosen(&counts, world, layout, *choice) else {
             break;
         };
         let other = other_end(world, layout, step);
@@ -73,7 +75,7 @@ pub fn follow(
             Ok(()) => {}
             Err(_) => return Err(AllocError),
         }
-        schedule.note(world, layout, step.task(), other);
+        note(&mut counts, world, layout, step.task(), other);
     }
     Ok(())
 }
@@ -85,6 +87,7 @@ pub(crate) fn run(alloc: Global, world: &mut World, layout: &Layout) -> Result<(
     requires going { world.old.has_failed ≡ false }
     ensures given { world.new.given ≡ world.old.given }
     ensures has { IfOk result (λ _. HasRun world.old world.new) }
+    ensures steps { OnOk result (MakesSteps world.old world.new) }
 {
     let mut hints = Vec::new(alloc);
     let _failed = world.has_failed();

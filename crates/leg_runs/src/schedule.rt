@@ -4,11 +4,13 @@
 //! a step counted anew for the task that made it and for the one at the other end of its ring, since no other's have
 //! changed.
 
-ghost use Rattle.std.specs.Prelude.{◌≡◌, ◌<◌, IfSome, false};
-ghost use Rattle.layout_rules.specs.Stages.{task_count};
+ghost use Rattle.std.specs.Prelude.{◌≡◌, ◌<◌, List, [], MatchOption, None, Some, IfOk, IfSome, false, length, min, slice_get, ◌^◌, ◌-◌};
+ghost use Rattle.std.specs.List.{sum};
+ghost use Rattle.dataflow_laws.specs.declared.step.Step.{Step as Asked};
+ghost use Rattle.layout_rules.specs.Stages.{inputs_of, task_count};
 ghost use Rattle.core_steps.specs.Answers.{CanMake};
+ghost use Rattle.leg_runs.specs.Choosing.{AreCounts, HasCount, IsChosen, IsRecounted, LeavesOthers, Selects, all_steps, steps_of};
 
-use crate::order::enabled;
 use core_steps::World;
 use dataflow_laws::Step;
 use legs::Choice;
@@ -18,6 +20,7 @@ use std::alloc::{AllocError, Global};
 /// How many steps a task may be asked for.
 fn candidate_count(layout: &Layout, task: u32) -> usize
     requires task { task < task_count layout.now.stages }
+    ensures { result ≡ length (steps_of layout.now task) }
 {
     5 + layout.partitions_of(task).len() + layout.inputs_of(task).len()
 }
@@ -26,6 +29,7 @@ fn candidate_count(layout: &Layout, task: u32) -> usize
 #[tactic(auto, using(task_setups::proofs::Facts::few_inputs))]
 fn candidate(layout: &Layout, task: u32, number: usize) -> Step
     requires task { task < task_count layout.now.stages }
+    ensures { number < length (steps_of layout.now task) → slice_get (steps_of layout.now task) number ≡ Some result }
 {
     let _tasks = layout.task_count();
     let partitions = layout.partitions_of(task);
@@ -46,13 +50,15 @@ fn candidate(layout: &Layout, task: u32, number: usize) -> Step
 }
 
 /// How many steps a task could make.
-fn count(world: &World, layout: &Layout, task: u32) -> u32
+fn count(world: &World, layout: &Layout, task: u32) -> u64
     requires task { task < task_count layout.now.stages }
+    requires going { world.now.has_failed ≡ false }
+    ensures { HasCount (CanMake world.now) (steps_of layout.now task) result }
 {
-    let mut count = 0u32;
+    let mut count = 0u64;
     for number in 0..candidate_count(layout, task) {
         if world.enabled(candidate(layout, task, number)) {
-            count = count.saturating_add(1);
+            count += 1;
         }
     }
     count
@@ -62,11 +68,13 @@ fn count(world: &World, layout: &Layout, task: u32) -> u32
 fn step_at(world: &World, layout: &Layout, task: u32, place: u64) -> Option<Step>
     requires task { task < task_count layout.now.stages }
     requires going { world.now.has_failed ≡ false }
-    ensures { IfSome result (λ step. CanMake world.now step) }
+    ensures can { IfSome result (λ step. CanMake world.now step) }
+    ensures is { (steps : List Asked) → Selects (CanMake world.now) (steps_of layout.now task) steps → slice_get steps place ≡ result }
 {
     let mut left = place;
     for number in 0..candidate_count(layout, task) {
-        if let Some(step) = enabled(world, candidate(layout, task, number)) {
+        let step = candidate(layout, task, number);
+        if world.enabled(step) {
             if left == 0 {
                 return Some(step);
             }
@@ -77,80 +85,101 @@ fn step_at(world: &World, layout: &Layout, task: u32, place: u64) -> Option<Step
 }
 
 /// How many steps each task of a world could make.
-#[derive(Drop)]
-pub(crate) struct Schedule {
-    counts: Vec<u32>,
+pub(crate) fn counts_of(
+    alloc: Global,
+    world: &World,
+    layout: &Layout,
+) -> Result<Vec<u64>, AllocError>
+    requires going { world.now.has_failed ≡ false }
+    ensures { IfOk result (λ counts. AreCounts world.now layout.now counts.items) }
+{
+    let mut counts = Vec::new(alloc);
+    for task in 0..layout.task_count() {
+        counts.push(count(world, layout, task))?;
+    }
+    Ok(counts)
 }
 
-impl Schedule {
-    /// The schedule of a world as it stands.
-    pub(crate) fn new(
-        alloc: Global,
-        world: &World,
-        layout: &Layout,
-    ) -> Result<Schedule, AllocError> {
-        let mut counts = Vec::new(alloc);
-        for task in 0..layout.task_count() {
-            counts.push(count(world, layout, task))?;
-        }
-        Ok(Schedule { counts })
+/// How many steps all tasks could make, or the greatest number, where there are more.
+fn total(counts: &[u64]) -> u64
+    ensures { result ≡ min (sum counts.now) (2 ^ 64 - 1) }
+{
+    let mut steps = 0u64;
+    for count in counts {
+        steps = steps.saturating_add(*count);
     }
+    steps
+}
 
-    /// How many steps all tasks could make.
-    fn steps(&self) -> u64 {
-        let mut steps = 0u64;
-        for count in self.counts.iter() {
-            steps = steps.saturating_add(u64::from(*count));
-        }
-        steps
+/// The step that a choice makes: none, where there is none.
+pub(crate) fn chosen(counts: &[u64], world: &World, layout: &Layout, choice: Choice) -> Option<Step>
+    requires going { world.now.has_failed ≡ false }
+    ensures can { IfSome result (λ step. CanMake world.now step) }
+    ensures is { AreCounts world.now layout.now counts.now → MatchOption result (Selects (CanMake world.now) (all_steps layout.now) []) (λ step. IsChosen (CanMake world.now) (all_steps layout.now) choice.number step) }
+{
+    let steps = total(counts);
+    if steps == 0 {
+        return None;
     }
-
-    /// The step that a choice makes: none, where there is none.
-    pub(crate) fn chosen(&self, world: &World, layout: &Layout, choice: Choice) -> Option<Step>
-        requires going { world.now.has_failed ≡ false }
-        ensures { IfSome result (λ step. CanMake world.now step) }
-    {
-        let steps = self.steps();
-        if steps == 0 {
+    let mut place = choice.place(steps);
+    for task in 0..layout.task_count() {
+        let Some(count) = counts.get(task as usize) else {
             return None;
+        };
+        if place < *count {
+            return step_at(world, layout, task, place);
         }
-        let mut place = choice.place(steps);
-        for task in 0..layout.task_count() {
-            let count = u64::from(self.counts.get(task as usize).copied().unwrap_or(0));
-            if place < count {
-                return step_at(world, layout, task, place);
-            }
-            place -= count;
-        }
-        None
+        place -= *count;
     }
+    None
+}
 
-    /// Counts a task's steps anew.
-    fn recount(&mut self, world: &World, layout: &Layout, task: u32) {
-        if task >= layout.task_count() {
-            return;
-        }
-        if let Some(steps) = self.counts.get_mut(task as usize) {
-            *steps = count(world, layout, task);
-        }
+/// Counts a task's steps anew.
+fn recount(counts: &mut [u64], world: &World, layout: &Layout, task: u32)
+    requires going { world.now.has_failed ≡ false }
+    ensures { IsRecounted world.now layout.now task None counts.old counts.new }
+{
+    let place = task as usize;
+    if task < layout.task_count() && place < counts.len() {
+        counts[place] = count(world, layout, task);
     }
+}
 
-    /// Takes in that a task made a step, which may have changed what the task at the other end of a ring could make.
-    pub(crate) fn note(&mut self, world: &World, layout: &Layout, task: u32, other: Option<u32>) {
-        self.recount(world, layout, task);
-        if let Some(other) = other {
-            self.recount(world, layout, other);
-        }
+/// Takes in that a task made a step, which may have changed what the task at the other end of a ring could make.
+pub(crate) fn note(
+    counts: &mut [u64],
+    world: &World,
+    layout: &Layout,
+    task: u32,
+    other: Option<u32>,
+)
+    requires going { world.now.has_failed ≡ false }
+    ensures { IsRecounted world.now layout.now task other counts.old counts.new }
+{
+    recount(counts, world, layout, task);
+    if let Some(other) = other {
+        recount(counts, world, layout, other);
     }
+}
+
+/// The task that an input of a task comes from.
+fn sender(layout: &Layout, task: u32, input: u32) -> Option<u32>
+    ensures { task < task_count layout.now.stages → result ≡ slice_get (inputs_of layout.now.stages task) input }
+{
+    if task >= layout.task_count() {
+        return None;
+    }
+    layout.inputs_of(task).get(input as usize).copied()
 }
 
 /// The task at the other end of the ring that a step is to touch, if it touches one.
-pub(crate) fn other_end(world: &World, layout: &Layout, step: Step) -> Option<u32> {
+pub(crate) fn other_end(world: &World, layout: &Layout, step: Step) -> Option<u32>
+    ensures { layout.now ≡ world.now.given.layout → LeavesOthers world.now step result }
+{
+    let _failed = world.has_failed();
     match step {
-        Step::Put(sender) => world.receiver(sender),
-        Step::Take(receiver, input) if receiver < layout.task_count() => {
-            layout.inputs_of(receiver).get(input as usize).copied()
-        }
+        Step::Put(task) => world.receiver(task),
+        Step::Take(task, input) => sender(layout, task, input),
         _ => None,
     }
 }

@@ -10,7 +10,7 @@ use Rattle.job_texts.specs.declared.fault.JobFault.{JobFault}
 use Rattle.job_texts.specs.declared.fault.JobFault.TheVariants.{Plan, Input, Number, Write, Memory}
 use Rattle.job_texts.specs.Group.{number_said}
 use Rattle.job_texts.specs.Tells.{Tells}
-use Rattle.job.specs.Ends.{and_then, as_job}
+use Rattle.job_texts.specs.Ends.{and_then, as_job}
 use Rattle.command_files.specs.Files.{CannotRead}
 
 -- how many parts a word spells of a plan with so many key groups: 1 to the lesser of 64 and these

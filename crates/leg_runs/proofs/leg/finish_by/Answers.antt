@@ -1,4 +1,5 @@
 use Rattle.std.proofs.Common.{◌≡◌, Result, Ok, Err, IfOk, IfSome, subst}
+use Rattle.std.specs.Prelude.{MatchOption}
 use Rattle.plan_model.specs.PlanData.{PlanData}
 use Rattle.stream_model.specs.InputData.{InputData}
 use Rattle.dataflow_model.specs.Leg.Until.{ToEnd}
@@ -6,7 +7,9 @@ use Rattle.redistribute.specs.Begins.{IsFromNothing}
 use Rattle.core_steps.specs.Given.{GivenData}
 use Rattle.core_steps.specs.declared.finish.Finish.{Finish}
 use Rattle.core_steps.specs.declared.finish.Finish.TheVariants.{Ended, Stopped, Abandoned}
+use Rattle.core_steps.specs.Finishing.{HasFinished, IsFinishIn}
 use Rattle.core_steps.specs.Ending.{IsEndOf, IsWholeOrGivenUp, IsWholeRun}
+use Rattle.leg_runs.proofs.Chosen.{ended_by}
 use Rattle.leg_runs.proofs.leg.finish_by.Goals as goal
 
 -- a whole run is one that was not given up
@@ -38,3 +41,12 @@ returns-clause-whole c =
     let g = c.make_steps.new.world.given in
     let is = subst (λ o. IfSome o (λ finish. IsFromNothing g.input g.start → g.until ≡ ToEnd → IsWholeRun g.plan g.input finish)) c.in-Some.is c.in_ok-finish.ensures.whole in
     subst (λ (x : GivenData). IsFromNothing x.input x.start → x.until ≡ ToEnd → IsWholeOrGivenUp x.plan x.input c.in-Some.finish) c.make_steps.ensures.given (λ nothing ends. whole g.plan g.input c.in-Some.finish (is nothing ends))
+
+pub returns-in-Err-clause-chosen : goal.returns-in-Err-clause-chosen
+returns-in-Err-clause-chosen c = c.given_up.ensures.chosen c.args.choices.now c.args.world
+
+pub returns-clause-chosen : goal.returns-clause-chosen
+returns-clause-chosen c =
+    let new = c.make_steps.new.world in
+    let is = subst (λ o. MatchOption o (HasFinished new → ⊥) (λ finish. HasFinished new × IsFinishIn new finish)) c.in-Some.is c.in_ok-finish.ensures.is in
+    ended_by c.args.choices.now c.args.world new c.in-Some.finish c.in-Ok.ensures.chosen is.1

@@ -2,7 +2,7 @@
 use Rattle.std.proofs.Common.{◌≡◌, ◌≤◌, ◌-◌, ◌+◌, ◌++◌, ℕ, List, Option, length, arith, length-append}
 use Rattle.std.specs.Io.KnownBytes.{Consumes}
 use Rattle.std.proofs.KnownBytes.{Consumes-trans}
-use Rattle.job.specs.Readers.{LosesAtMost}
+use Rattle.job_texts.specs.Readers.{LosesAtMost}
 
 pub loses_more : (most : ℕ) (a b c : Option (List ℕ)) (bs : List ℕ) (n : ℕ) → Consumes a b bs → n ≡ length bs → n ≤ most → LosesAtMost (most - n) b c → LosesAtMost most a c
 loses_more most a b c bs n first is fits then =

@@ -2,10 +2,10 @@
 
 ghost use Rattle.std.specs.Prelude.{◌≡◌, ◌⊎◌, ◌≤◌, ◌-◌, ◌+◌, ◌++◌, ℕ, List, Ok, false, length, vec_len, take, IfErr, IfOk, IfSome, OnOk, OnErr};
 ghost use Rattle.std.specs.Io.KnownBytes.{Consumes, IsAtEnd, Keeps};
-ghost use Rattle.job.specs.Readers.{LosesAtMost};
-ghost use Rattle.job.specs.declared.readers.TheConstants.{MOST_BYTES};
+ghost use Rattle.job_texts.specs.Readers.{LosesAtMost};
+ghost use Rattle.job_texts.specs.declared.readers.TheConstants.{MOST_BYTES};
 
-use job_texts::JobFault;
+use crate::JobFault;
 use std::alloc::Global;
 use std::io::{ErrorKind, Read};
 

@@ -1,6 +1,6 @@
 use Rattle.std.proofs.Common.{◌≡◌, length}
 use Rattle.std.specs.Io.KnownBytes.{Keeps}
-use Rattle.job.proofs.readers.read_piece.Given as goal
+use Rattle.job_texts.proofs.readers.read_piece.Given as goal
 
 abbrev pub invariant-loop : goal.invariant-loop
 invariant-loop g l = (length l.piece ≡ length l.fn.piece) × Keeps (g.R.Read.remaining l.fn.reader) (g.R.Read.remaining l.reader)

@@ -1,7 +1,7 @@
 use Rattle.std.proofs.Common.{rules}
 use Rattle.std.proofs.lemmas.List.{places}
-use Rattle.job.proofs.Loses.{loses_more}
-use Rattle.job.proofs.readers.read_all.Goals as goal
+use Rattle.job_texts.proofs.Loses.{loses_more}
+use Rattle.job_texts.proofs.readers.read_all.Goals as goal
 
 pub returns-in_err-add_piece-clause-lost : goal.returns-in_err-add_piece-clause-lost
 returns-in_err-add_piece-clause-lost g c =
