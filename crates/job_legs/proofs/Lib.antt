@@ -3,6 +3,7 @@ mod Ended
 mod Given
 mod Refusals
 mod Taken
+mod Turned
 mod Turns
 mod UnderWay
 pub mod Facts

@@ -1,8 +1,9 @@
--- Ways in which legs are run, each by a function that is called for one leg after the other, and told how many are
--- left.
+-- Ways in which legs are run, each by a function that is called for one leg after the other, and told its choices.
 use Rattle.std.specs.Prelude.{◌⊎◌, ℕ, List, Result, OnOk, IfOk, IfErr}
 use Rattle.std.specs.Borrow.{Bor}
 use Rattle.layout_rules.specs.Scale.{IsScale, ScaleData}
+use Rattle.dataflow_model.specs.Leg.{Until}
+use Rattle.legs.specs.declared.choice.Choice.{Choice}
 use Rattle.legs.specs.declared.cut.Cut.{Cut}
 use Rattle.legs.specs.declared.fault.LegFault.{LegFault}
 use Rattle.legs.specs.declared.stop.Stop.{Stop}
@@ -33,13 +34,19 @@ pub record AnswersLeg (other : LegFault → Type 0) (p : PlanData) (i : InputDat
   pub refused : IfErr result (IsWayRefusal other i.sources (offsets_of start) saves stop)
 
 -- a function takes any leg
-abbrev pub TakesLegs : {F : Type 0} → (F → ℕ → Bor PlanData → Bor InputData → Bor StartData → Bor ScaleData → Bor (List Cut) → Stop → Type 0) → Type 0
+abbrev pub TakesLegs : {F : Type 0} → (F → Bor (List Choice) → Bor PlanData → Bor InputData → Bor StartData → Bor ScaleData → Bor (List Cut) → Stop → Type 0) → Type 0
 TakesLegs {F} pre =
-    (state : F) (left : ℕ) (p : Bor PlanData) (i : Bor InputData) (start : Bor StartData) (scale : Bor ScaleData) (saves : Bor (List Cut)) (stop : Stop) → CanRunLeg p.now i.now start.now scale.now
-    → pre state left p i start scale saves stop
+    (state : F) (choices : Bor (List Choice)) (p : Bor PlanData) (i : Bor InputData) (start : Bor StartData) (scale : Bor ScaleData) (saves : Bor (List Cut)) (stop : Stop) → CanRunLeg p.now i.now start.now scale.now
+    → pre state choices p i start scale saves stop
 
 -- and gives what such a leg answers
-abbrev pub GivesLegs : {F : Type 0} → (LegFault → Type 0) → (F → ℕ → Bor PlanData → Bor InputData → Bor StartData → Bor ScaleData → Bor (List Cut) → Stop → Result Finish LegFault → F → Type 0) → Type 0
+abbrev pub GivesLegs : {F : Type 0} → (LegFault → Type 0) → (F → Bor (List Choice) → Bor PlanData → Bor InputData → Bor StartData → Bor ScaleData → Bor (List Cut) → Stop → Result Finish LegFault → F → Type 0) → Type 0
 GivesLegs {F} other step =
-    (state : F) (left : ℕ) (p : Bor PlanData) (i : Bor InputData) (start : Bor StartData) (scale : Bor ScaleData) (saves : Bor (List Cut)) (stop : Stop) (result : Result Finish LegFault) (next : F) → CanRunLeg p.now i.now start.now scale.now
-    → step state left p i start scale saves stop result next → AnswersLeg other p.now i.now start.now (counts_of saves.now) stop result
+    (state : F) (choices : Bor (List Choice)) (p : Bor PlanData) (i : Bor InputData) (start : Bor StartData) (scale : Bor ScaleData) (saves : Bor (List Cut)) (stop : Stop) (result : Result Finish LegFault) (next : F) → CanRunLeg p.now i.now start.now scale.now
+    → step state choices p i start scale saves stop result next → AnswersLeg other p.now i.now start.now (counts_of saves.now) stop result
+
+-- and goes by the choices that it is told
+abbrev pub GoesByChoices : {F : Type 0} → (PlanData → ScaleData → InputData → StartData → List (List (List ℕ)) → Until → List Choice → Finish → Type 0) → (F → Bor (List Choice) → Bor PlanData → Bor InputData → Bor StartData → Bor ScaleData → Bor (List Cut) → Stop → Result Finish LegFault → F → Type 0) → Type 0
+GoesByChoices {F} by step =
+    (state : F) (choices : Bor (List Choice)) (p : Bor PlanData) (i : Bor InputData) (start : Bor StartData) (scale : Bor ScaleData) (saves : Bor (List Cut)) (stop : Stop) (result : Result Finish LegFault) (next : F) → CanRunLeg p.now i.now start.now scale.now
+    → step state choices p i start scale saves stop result next → IfOk result (by p.now scale.now i.now start.now (counts_of saves.now) (until_of stop) choices.now)

@@ -1,11 +1,12 @@
 //! Legs run one after the other.
 
-ghost use Rattle.std.specs.Prelude.{◌≡◌, ◌+◌, ◌++◌, ◌<◌, ◌≤◌, ◌^◌, ℕ, true, List, length, drop, Option, option_map, IfOk, MatchResult, OnOk};
+ghost use Rattle.std.specs.Prelude.{◌≡◌, ◌+◌, ◌++◌, ◌<◌, ◌≤◌, ◌^◌, ℕ, true, List, [], length, drop, slice_index_or, Option, option_map, IfOk, MatchResult, OnOk};
 ghost use Rattle.std.specs.List.{All};
 ghost use Rattle.std.specs.List.Sorted.{IsSortedByKey};
 ghost use Rattle.layout_rules.specs.Scale.{IsScale};
 ghost use Rattle.legs.specs.Requirements.{are_legs};
-ghost use Rattle.legs.specs.Stops.{counts_of};
+ghost use Rattle.leg_runs.specs.Choosing.{IsLegBy};
+ghost use Rattle.legs.specs.Stops.{counts_of, until_of};
 ghost use Rattle.plan_model.specs.Rows.{AreRowsOf, pane_cmp, pane_of};
 ghost use Rattle.plan_model.specs.declared.spec.Pane.{Pane as PaneValue};
 ghost use Rattle.plan_model.specs.declared.spec.Row.{Row as RowValue};
@@ -15,7 +16,8 @@ ghost use Rattle.stream_model.specs.InputData.{BelongsTo};
 ghost use Rattle.job_legs.specs.Reached.{HasSaved, rows_of, saved_of, taken_of};
 ghost use Rattle.job_legs.specs.Ending.{IsJobEnd, IsLegsRefusal, IsThreadsRefusal};
 ghost use Rattle.job_legs.specs.Running.{HaveRun, IsRunRefusal, saves_in};
-ghost use Rattle.job_legs.specs.Ways.{AnswersLeg, CanRunLeg, GivesLegs, TakesLegs};
+ghost use Rattle.job_legs.specs.Turns.{HaveRunBy, HaveTurned};
+ghost use Rattle.job_legs.specs.Ways.{AnswersLeg, CanRunLeg, GivesLegs, GoesByChoices, TakesLegs};
 
 use crate::laws::{nothing_due_at_first, rows_add_up};
 use crate::ways::{ByChoices, InThreads, Way};
@@ -98,16 +100,27 @@ fn saves_of(legs: &[LegSpec]) -> &[Cut]
     }
 }
 
-/// Runs legs one after the other, each by a call of `run`, which is told how many are left. Where a leg is given up,
-/// what is left of it runs next, from the last savepoint that it has sealed.
+/// The list of choices of the leg at a place; an empty one, where there is none.
+fn choices_of(lists: &[Items<Choice>], place: usize) -> &[Choice]
+    ensures { result.now ≡ slice_index_or lists.now place [] }
+{
+    match lists.get(place) {
+        Some(list) => list.as_slice(),
+        None => &[],
+    }
+}
+
+/// Runs legs one after the other, each by a call of `run`, which is told its list of choices. Where a leg is given up,
+/// what is left of it runs next, from the last savepoint that it has sealed and by the same list.
 fn run_all<
     W: Way,
-    F: FnMut(usize, &Plan, &Input, &Start, &Scale, &[Cut], Stop) -> Result<Finish, LegFault>,
+    F: FnMut(&[Choice], &Plan, &Input, &Start, &Scale, &[Cut], Stop) -> Result<Finish, LegFault>,
 >(
     alloc: Global,
     plan: &Plan,
     input: &Input,
     legs: &[LegSpec],
+    lists: &[Items<Choice>],
     mut run: F,
 ) -> Result<Reached, LegFault>
     requires belongs { BelongsTo plan.now input.now }
@@ -115,7 +128,9 @@ fn run_all<
     requires list { are_legs legs.now ≡ true }
     requires takes { TakesLegs F.pre }
     requires gives { GivesLegs W.other_fault F.step }
-    ensures { MatchResult result (HaveRun plan.now input.now legs.now) (IsRunRefusal W.other_fault input.now legs.now) }
+    requires goes { GoesByChoices W.goes_by F.step }
+    ensures runs { MatchResult result (HaveRun plan.now input.now legs.now) (IsRunRefusal W.other_fault input.now legs.now) }
+    ensures chosen { IfOk result (λ reached. HaveTurned W.goes_by plan.now input.now legs.now lists.now (length legs.now) reached.rows.items reached.savepoint) }
 {
     let _first = nothing_due_at_first();
     let _add = rows_add_up();
@@ -130,7 +145,8 @@ fn run_all<
     'turns: while let Some((leg, more)) = rest.split_first() {
         let start = next_start(alloc, plan, input, &reached.savepoint)?;
         let stop = leg.stop.copy(alloc)?;
-        let finish = run(rest.len(), plan, input, &start, &leg.scale, saves, stop)?;
+        let choices = choices_of(lists, legs.len() - rest.len());
+        let finish = run(choices, plan, input, &start, &leg.scale, saves, stop)?;
         match take_in(&mut reached, finish)? {
             Some(taken) => saves = rest_of(saves, taken),
             None => {
@@ -184,31 +200,29 @@ fn end_of(alloc: Global, reached: Reached) -> Result<LegsEnd, AllocError>
 /// What the legs of a list give that are run in a way.
 fn end_of_legs<
     W: Way,
-    F: FnMut(usize, &Plan, &Input, &Start, &Scale, &[Cut], Stop) -> Result<Finish, LegFault>,
->(alloc: Global, plan: &Plan, input: &Input, legs: &[LegSpec], run: F) -> Result<LegsEnd, LegFault>
+    F: FnMut(&[Choice], &Plan, &Input, &Start, &Scale, &[Cut], Stop) -> Result<Finish, LegFault>,
+>(
+    alloc: Global,
+    plan: &Plan,
+    input: &Input,
+    legs: &[LegSpec],
+    lists: &[Items<Choice>],
+    run: F,
+) -> Result<LegsEnd, LegFault>
     requires belongs { BelongsTo plan.now input.now }
     requires scales { All (λ leg. IsScale plan.now leg.scale) legs.now }
     requires list { are_legs legs.now ≡ true }
     requires takes { TakesLegs F.pre }
     requires gives { GivesLegs W.other_fault F.step }
-    ensures { MatchResult result (λ end. IsJobEnd plan.now input.now legs.now end.rows.items (option_map (λ b. b.items) end.savepoint)) (IsRunRefusal W.other_fault input.now legs.now) }
+    requires goes { GoesByChoices W.goes_by F.step }
+    ensures chosen { IfOk result (λ end. HaveRunBy W.goes_by plan.now input.now legs.now lists.now end.rows.items (option_map (λ b. b.items) end.savepoint)) }
+    ensures ends { MatchResult result (λ end. IsJobEnd plan.now input.now legs.now end.rows.items (option_map (λ b. b.items) end.savepoint)) (IsRunRefusal W.other_fault input.now legs.now) }
 {
     let _columns = plan.columns();
     let _sources = input.sources();
     let _law = end_is_due();
-    let reached = run_all::<W, F>(alloc, plan, input, legs, run)?;
+    let reached = run_all::<W, F>(alloc, plan, input, legs, lists, run)?;
     Ok(end_of(alloc, reached)?)
-}
-
-/// The choices of the leg with which so many lists are left.
-fn choices_of(lists: &[Items<Choice>], left: usize) -> &[Choice] {
-    match lists.len().checked_sub(left) {
-        Some(place) => match lists.get(place) {
-            Some(list) => list.as_slice(),
-            None => &[],
-        },
-        None => &[],
-    }
 }
 
 /// Runs the legs of a job one after the other, each from what the one before left and the first from nothing, and gives
@@ -236,6 +250,7 @@ pub fn run_legs_by(
     requires scales { All (λ leg. IsScale plan.now leg.scale) legs.items }
     ensures ends { MatchResult result (λ end. IsJobEnd plan.now input.now legs.items end.rows.items (option_map (λ b. b.items) end.savepoint)) (IsLegsRefusal input.now legs.items (length choices.now)) }
     ensures lists { OnOk result (length choices.now ≡ length legs.items) }
+    ensures chosen { IfOk result (λ end. HaveRunBy IsLegBy plan.now input.now legs.items choices.now end.rows.items (option_map (λ b. b.items) end.savepoint)) }
 {
     if !are_legs(&legs) {
         return Err(LegFault::Legs);
@@ -248,16 +263,15 @@ pub fn run_legs_by(
         plan,
         input,
         &legs,
-        |left: usize, plan: &Plan, input: &Input, start: &Start, scale: &Scale, saves: &[Cut], stop: Stop| -> Result<
+        choices,
+        |choices: &[Choice], plan: &Plan, input: &Input, start: &Start, scale: &Scale, saves: &[Cut], stop: Stop| -> Result<
             Finish,
             LegFault,
         >
             requires { CanRunLeg plan.now input.now start.now scale.now }
-            ensures { AnswersLeg (λ fault. ⊥) plan.now input.now start.now (counts_of saves.now) stop result }
-        {
-            let choices = choices_of(choices, left);
-            run_leg_by(alloc, keys, plan, input, start, scale, saves, stop, choices)
-        },
+            ensures answers { AnswersLeg (λ fault. ⊥) plan.now input.now start.now (counts_of saves.now) stop result }
+            ensures chosen { IfOk result (IsLegBy plan.now scale.now input.now start.now (counts_of saves.now) (until_of stop) choices.now) }
+        { run_leg_by(alloc, keys, plan, input, start, scale, saves, stop, choices) },
     )
 }
 
@@ -292,7 +306,8 @@ pub fn run_legs<R: Threads + Wait + Clock + Sync, G: Gate>(
         plan,
         input,
         &legs,
-        |_left: usize, plan: &Plan, input: &Input, start: &Start, scale: &Scale, saves: &[Cut], stop: Stop| -> Result<
+        &[],
+        |_choices: &[Choice], plan: &Plan, input: &Input, start: &Start, scale: &Scale, saves: &[Cut], stop: Stop| -> Result<
             Finish,
             LegFault,
         >

@@ -80,9 +80,9 @@ rest_is number total steps is small =
     ]
 
 -- the step that was found in one task is the one that a number picks of all
-pub chosen_is : (w : WorldData) (l : LayoutData) (counts : List ℕ) (steps number t place : ℕ) (found : Option Step) → AreCounts w l counts → steps ≡ min (sum counts) (2 ^ 64 - 1) → number < 2 ^ 32 → 0 < steps → t < task_count l.stages → place < get_or counts t 0 → place + sum (take t counts) ≡ number % steps
+pub chosen_is : (w : WorldData) (l : LayoutData) (counts : List ℕ) (steps number t place : ℕ) (found : Option Step) → AreCounts w l counts → steps ≡ min (sum counts) (2 ^ 64 - 1) → number < 2 ^ 32 → t < task_count l.stages → place < get_or counts t 0 → place + sum (take t counts) ≡ number % steps
     → ((ys : List Step) → Selects (CanMake w) (steps_of l t) ys → slice_get ys place ≡ found) → MatchOption found (Selects (CanMake w) (all_steps l) []) (λ step. IsChosen (CanMake w) (all_steps l) number step)
-chosen_is w l counts steps number t place found are is small some less within at finds =
+chosen_is w l counts steps number t place found are is small less within at finds =
     let g = picked w l counts are in
     let own = picked_is w l counts are t less in
     let all = flat_map g (range_with_len 0 (task_count l.stages)) in
@@ -94,7 +94,7 @@ chosen_is w l counts steps number t place found are is small some less within at
     let rest : number % length all ≡ length (flat_map g (range_with_len 0 t)) + place = ap (λ n. number % n) long ∙ sym (rest_is number (sum counts) steps is small) ∙ (omega (arith, at, before)) in
     let there = ap (slice_get all) rest ∙ flat_place g (task_count l.stages) t place less inside ∙ here in
     subst (λ o. MatchOption o (Selects (CanMake w) (all_steps l) []) (λ step. IsChosen (CanMake w) (all_steps l) number step)) (sym here ∙ finds (g t) own.0)
-    (all, picked_all w l counts are, (let e = long in grind (arith, e, is, some)), there)
+    (all, picked_all w l counts are, there)
 
 -- and it is found in one of them
 pub never_missed : (w : WorldData) (l : LayoutData) (counts : List ℕ) (steps number t place : ℕ) → AreCounts w l counts → steps ≡ min (sum counts) (2 ^ 64 - 1) → 0 < steps → task_count l.stages ≤ t → place + sum (take t counts) ≡ number % steps → ⊥

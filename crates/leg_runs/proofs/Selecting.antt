@@ -5,10 +5,11 @@ use Rattle.std.specs.List.{range_with_len, sum}
 use Rattle.std.proofs.lemmas.Bool.{cases_lt}
 use Rattle.std.proofs.lemmas.Grind.{flat_map-append}
 use Rattle.std.proofs.lemmas.List.Folds.{flat_map-map}
-use Rattle.std.proofs.lemmas.List.{take_more, length-append, append-nil, append_assoc, take-append-drop, take_all}
-use Rattle.std.proofs.lemmas.Option.{slice_get_within, slice_get_past, get_or_from_slice_get}
+use Rattle.std.proofs.lemmas.List.{length-append, append-nil, append_assoc, take-append-drop, take_all}
+use Rattle.std.proofs.lemmas.Option.{slice_get_past}
 use Rattle.std.proofs.lemmas.List.Sums.{sum_by_more}
 use Rattle.std.proofs.lemmas.List.FromFn.{map-range_with_len_more}
+use Rattle.plain_data.proofs.Facts.{taken_more}
 use Rattle.leg_runs.specs.Choosing.{Selects, HasCount}
 use Rattle.leg_runs.specs.Choosing.Selects.{none, takes, leaves}
 
@@ -129,23 +130,19 @@ flat_place {X} g (suc n) t k l m =
 -- one more element is looked at, which has the property or has not
 split_get : {X : Type 0} (xs : List X) (n : ℕ) (x : X) → slice_get xs n ≡ Some x → (us : List X) × (xs ≡ take n xs ++ x ∷ us)
 split_get xs n x is =
-    let l = slice_get_within xs n x is in
-    (drop (n + 1) xs, sym (take-append-drop (n + 1) xs) ∙ ap (λ ys. ys ++ drop (n + 1) xs) (take_more xs n x l ∙ ap (λ y. take n xs ++ y ∷ []) (get_or_from_slice_get xs n x x is)) ∙ append_assoc (take n xs) (x ∷ []) (drop (n + 1) xs))
-
-taken : {X : Type 0} (xs : List X) (n : ℕ) (x : X) → slice_get xs n ≡ Some x → take (n + 1) xs ≡ take n xs ++ x ∷ []
-taken xs n x is = take_more xs n x (slice_get_within xs n x is) ∙ ap (λ y. take n xs ++ y ∷ []) (get_or_from_slice_get xs n x x is)
+    (drop (n + 1) xs, sym (take-append-drop (n + 1) xs) ∙ ap (λ ys. ys ++ drop (n + 1) xs) (taken_more xs n x is) ∙ append_assoc (take n xs) (x ∷ []) (drop (n + 1) xs))
 
 pub one_more : {X : Type 0} (P : X → Type 0) (xs : List X) (n count : ℕ) (x : X) → slice_get xs n ≡ Some x → P x → HasCount P (take n xs) count → HasCount P (take (n + 1) xs) (count + 1)
 one_more P xs n count x is p has = (
   has.0 ++ x ∷ [],
-  subst (λ ys. Selects P ys (has.0 ++ x ∷ [])) (sym (taken xs n x is)) (joined P (take n xs) has.0 (x ∷ []) (x ∷ []) has.1 (takes p none)),
+  subst (λ ys. Selects P ys (has.0 ++ x ∷ [])) (sym (taken_more xs n x is)) (joined P (take n xs) has.0 (x ∷ []) (x ∷ []) has.1 (takes p none)),
   (let e = length-append has.0 (x ∷ []) in let f = has.2 in omega (arith, e, f)),
 )
 
 pub none_more : {X : Type 0} (P : X → Type 0) (xs : List X) (n count : ℕ) (x : X) → slice_get xs n ≡ Some x → (P x → ⊥) → HasCount P (take n xs) count → HasCount P (take (n + 1) xs) count
 none_more P xs n count x is np has = (
   has.0,
-  subst (λ ys. Selects P ys has.0) (sym (taken xs n x is)) (subst (Selects P (take n xs ++ x ∷ [])) (append-nil has.0) (joined P (take n xs) has.0 (x ∷ []) [] has.1 (leaves np none))),
+  subst (λ ys. Selects P ys has.0) (sym (taken_more xs n x is)) (subst (Selects P (take n xs ++ x ∷ [])) (append-nil has.0) (joined P (take n xs) has.0 (x ∷ []) [] has.1 (leaves np none))),
   has.2,
 )
 

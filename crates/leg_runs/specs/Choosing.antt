@@ -1,5 +1,5 @@
 -- Which steps choices make.
-use Rattle.std.specs.Prelude.{◌≡◌, ℕ, ◌<◌, ◌%◌, List, [], ◌∷◌, ◌++◌, length, map, take, flat_map, slice_get, slice_index, ◌⊎◌, Option, Some}
+use Rattle.std.specs.Prelude.{◌≡◌, ℕ, ◌<◌, ◌%◌, List, [], ◌∷◌, ◌++◌, length, map, take, flat_map, slice_get, slice_index, ◌⊎◌, Option, Some, Err}
 use Rattle.std.specs.List.{range_with_len}
 use Rattle.dataflow_laws.specs.declared.step.Step.{Step}
 use Rattle.dataflow_laws.specs.declared.step.Step.TheVariants.{Open, Read, Save, Stop, Close, Take, Put}
@@ -13,8 +13,9 @@ use Rattle.stream_model.specs.InputData.{InputData}
 use Rattle.layout_rules.specs.Scale.{ScaleData}
 use Rattle.plan_compiler.specs.LayoutData.{LayoutData, layout_of}
 use Rattle.redistribute.specs.StartData.{StartData}
+use Rattle.task_steps.specs.declared.fault.StepFault.TheVariants.{Memory}
 use Rattle.core_steps.specs.World.{WorldData, world_in}
-use Rattle.core_steps.specs.Answers.{LeadsTo, CanMake}
+use Rattle.core_steps.specs.Answers.{LeadsTo, CanMake, StepAnswers}
 use Rattle.core_steps.specs.Beginning.{IsNewWorld}
 use Rattle.core_steps.specs.Finishing.{IsFinishIn}
 use Rattle.core_steps.specs.declared.finish.Finish.{Finish}
@@ -40,7 +41,7 @@ HasCount {X} P xs n = (ys : List X) × Selects P xs ys × (length ys ≡ n)
 
 -- of those, x is the one at the place that is left over where n is divided by how many there are
 abbrev pub IsChosen : {X : Type 0} → (X → Type 0) → List X → ℕ → X → Type 0
-IsChosen {X} P xs n x = (ys : List X) × Selects P xs ys × (0 < length ys) × (slice_get ys (n % length ys) ≡ Some x)
+IsChosen {X} P xs n x = (ys : List X) × Selects P xs ys × (slice_get ys (n % length ys) ≡ Some x)
 
 -- so many steps each task could make
 pub record AreCounts (w : WorldData) (l : LayoutData) (counts : List ℕ) : Type 0 where
@@ -64,6 +65,21 @@ pub record Follows (choices : List Choice) (old new : WorldData) : Type 0 where
   pub made : ℕ
   pub each : MakesEach (take made choices) old new
   pub rest : made < length choices → Selects (CanMake new) (all_steps new.given.layout) []
+
+-- so it was for those before one, and memory was refused for the step that this one picks
+pub record FailsAtStep (choices : List Choice) (old new : WorldData) : Type 0 where
+  pub made : ℕ
+  pub before : WorldData
+  pub each : MakesEach (take made choices) old before
+  pub choice : Choice
+  pub next : slice_get choices made ≡ Some choice
+  pub step : Step
+  pub chosen : IsChosen (CanMake before) (all_steps before.given.layout) choice.number step
+  pub refused : StepAnswers step before new (Err Memory)
+
+-- memory was refused before any step was made, and nothing has changed, or it was refused for one of their steps
+abbrev pub FailsBy : List Choice → WorldData → WorldData → Type 0
+FailsBy choices old new = (new ≡ old) ⊎ FailsAtStep choices old new
 
 -- some steps were made, one after the other
 pub data MakesSteps : WorldData → WorldData → Type 0 where
@@ -99,7 +115,7 @@ pub record IsSameFor (u : ℕ) (w v : flow.World) : Type 0 where
 abbrev pub LeavesOthers : WorldData → Step → Option ℕ → Type 0
 LeavesOthers w step other = (next : flow.World) → LeadsTo w step next → (u : ℕ) → (u ≡ task_of step → ⊥) → (other ≡ Some u → ⊥) → IsSameFor u (world_in w) next
 
--- the steps of a task and of another one were counted anew, and those of no other
+-- the steps of a task and of another one, if one is told, were counted anew, and those of no other
 pub record IsRecounted (w : WorldData) (l : LayoutData) (task : ℕ) (other : Option ℕ) (old new : List ℕ) : Type 0 where
   pub all : length new ≡ length old
   pub anew : (t : ℕ) → t < length old → t < task_count l.stages → (t ≡ task) ⊎ (other ≡ Some t) → HasCount (CanMake w) (steps_of l t) (slice_index new t)

@@ -1,6 +1,6 @@
 //! A leg of a job, run in one thread.
 
-ghost use Rattle.std.specs.Prelude.{◌≡◌, List, IfErr, IfOk, MatchResult, OnOk, false};
+ghost use Rattle.std.specs.Prelude.{◌≡◌, IfErr, IfOk, MatchResult, OnOk, false};
 ghost use Rattle.plan_model.specs.Rows.{AreRowsOf};
 ghost use Rattle.stream_model.specs.InputData.{BelongsTo};
 ghost use Rattle.stream_model.specs.PlanRows.{plan_rows};
@@ -13,8 +13,8 @@ ghost use Rattle.redistribute.specs.StartData.{offsets_of};
 ghost use Rattle.redistribute.specs.Begins.{IsStartIn, IsFromNothing};
 ghost use Rattle.redistribute.specs.Stopping.{CanSaveAt, CanStop, IsRefusal};
 ghost use Rattle.task_setups.specs.Legs.{IsLayoutOf, counts_of};
-ghost use Rattle.legs.specs.declared.choice.Choice.{Choice as Choosable};
-ghost use Rattle.core_steps.specs.World.{WorldData};
+ghost use Rattle.core_steps.specs.declared.finish.Finish.TheVariants.{Abandoned};
+ghost use Rattle.core_steps.specs.declared.sealing.Sealed.{Sealed};
 ghost use Rattle.core_steps.specs.Ending.{IsEndOf, IsWholeOrGivenUp};
 ghost use Rattle.leg_runs.specs.Choosing.{EndsBy, IsLegBy, MakesThen};
 ghost use Rattle.leg_runs.specs.Running.{HasRun};
@@ -57,7 +57,7 @@ fn make_steps(
 fn given_up(alloc: Global, world: &World<'_>) -> Result<Finish, AllocError>
     ensures ends { let g = world.now.given in IfOk result (IsEndOf g.plan g.input g.start g.saves g.until) }
     ensures whole { let g = world.now.given in IfOk result (IsWholeOrGivenUp g.plan g.input) }
-    ensures chosen { (choices : List Choosable) (old : WorldData) → IfOk result (EndsBy choices old) }
+    ensures abandoned { IfOk result (λ finish. (sealed : Sealed) × (finish ≡ Abandoned sealed)) }
 {
     if !world.has_failed() {
         return Err(AllocError);

@@ -1,8 +1,8 @@
 //! A leg run to its end.
 
-ghost use Rattle.std.specs.Prelude.{◌≡◌, IfOk, OnOk, false};
+ghost use Rattle.std.specs.Prelude.{◌≡◌, IfOk, OnErr, OnOk, false};
 ghost use Rattle.task_setups.specs.Legs.{IsLayoutOf};
-ghost use Rattle.leg_runs.specs.Choosing.{Follows, MakesSteps};
+ghost use Rattle.leg_runs.specs.Choosing.{FailsBy, Follows, MakesSteps};
 ghost use Rattle.leg_runs.specs.Running.{HasRun, IsTryOfAll};
 
 use crate::hints::{Hint, make_found, try_hint};
@@ -53,7 +53,8 @@ fn try_any(world: &mut World, layout: &Layout, hints: &mut Vec<Hint>) -> Result<
 ///
 /// # Errors
 ///
-/// Only where memory runs out. The world may have failed then.
+/// Only where memory runs out: before any step, and nothing has changed, or for the step that one of the choices
+/// picks. Those before it have made theirs then, and the world has failed and is left as `World::apply` leaves it.
 pub fn follow(
     alloc: Global,
     world: &mut World,
@@ -64,6 +65,7 @@ pub fn follow(
     ensures given { world.new.given ≡ world.old.given }
     ensures going { OnOk result (world.new.has_failed ≡ false) }
     ensures follows { layout.now ≡ world.old.given.layout → OnOk result (Follows choices.now world.old world.new) }
+    ensures fails { layout.now ≡ world.old.given.layout → OnErr result (FailsBy choices.now world.old world.new) }
 {
     let mut counts = counts_of(alloc, world, layout)?;
     for choice in choices {

@@ -12,6 +12,7 @@ use Rattle.job_legs.specs.Running.{HaveRun, IsRunRefusal, saves_in}
 use Rattle.job_legs.specs.Ways.{AnswersLeg, CanRunLeg}
 use Rattle.job_legs.proofs.Taken.{fails}
 use Rattle.job_legs.proofs.UnderWay.{IsOnWay, scale_of, start, turn_ended, turn_given_up, turn_refused, turn_takes, turned, turns_behind}
+use Rattle.job_legs.proofs.Turned.{AreTurned, IsRestOf, all_left, fewer_left, none_turned, turn_of, turned_again, turned_over}
 use Rattle.job_legs.proofs.Turns.{dropped_length}
 use Rattle.job_legs.proofs.running.run_all.Goals as goal
 use Rattle.job_legs.proofs.running.run_all.Goals.{in-Some-2, in-None}
@@ -26,7 +27,18 @@ turns-init g c =
     record {
       way = subst (λ saves. IsOnWay p i legs legs saves r) (sym c.saves_of-saves.ensures) (start p i legs r c.requires.list (λ q. c.nothing_due_at_first-first.ensures p i q orderly) c.new.ensures.items refl);
       scales = c.requires.scales;
+      turned = none_turned g.W.Way.goes_by p i legs c.args.lists.now r c.new.ensures.items refl;
+      kept = subst (IsRestOf legs) (sym c.saves_of-saves.ensures) (all_left legs);
     }
+
+pub overflow_sub-legs : goal.overflow_sub-legs
+overflow_sub-legs g c = (let some = c.turns.invariant.turned.some in omega (arith, some))
+
+pub next_start-requires-clause-saved : goal.next_start-requires-clause-saved
+next_start-requires-clause-saved g c =
+    let e = c.in-Some.ensures.cases.0 in
+    let t = subst (λ legs. IsOnWay c.args.plan.now c.args.input.now c.args.legs.now legs c.turns.saves.now c.turns.reached) e c.turns.invariant.way in
+    (t.between.here, t.between.count, t.between.at.saved)
 
 pub run-requires : goal.run-requires
 run-requires g c =
@@ -37,8 +49,8 @@ run-requires g c =
     let can : CanRunLeg p c.args.input.now c.in_ok-start.start c.in-Some.leg.now.scale = (c.requires.belongs, scale, (c.in_ok-start.ensures t.between.here t.between.count t.between.at.saved).in_input) in
     search rules
 
-pub returns-in_err-finish : goal.returns-in_err-finish
-returns-in_err-finish g c =
+pub returns-in_err-finish-clause-runs : goal.returns-in_err-finish-clause-runs
+returns-in_err-finish-clause-runs g c =
     let p = c.args.plan.now in
     let i = c.args.input.now in
     let all = c.args.legs.now in
@@ -133,6 +145,13 @@ turns-preserved g c =
     let new = c.take_in.new.reached in
     let input = c.sources-sources.ensures.sound in
     let add = c.rows_add_up-add.ensures in
+    let by = g.W.Way.goes_by in
+    let lists = c.args.lists.now in
+    let are = subst (λ legs. AreTurned by p i all lists legs c.turns.reached) e c.turns.invariant.turned in
+    let kept = subst (λ legs. IsRestOf legs saves) e c.turns.invariant.kept in
+    let here = t.between.here in
+    let count = t.between.count in
+    let turn = turn_of by p i all lists leg more c.turns.reached are c.turns.rest.now e here count t.between.at.saved s (c.in_ok-start.ensures here count t.between.at.saved) saves kept c.in_ok-stop.stop c.in_ok-stop.ensures c.choices_of-choices.result.now c.choices_of-choices.ensures finish gives c.run.result c.in_ok-finish.was (c.requires.goes _ _ _ _ _ _ _ _ _ _ can c.run.ensures) in
     let fit = All (λ (leg : LegSpec). IsScale p leg.scale) in
     elim c.match-branch-5.branch [
       | in-Some-2 w ↦ (
@@ -141,11 +160,15 @@ turns-preserved g c =
           record {
             way = subst (λ legs. IsOnWay p i all legs c.match-branch-5.saves.now new) (sym (ap now w.rest-is ∙ e)) (subst (λ (rest : List Cut). IsOnWay p i all (leg ∷ more) rest new) (sym (ap cuts w.saves-is ∙ w.rest_of-saves.ensures)) again);
             scales = subst fit (sym (ap now w.rest-is)) c.turns.invariant.scales;
+            turned = turned_again by p i all lists leg more c.turns.reached are c.match-branch-5.rest.now (ap now w.rest-is ∙ e) new finish taken turn (sym c.in_ok-taken.ensures.taken ∙ w.in-Some-2.is) c.in_ok-taken.ensures.rows c.in_ok-taken.ensures.savepoint;
+            kept = subst (λ legs. IsRestOf legs c.match-branch-5.saves.now) (sym (ap now w.rest-is ∙ e)) (subst (IsRestOf (leg ∷ more)) (sym (ap cuts w.saves-is ∙ w.rest_of-saves.ensures)) (fewer_left leg more saves taken kept));
           })
       | in-None w ↦ (
           let over = turn_ended p i all leg more saves c.turns.reached t input add new finish gives (sym c.in_ok-taken.ensures.taken ∙ w.in-None.is) c.in_ok-taken.ensures.rows c.in_ok-taken.ensures.savepoint in
           record {
             way = subst (λ legs. IsOnWay p i all legs c.match-branch-5.saves.now new) (sym (ap now w.rest-is)) (subst (λ (rest : List Cut). IsOnWay p i all more rest new) (sym (ap cuts w.saves-is ∙ w.saves_of-saves-in-None.ensures)) over);
             scales = subst fit (sym (ap now w.rest-is)) (All-tail (λ (leg : LegSpec). IsScale p leg.scale) leg more (subst fit e c.turns.invariant.scales));
+            turned = turned_over by p i all lists leg more c.turns.reached are c.match-branch-5.rest.now (ap now w.rest-is) new finish turn (sym c.in_ok-taken.ensures.taken ∙ w.in-None.is) c.in_ok-taken.ensures.rows c.in_ok-taken.ensures.savepoint;
+            kept = subst (λ legs. IsRestOf legs c.match-branch-5.saves.now) (sym (ap now w.rest-is)) (subst (IsRestOf more) (sym (ap cuts w.saves-is ∙ w.saves_of-saves-in-None.ensures)) (all_left more));
           })
     ]

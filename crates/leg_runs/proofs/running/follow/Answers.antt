@@ -3,7 +3,7 @@ use Rattle.core_steps.specs.Given.{GivenData}
 use Rattle.leg_runs.specs.Choosing.{AreCounts, IsRecounted}
 use Rattle.leg_runs.specs.Choosing.MakesEach.{start}
 use Rattle.leg_runs.proofs.Standing.{counts_stay}
-use Rattle.leg_runs.proofs.Following.{made_more, written_over}
+use Rattle.leg_runs.proofs.Following.{made_more, fails_at, written_over}
 use Rattle.leg_runs.proofs.running.follow.Goals as goal
 
 pub loop-choice-init : goal.loop-choice-init
@@ -27,3 +27,12 @@ loop-choice-preserved c =
             made_more c.args.world.now w v l c.args.choices.now c.loop-choice.choice-index _ c.in-Some.step c.loop-choice-test.true here made.2 (c.in-Some.ensures.is (subst (AreCounts w l) (sym c.deref.ensures.value) so.0)) made.3 so.1,
           ),
     )
+
+pub returns-in-Err-clause-fails : goal.returns-in-Err-clause-fails
+returns-in-Err-clause-fails c same =
+    let w = c.loop-choice.world in
+    let l = c.args.layout.now in
+    let so = c.loop-choice.invariant.2 same in
+    let here = same ∙ sym (ap (λ (g : GivenData). g.layout) c.loop-choice.invariant.0) in
+    fails_at c.args.world.now w c.apply.new.self l c.args.choices.now c.loop-choice.choice-index _ c.in-Some.step c.in-Err.field-0 c.loop-choice-test.true here c.loop-choice.invariant.1 c.in-Some.ensures.can
+    (c.in-Some.ensures.is (subst (AreCounts w l) (sym c.deref.ensures.value) so.0)) c.in-Err.ensures so.1

@@ -12,13 +12,12 @@ pub returns-then-place-count-clause-is : goal.returns-then-place-count-clause-is
 returns-then-place-count-clause-is c are =
     let counts = c.args.counts.now in
     let t = c.loop-task.task in
-    let some = c.if-steps-eq0.false in
     let less = c.loop-task-test.true in
     let tasks = c.task_count-task-end.ensures.says in
     let is = c.in-Some.ensures.lookup.3.1 0 in
     let within = c.if-place-count.true in
     let small : c.args.choice.number < 4294967296 = (let fits = c.well_formed in grind (arith, fits)) in
-    chosen_is c.args.world.now c.args.layout.now counts c.total-steps.result c.args.choice.number t c.loop-task.place c.step_at.result are c.total-steps.ensures small (omega (arith, some))
+    chosen_is c.args.world.now c.args.layout.now counts c.total-steps.result c.args.choice.number t c.loop-task.place c.step_at.result are c.total-steps.ensures small
     (omega (arith, less, tasks)) (omega (arith, within, is)) c.loop-task.invariant c.step_at.ensures.is
 
 pub loop-task-preserved : goal.loop-task-preserved
