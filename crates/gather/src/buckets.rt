@@ -11,12 +11,12 @@ ghost use Rattle.gather.specs.Parts.{panes_in as panes_of, panes_in_group, windo
 ghost use Rattle.gather.specs.Buckets.{HaveWidth, IsTyped, no_entries, with_part, groups_from};
 
 use key_groups::{MaxParallelism, group_of};
+use packed_parts::{PackedParts, Part};
 use plain_data::Items;
 use plan_model::Pane;
 use redistribute::TaskStart;
-use savepoint_codec::{Entries, Entry, SavedGroup};
+use savepoint_codec::{Entries, Entry, Numbers, SavedGroup};
 use std::alloc::{AllocError, Global};
-use window_state::Part;
 
 /// A bucket for each key group, with nothing in it.
 fn empty_buckets(
@@ -48,7 +48,7 @@ fn push_part(buckets: &mut [Entries], max: MaxParallelism, part: &Part) -> Resul
     buckets[group as usize].push(Entry {
         pane: Pane { start, key },
         count: part.acc.count(),
-        numbers: part.acc.numbers(),
+        numbers: Numbers::Wide(part.acc.numbers()),
     })
 }
 
@@ -56,7 +56,7 @@ fn push_part(buckets: &mut [Entries], max: MaxParallelism, part: &Part) -> Resul
 fn push_parts(
     buckets: &mut [Entries],
     max: MaxParallelism,
-    parts: &[Part],
+    parts: &PackedParts,
 ) -> Result<(), AllocError>
     requires groups { length buckets.old ≡ max }
     requires widths { All (λ part. HaveWidth (length part.acc.kinds) buckets.old) parts.now }
@@ -64,19 +64,27 @@ fn push_parts(
     ensures widths { OnOk result ((n : ℕ) → HaveWidth n buckets.old → HaveWidth n buckets.new) }
     ensures typed { OnOk result (All IsTyped parts.now) }
 {
-    for part in parts {
-        push_part(buckets, max, part)?;
+    for i in 0..parts.len() {
+        push_part(buckets, max, &parts.part(i))?;
     }
     Ok(())
 }
 
-/// The panes of a task; none, but for a window's task.
-fn panes_in(part: &TaskStart) -> &[Part]
-    ensures { result.now ≡ panes_of part.now }
+/// The same of what a task leaves: it has panes, if it is a window's task.
+fn push_panes(
+    buckets: &mut [Entries],
+    max: MaxParallelism,
+    part: &TaskStart,
+) -> Result<(), AllocError>
+    requires groups { length buckets.old ≡ max }
+    requires widths { All (λ pane. HaveWidth (length pane.acc.kinds) buckets.old) (panes_of part.now) }
+    ensures says { OnOk result (buckets.new ≡ fold (with_part max) buckets.old (panes_of part.now)) }
+    ensures widths { OnOk result ((n : ℕ) → HaveWidth n buckets.old → HaveWidth n buckets.new) }
+    ensures typed { OnOk result (All IsTyped (panes_of part.now)) }
 {
     match part {
-        TaskStart::Window(panes) => panes.as_slice(),
-        _ => &[],
+        TaskStart::Window(panes) => push_parts(buckets, max, panes),
+        _ => Ok(()),
     }
 }
 
@@ -95,7 +103,7 @@ fn all_buckets(
 {
     let mut buckets = empty_buckets(alloc, max, width)?;
     for part in parts {
-        push_parts(&mut buckets, max, panes_in(part))?;
+        push_panes(&mut buckets, max, part)?;
     }
     Ok(buckets)
 }

@@ -3,12 +3,14 @@
 ghost use Rattle.std.specs.Prelude.{◌≡◌, ◌++◌, OnOk, IfOk, string_bytes};
 ghost use Rattle.std.specs.List.{flat_map, enumerate_from};
 ghost use Rattle.savepoint_codec.specs.EntriesView.{entry_data};
+ghost use Rattle.savepoint_codec.specs.Numbers.{numbers_of};
+ghost use Rattle.job_texts.specs.Text.{spaced};
 ghost use Rattle.job_texts.specs.ShowText.{partition_line, source_lines, entry_head, entry_line, entry_lines, group_lines, number_line, max_line, window_line, savepoint_text};
 
 use crate::number::push_numbers;
 use plan_model::Pane;
 use row_lines::push_spaced;
-use savepoint_codec::{Contents, Entries, Entry, SavedGroup, SavedPartition, SavedSource};
+use savepoint_codec::{Contents, Entries, Entry, Numbers, SavedGroup, SavedPartition, SavedSource};
 use std::alloc::{AllocError, Global};
 
 fn write_partition(
@@ -65,11 +67,20 @@ fn write_entry_head(text: &mut String, group: u32, pane: Pane, count: u64) -> Re
     push_spaced(text, count)
 }
 
+fn write_numbers(text: &mut String, numbers: Numbers<'_>) -> Result<(), AllocError>
+    ensures { OnOk result (string_bytes text.new ≡ string_bytes text.old ++ flat_map spaced (numbers_of numbers.entry)) }
+{
+    match numbers {
+        Numbers::Narrow(numbers) => push_numbers(text, numbers),
+        Numbers::Wide(numbers) => push_numbers(text, numbers),
+    }
+}
+
 fn write_entry(text: &mut String, group: u32, entry: Entry<'_>) -> Result<(), AllocError>
     ensures { OnOk result (string_bytes text.new ≡ string_bytes text.old ++ entry_line group (entry_data entry.entry)) }
 {
     write_entry_head(text, group, entry.pane, entry.count)?;
-    push_numbers(text, entry.numbers)?;
+    write_numbers(text, entry.numbers)?;
     text.push_str("\n")
 }
 

@@ -75,7 +75,7 @@ fn part_left(
             Ok(TaskStart::Source(starts_left(alloc, partitions, task, at)?))
         }
         Role::Chain => Ok(TaskStart::Chain),
-        Role::Window => Ok(TaskStart::Window(Items::from_vec(task.parts(alloc, at)?))),
+        Role::Window => Ok(TaskStart::Window(task.parts(alloc, at)?)),
         Role::Sink => Ok(TaskStart::Sink),
     }
 }

@@ -7,10 +7,11 @@ ghost use Rattle.window_state.specs.State.{StateData};
 ghost use Rattle.window_state.specs.Parts.{IsPartOf};
 ghost use Rattle.leg_tasks.specs.Beginning as begins;
 
+use packed_parts::PackedParts;
 use plan_model::Plan;
 use redistribute::{PartitionStart, TaskStart};
 use std::alloc::{AllocError, Global};
-use window_state::{HashKeys, Part, WindowState};
+use window_state::{HashKeys, WindowState};
 
 /// What a task begins with, beside what it is told.
 #[derive(Drop)]
@@ -78,7 +79,7 @@ fn window_with(
     alloc: Global,
     keys: HashKeys,
     plan: &Plan,
-    parts: &[Part],
+    parts: &PackedParts,
 ) -> Result<WindowState, AllocError>
     requires { All (IsPartOf plan.now.window) parts.now }
     ensures { IfOk result (λ state. state ≡ begins.window_with plan.now parts.now) }
@@ -106,7 +107,7 @@ pub(crate) fn opening_of(
         TaskStart::Source(partitions) => source_opening(alloc, partitions.as_slice()),
         TaskStart::Chain | TaskStart::Sink => other_opening(alloc, inputs, None),
         TaskStart::Window(parts) => {
-            let window = window_with(alloc, keys, plan, parts.as_slice())?;
+            let window = window_with(alloc, keys, plan, parts)?;
             other_opening(alloc, inputs, Some(window))
         }
     }

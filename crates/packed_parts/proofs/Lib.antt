@@ -1,1 +1,1 @@
-mod Packings
+mod Sound

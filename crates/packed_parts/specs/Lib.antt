@@ -1,2 +1,2 @@
 pub mod Packing
-pub mod PackedView
+pub mod PackingView

@@ -1,8 +1,13 @@
 -- Parts of the windows of a task, and the entries that they are packed as.
 use Rattle.std.specs.Prelude.{List}
 use Rattle.aggregates.specs.declared.kind.Kind.{Kind}
-use Rattle.window_state.specs.declared.parts.Part.{Part}
+use Rattle.packed_parts.specs.declared.part.Part.{Part}
 use Rattle.savepoint_codec.specs.EntriesData.{EntryData}
+
+-- the kinds that parts have, and the parts
+pub record PackingData : Type 0 where
+  pub kinds : List Kind
+  pub parts : List Part
 
 -- what stands in a pane, as an entry
 abbrev pub entry_of : Part → EntryData

@@ -2,5 +2,9 @@
 #![tactic(auto)]
 
 mod packed;
+mod packing;
+mod part;
 
 pub use packed::PackedParts;
+pub use packing::Packing;
+pub use part::Part;

@@ -1,83 +1,65 @@
-//! What stands in the panes of a window operator, in little memory.
+//! Parts that were packed.
 
-ghost use Rattle.std.specs.Prelude.{◌≡◌, ◌++◌, ◌∷◌, [], length, OnOk, IfOk};
-ghost use Rattle.std.specs.List.{All};
-ghost use Rattle.aggregates.specs.Kinds.{IsAcc};
-ghost use Rattle.packed_parts.specs.Packing.{entry_of};
+ghost use Rattle.std.specs.Prelude.{◌≡◌, ◌<◌, [], length, slice_get, Some, IfOk};
 
-use aggregates::{Acc, Kind};
-use savepoint_codec::{Entries, Entry};
+use crate::packing::Packing;
+use crate::part::Part;
 use std::alloc::{AllocError, Global};
 use std::marker::Model;
-use window_state::Part;
 
-/// Parts of the same kinds, which stand there once. A part takes 24 bytes, and 16 for each number.
-#[derive(Drop)]
+/// Parts of the same kinds, in little memory.
+#[derive(Debug, Drop)]
 pub struct PackedParts {
-    kinds: Vec<Kind>,
-    entries: Entries,
+    packing: Packing,
 }
 
 impl Model for PackedParts {
     ghost use Rattle.std.specs.Prelude.{List};
-    ghost use Rattle.window_state.specs.declared.parts.Part.{Part};
-    ghost use Rattle.packed_parts.specs.PackedView.{packed_view, IsPackedInside};
+    ghost use Rattle.packed_parts.specs.declared.part.Part.{Part};
 
     ghost Value = { List Part };
 
-    ghost view = { packed_view };
-
-    ghost invariant = { IsPackedInside };
-}
-
-/// A part, put behind the entries as one more.
-fn push_part(entries: &mut Entries, part: &Part) -> Result<(), AllocError>
-    requires { length part.now.acc.kinds ≡ entries.old.width }
-    ensures says { OnOk result (entries.new ≡ record entries.old { entries = entries.old.entries ++ entry_of part.now ∷ [] }) }
-    ensures sound { IsAcc part.now.acc }
-{
-    entries.push(Entry {
-        pane: part.pane,
-        count: part.acc.count(),
-        numbers: part.acc.numbers(),
-    })
+    ghost view = { λ p. p.packing.parts };
 }
 
 impl PackedParts {
-    /// Parts that all have these kinds, in as much memory as they take.
-    ///
-    /// # Errors
-    ///
-    /// Only where memory runs out.
-    pub fn new(alloc: Global, kinds: Vec<Kind>, parts: &[Part]) -> Result<PackedParts, AllocError>
-        requires { All (λ part. part.acc.kinds ≡ kinds.items) parts.now }
-        ensures { IfOk result (λ packed. packed ≡ parts.now) }
+    /// No parts.
+    pub fn empty(alloc: Global) -> PackedParts
+        ensures { result ≡ [] }
     {
-        let mut entries = Entries::new(alloc, kinds.len());
-        entries.reserve(parts.len())?;
-        for part in parts {
-            push_part(&mut entries, part)?;
-        }
-        Ok(PackedParts { kinds, entries })
+        PackedParts::from_packing(Packing::new(alloc, Vec::new(alloc)))
     }
 
     /// The parts that were packed.
+    pub fn from_packing(packing: Packing) -> PackedParts
+        ensures { result ≡ packing.parts }
+    {
+        PackedParts { packing }
+    }
+
+    /// How many parts there are.
+    pub fn len(&self) -> usize
+        ensures { result ≡ length self.now }
+    {
+        self.packing.len()
+    }
+
+    /// Part i, counted from 0.
+    pub fn part(&self, i: usize) -> Part
+        requires { i < length self.now }
+        ensures { slice_get self.now i ≡ Some result }
+    {
+        self.packing.part(i)
+    }
+
+    /// The same again.
     ///
     /// # Errors
     ///
     /// Only where memory runs out.
-    pub fn unpack(&self, alloc: Global) -> Result<Vec<Part>, AllocError>
-        ensures { IfOk result (λ parts. parts.items ≡ self.now) }
+    pub fn copy(&self, alloc: Global) -> Result<PackedParts, AllocError>
+        ensures { IfOk result (λ parts. parts ≡ self.now) }
     {
-        let mut parts = Vec::with_capacity(alloc, self.entries.len())?;
-        for i in 0..self.entries.len() {
-            let entry = self.entries.entry(i);
-            let acc = Acc::of(&self.kinds, entry.count, entry.numbers);
-            parts.push(Part {
-                pane: entry.pane,
-                acc,
-            })?;
-        }
-        Ok(parts)
+        Ok(PackedParts::from_packing(self.packing.copy(alloc)?))
     }
 }

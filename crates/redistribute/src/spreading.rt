@@ -7,20 +7,19 @@ ghost use Rattle.layout_rules.specs.Layouts.{partition_counts};
 ghost use Rattle.layout_rules.specs.Stages as rule;
 ghost use Rattle.plan_compiler.specs.LayoutData.{IsLayoutOf};
 ghost use Rattle.plan_compiler.specs.Tables.{each_task};
-ghost use Rattle.savepoint_codec.specs.EntriesView.{entry_data};
 ghost use Rattle.packed_parts.specs.Packing as packing;
 ghost use Rattle.redistribute.specs.Parts as said;
 
 use crate::start::Start;
 use crate::task_start::{PartitionStart, TaskStart};
-use aggregates::{Acc, Kind};
+use aggregates::Kind;
 use key_groups::GroupRange;
+use packed_parts::{PackedParts, Packing};
 use plain_data::Items;
 use plan_compiler::{Layout, Role};
 use plan_model::Plan;
-use savepoint_codec::{Entries, Entry};
+use savepoint_codec::Entries;
 use std::alloc::{AllocError, Global};
-use window_state::Part;
 
 /// Where a task begins to read a partition: at its first entry, where the start has no such partition.
 fn partition_start(start: &Start, source: u32, partition: u32) -> PartitionStart
@@ -60,41 +59,50 @@ fn partition_starts(
     Ok(Items::from_vec(starts))
 }
 
-/// What an entry of a start is for a window state.
-fn part_of(kinds: &[Kind], entry: Entry<'_>) -> Part
-    requires { is_entry kinds.now entry.count entry.numbers.now ≡ true }
-    ensures { result ≡ packing.part_of kinds.now (entry_data entry.entry) }
-{
-    Part {
-        pane: entry.pane,
-        acc: Acc::from_parts(kinds, entry.count, entry.numbers).unwrap(),
-    }
-}
-
 /// The entries of a key group, put behind the parts that are there.
-fn push_parts(parts: &mut Vec<Part>, kinds: &[Kind], entries: &Entries) -> Result<(), AllocError>
-    requires { All (λ e. is_entry kinds.now e.total.count e.total.numbers ≡ true) entries.now.entries }
-    ensures { OnOk result (parts.new.items ≡ parts.old.items ++ map (packing.part_of kinds.now) entries.now.entries) }
+fn push_parts(parts: &mut Packing, kinds: &[Kind], entries: &Entries) -> Result<(), AllocError>
+    requires entries { All (λ e. is_entry kinds.now e.total.count e.total.numbers ≡ true) entries.now.entries }
+    requires kinds { parts.old.kinds ≡ kinds.now }
+    ensures { OnOk result (parts.new ≡ record parts.old { parts = parts.old.parts ++ map (packing.part_of kinds.now) entries.now.entries }) }
 {
-    parts.reserve(entries.len())?;
     for i in 0..entries.len() {
-        parts.push(part_of(kinds, entries.entry(i)))?;
+        parts.push_entry(entries.entry(i))?;
     }
     Ok(())
 }
 
-/// What stands in the windows of the key groups of a range.
-fn parts_within(alloc: Global, start: &Start, range: GroupRange) -> Result<Items<Part>, AllocError>
-    ensures { IfOk result (λ found. found ≡ said.parts_within range start.now) }
+/// Whether a key group is one of a range.
+fn is_within(group: u16, range: GroupRange) -> bool
+    ensures { result ≡ said.is_group_of range group }
 {
-    let mut found = Vec::new(alloc);
+    let number = u32::from(group);
+    range.first <= number && number <= range.last
+}
+
+/// How many entries the key groups of a range have.
+fn count_within(start: &Start, range: GroupRange) -> usize {
+    let mut count: usize = 0;
     for group in start.groups() {
-        let number = u32::from(group.group);
-        if range.first <= number && number <= range.last {
-            push_parts(&mut found, start.kinds(), &group.entries)?;
+        if is_within(group.group, range) {
+            count = count.saturating_add(group.entries.len());
         }
     }
-    Ok(Items::from_vec(found))
+    count
+}
+
+/// What stands in the windows of the key groups of a range. Room is made for all of it first.
+fn parts_within(alloc: Global, start: &Start, range: GroupRange) -> Result<PackedParts, AllocError>
+    ensures { IfOk result (λ found. found ≡ said.parts_within range start.now) }
+{
+    let kinds = start.kinds();
+    let mut found = Packing::new(alloc, Vec::from_slice(alloc, kinds)?);
+    found.reserve(count_within(start, range))?;
+    for group in start.groups() {
+        if is_within(group.group, range) {
+            push_parts(&mut found, kinds, &group.entries)?;
+        }
+    }
+    Ok(PackedParts::from_packing(found))
 }
 
 /// The part of a start that a task begins with.

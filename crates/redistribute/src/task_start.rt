@@ -1,7 +1,7 @@
 //! What a task begins with.
 
+use packed_parts::PackedParts;
 use plain_data::Items;
-use window_state::Part;
 
 /// A partition of a source, and where a task begins to read it.
 #[derive(Clone, Copy, Debug, PartialEq, Eq)]
@@ -20,6 +20,6 @@ pub enum TaskStart {
     Source(Items<PartitionStart>),
     Chain,
     /// Of the window: what stands in the panes of the task's key groups.
-    Window(Items<Part>),
+    Window(PackedParts),
     Sink,
 }

@@ -1,4 +1,5 @@
 pub mod EntriesData
+pub mod Numbers
 pub mod EntriesView
 pub mod Fields
 pub mod Layout

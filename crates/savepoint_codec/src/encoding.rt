@@ -6,9 +6,11 @@ ghost use Rattle.byte_fields.specs.Fields.{i128_field};
 ghost use Rattle.savepoint_codec.specs.EntriesView.{entry_data};
 ghost use Rattle.savepoint_codec.specs.Fields.{partition_field, partitions_field, source_field, sources_field, kind_code, kind_field, kinds_field, pane_field, entry_field, entries_field, group_field, groups_field};
 ghost use Rattle.savepoint_codec.specs.Layout.{record_field, front_field, front_of, fields, parts_of, unindexed_bytes};
+ghost use Rattle.savepoint_codec.specs.Numbers.{numbers_of};
 ghost use Rattle.savepoint_codec.specs.Writing.{HasFewPartitions, IsOfKinds, AreOfKinds, IsShort, entry_bytes};
 
 use crate::entries::{Entries, Entry};
+use crate::numbers::Numbers;
 use crate::savepoint::{Contents, SavedGroup, SavedPartition, SavedSource, Savepoint};
 use aggregates::Kind;
 use byte_fields::{put_bytes, put_i64, put_i128, put_u8, put_u16, put_u64};
@@ -117,13 +119,31 @@ fn put_pane(out: &mut Vec<u8>, pane: Pane) -> Result<(), AllocError>
     put_i64(out, pane.key)
 }
 
-fn put_numbers(out: &mut Vec<u8>, numbers: &[i128]) -> Result<(), AllocError>
+fn put_narrow_numbers(out: &mut Vec<u8>, numbers: &[i64]) -> Result<(), AllocError>
+    ensures { OnOk result (out.new.items ≡ out.old.items ++ flat_map i128_field.spell numbers.now) }
+{
+    for number in numbers {
+        put_i128(out, *number as i128)?;
+    }
+    Ok(())
+}
+
+fn put_wide_numbers(out: &mut Vec<u8>, numbers: &[i128]) -> Result<(), AllocError>
     ensures { OnOk result (out.new.items ≡ out.old.items ++ flat_map i128_field.spell numbers.now) }
 {
     for number in numbers {
         put_i128(out, *number)?;
     }
     Ok(())
+}
+
+fn put_numbers(out: &mut Vec<u8>, numbers: Numbers<'_>) -> Result<(), AllocError>
+    ensures { OnOk result (out.new.items ≡ out.old.items ++ flat_map i128_field.spell (numbers_of numbers.entry)) }
+{
+    match numbers {
+        Numbers::Narrow(numbers) => put_narrow_numbers(out, numbers),
+        Numbers::Wide(numbers) => put_wide_numbers(out, numbers),
+    }
 }
 
 fn put_entry(out: &mut Vec<u8>, entry: Entry<'_>) -> Result<(), AllocError>

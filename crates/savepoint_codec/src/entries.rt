@@ -1,7 +1,8 @@
 //! What stands in the panes of a key group, in little memory.
 
-ghost use Rattle.std.specs.Prelude.{◌≡◌, ◌+◌, ◌<◌, ◌≤◌, take, drop, ◌++◌, ◌∷◌, [], length, slice_get, Some, OnOk, OnErr};
+ghost use Rattle.std.specs.Prelude.{◌≡◌, ◌<◌, ◌++◌, ◌∷◌, [], length, slice_get, Some, OnOk, OnErr};
 
+use crate::numbers::{NumberList, Numbers};
 use plan_model::Pane;
 use std::alloc::{AllocError, Global};
 use std::marker::Model;
@@ -18,23 +19,16 @@ struct Head {
 pub struct Entry<'a> {
     pub pane: Pane,
     pub count: u64,
-    pub numbers: &'a [i128],
+    pub numbers: Numbers<'a>,
 }
 
-/// Entries in order, with as many numbers each. They take as much memory as their bytes in a savepoint.
+/// Entries in order, with as many numbers each. They take no more memory than their bytes in a savepoint.
 #[derive(Debug, Drop)]
 pub struct Entries {
+    alloc: Global,
     width: usize,
     heads: Vec<Head>,
-    numbers: Vec<i128>,
-}
-
-/// So many numbers from a place on.
-fn part(numbers: &[i128], from: usize, width: usize) -> &[i128]
-    requires { from + width ≤ length numbers.now }
-    ensures { result.now ≡ take width (drop from numbers.now) }
-{
-    &numbers[from..from + width]
+    numbers: NumberList,
 }
 
 impl Model for Entries {
@@ -50,15 +44,17 @@ impl Model for Entries {
 
 impl Entries {
     ghost use Rattle.savepoint_codec.specs.EntriesView.{entry_data};
+    ghost use Rattle.savepoint_codec.specs.Numbers.{numbers_of};
 
     /// No entries, each with so many numbers.
     pub fn new(alloc: Global, width: usize) -> Entries
         ensures { result ≡ record { width = width; entries = [] } }
     {
         Entries {
+            alloc,
             width,
             heads: Vec::new(alloc),
-            numbers: Vec::new(alloc),
+            numbers: NumberList::new(alloc),
         }
     }
 
@@ -71,8 +67,7 @@ impl Entries {
         ensures { self.new ≡ self.old }
     {
         self.heads.reserve_exact(additional)?;
-        self.numbers
-            .reserve_exact(additional.saturating_mul(self.width))
+        self.numbers.reserve(additional.saturating_mul(self.width))
     }
 
     /// One entry more, after those that are there.
@@ -81,12 +76,12 @@ impl Entries {
     ///
     /// Only where memory runs out; then all is as it was.
     pub fn push(&mut self, entry: Entry<'_>) -> Result<(), AllocError>
-        requires { length entry.numbers.now ≡ self.old.width }
+        requires { length (numbers_of entry.numbers) ≡ self.old.width }
         ensures ok { OnOk result (self.new ≡ record self.old { entries = self.old.entries ++ entry_data entry.entry ∷ [] }) }
         ensures err { OnErr result (self.new ≡ self.old) }
     {
         self.heads.reserve(1)?;
-        self.numbers.extend_from_slice(entry.numbers)?;
+        self.numbers.extend(self.alloc, entry.numbers)?;
         self.heads.push_reserved(Head {
             pane: entry.pane,
             count: entry.count,
@@ -110,7 +105,7 @@ impl Entries {
         Entry {
             pane: head.pane,
             count: head.count,
-            numbers: part(&self.numbers, i * self.width, self.width),
+            numbers: self.numbers.part(i * self.width, self.width),
         }
     }
 }

@@ -9,6 +9,7 @@ ghost use Rattle.savepoint_codec.specs.Fields.{number_of_kind, pane_field, is_pa
 ghost use Rattle.plan_model.specs.declared.limits.TheConstants.{MOST_AGGREGATES, MOST_RECORDS};
 
 use crate::entries::{Entries, Entry};
+use crate::numbers::Numbers;
 use crate::savepoint::SavedGroup;
 use aggregates::Kind;
 use byte_fields::{FieldFault, ReadFault, read_i64, read_i128, read_u16, read_u64};
@@ -128,7 +129,7 @@ fn read_entry_onto<'a>(
     entries.push(Entry {
         pane,
         count,
-        numbers,
+        numbers: Numbers::Wide(numbers),
     })?;
     Ok((pane, rest))
 }

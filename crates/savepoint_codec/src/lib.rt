@@ -12,6 +12,7 @@ mod entries;
 mod fault;
 mod fields;
 mod groups;
+mod numbers;
 mod savepoint;
 
 /// Laws of the layout that the contracts cite.
@@ -22,4 +23,5 @@ pub use encoding::{encode, put_entry_list, put_front};
 pub use entries::{Entries, Entry};
 pub use fault::SaveFault;
 pub use groups::{entry_size, read_entry_list, read_group_number};
+pub use numbers::Numbers;
 pub use savepoint::{Contents, Front, SavedGroup, SavedPartition, SavedSource, Savepoint};

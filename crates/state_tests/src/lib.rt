@@ -1,8 +1,10 @@
-//! Tests of the hashes of panes, of the bytes of savepoints, and of the codes of the state's faults.
+//! Tests of the hashes of panes, of the entries and the bytes of savepoints, and of the codes of the state's faults.
 #![tactic(auto)]
 
 #[cfg(test)]
 mod chance;
+#[cfg(test)]
+mod entries;
 #[cfg(test)]
 mod hashes;
 #[cfg(test)]

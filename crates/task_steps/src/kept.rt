@@ -1,17 +1,14 @@
 //! What a task keeps of itself for a savepoint while it goes on.
 
-ghost use Rattle.std.specs.Prelude.{◌≡◌, IfOk, map, option_map};
+ghost use Rattle.std.specs.Prelude.{◌≡◌, IfOk, option_map};
 ghost use Rattle.std.specs.FinMap.{entries};
-ghost use Rattle.aggregates.specs.Kinds.{kind_of};
 ghost use Rattle.window_state.specs.Parts.{entries_of};
-ghost use Rattle.task_steps.specs.Keeping.{kept_value, kinds_in, ArePartsOf};
+ghost use Rattle.task_steps.specs.Keeping.{kept_value, ArePartsOf};
 ghost use Rattle.task_steps.specs.TaskData.{windows_in};
 
-use aggregates::Kind;
 use packed_parts::PackedParts;
-use plan_model::Aggregate;
 use std::alloc::{AllocError, Global};
-use window_state::{Part, WindowState};
+use window_state::WindowState;
 
 /// How far a source had read its partitions, the watermarks, what stood in the windows, and how many rows the sink had.
 #[derive(Drop)]
@@ -23,43 +20,20 @@ pub(crate) struct Kept {
 }
 
 /// What stands in the windows of a task, if it has any, in the order of start and key.
-pub(crate) fn parts_of(alloc: Global, window: &Option<WindowState>) -> Result<Vec<Part>, AllocError>
-    ensures says { IfOk result (λ parts. entries_of parts.items ≡ entries (windows_in window.now)) }
-    ensures sound { IfOk result (λ parts. ArePartsOf (option_map (λ w. w.window) window.now) parts.items) }
+pub(crate) fn parts_of(
+    alloc: Global,
+    window: &Option<WindowState>,
+) -> Result<PackedParts, AllocError>
+    ensures says { IfOk result (λ parts. entries_of parts ≡ entries (windows_in window.now)) }
+    ensures sound { IfOk result (λ parts. ArePartsOf (option_map (λ w. w.window) window.now) parts) }
 {
     let Some(window) = window else {
-        return Ok(Vec::new(alloc));
+        return Ok(PackedParts::empty(alloc));
     };
     match window.parts(alloc) {
         Ok(parts) => Ok(parts),
         Err(_) => Err(AllocError),
     }
-}
-
-/// The kind of each aggregate.
-fn kinds_of(alloc: Global, aggregates: &[Aggregate]) -> Result<Vec<Kind>, AllocError>
-    ensures { IfOk result (λ kinds. kinds.items ≡ map kind_of aggregates.now) }
-{
-    aggregates.iter().map(|a| Kind::of(*a)).collect(alloc)
-}
-
-/// The kind of each number in the windows of a task, if it has any.
-fn window_kinds(alloc: Global, window: &Option<WindowState>) -> Result<Vec<Kind>, AllocError>
-    ensures { IfOk result (λ kinds. kinds.items ≡ kinds_in (option_map (λ w. w.window) window.now)) }
-{
-    match window {
-        Some(window) => kinds_of(alloc, window.window().aggregates.as_slice()),
-        None => Ok(Vec::new(alloc)),
-    }
-}
-
-/// What stands in the windows of a task, packed.
-fn packed_of(alloc: Global, window: &Option<WindowState>) -> Result<PackedParts, AllocError>
-    ensures says { IfOk result (λ parts. entries_of parts ≡ entries (windows_in window.now)) }
-    ensures sound { IfOk result (λ parts. ArePartsOf (option_map (λ w. w.window) window.now) parts) }
-{
-    let parts = parts_of(alloc, window)?;
-    PackedParts::new(alloc, window_kinds(alloc, window)?, &parts)
 }
 
 impl Kept {
@@ -82,7 +56,7 @@ impl Kept {
         Ok(Kept {
             offsets: Vec::from_slice(alloc, offsets)?,
             marks: Vec::from_slice(alloc, marks)?,
-            parts: packed_of(alloc, window)?,
+            parts: parts_of(alloc, window)?,
             rows: rows as u64,
         })
     }

@@ -12,9 +12,9 @@ ghost use Rattle.task_steps.specs.Seen.{seen_at, IsSeen};
 use crate::collecting::first_rows;
 use crate::kept::{Kept, parts_of};
 use crate::task::Task;
+use packed_parts::PackedParts;
 use plan_model::Row;
 use std::alloc::{AllocError, Global};
-use window_state::Part;
 
 /// When a task is looked at.
 #[derive(Clone, Copy, Debug, PartialEq, Eq)]
@@ -65,13 +65,13 @@ impl Task {
     /// # Errors
     ///
     /// Where memory runs out, and of now in a task that has failed for want of it.
-    pub fn parts(&self, alloc: Global, at: Moment) -> Result<Vec<Part>, AllocError>
-        ensures says { IfOk result (λ parts. entries_of parts.items ≡ entries (seen_at at self.now.state).windows) }
-        ensures sound { IfOk result (λ parts. ArePartsOf self.now.window parts.items) }
+    pub fn parts(&self, alloc: Global, at: Moment) -> Result<PackedParts, AllocError>
+        ensures says { IfOk result (λ parts. entries_of parts ≡ entries (seen_at at self.now.state).windows) }
+        ensures sound { IfOk result (λ parts. ArePartsOf self.now.window parts) }
         ensures operator { self.now.setup.role ≡ role.Window → (w : WindowSpec) × (self.now.window ≡ Some w) }
     {
         match self.kept(at) {
-            Some(kept) => kept.parts.unpack(alloc),
+            Some(kept) => kept.parts.copy(alloc),
             None => parts_of(alloc, &self.window),
         }
     }

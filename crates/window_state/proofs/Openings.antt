@@ -16,7 +16,7 @@ use Rattle.plan_model.specs.Windows.{IsTime, is_start, is_within, is_window_of}
 use Rattle.plan_model.specs.Rows.{is_due}
 use Rattle.plan_model.proofs.Facts.{is_reached, reached_more, reached_none, reached_all, remainder, pos_same}
 use Rattle.window_slices.specs.Slices.{last_start_by, slice_start}
-use Rattle.window_state.specs.declared.parts.Part.{Part}
+use Rattle.packed_parts.specs.declared.part.Part.{Part}
 use Rattle.window_slices.specs.declared.key_slices.Slice.{Slice}
 use Rattle.window_state.specs.Open.{has_open, OpensOnly}
 use Rattle.window_slices.specs.KeySlices.{has_start, has_slice}

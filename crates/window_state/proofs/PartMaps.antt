@@ -15,7 +15,7 @@ use Rattle.plan_model.specs.Aggregates.{Aggregated}
 use Rattle.plan_model.specs.Rows.{pane_cmp}
 use Rattle.aggregates.specs.declared.kind.Kind.{Kind}
 use Rattle.aggregates.specs.Kinds.{AccData}
-use Rattle.window_state.specs.declared.parts.Part.{Part}
+use Rattle.packed_parts.specs.declared.part.Part.{Part}
 use Rattle.window_state.specs.Windows.{acc_at, has_pane, is_pane}
 use Rattle.window_state.specs.Open.{has_open}
 use Rattle.window_state.specs.Parts.{parts_in, panes_in, accs_in, entries_of}

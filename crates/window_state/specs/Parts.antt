@@ -5,7 +5,7 @@ use Rattle.plan_model.specs.declared.spec.Pane.{Pane}
 use Rattle.plan_model.specs.Aggregates.{Aggregated}
 use Rattle.aggregates.specs.declared.kind.Kind.{Kind}
 use Rattle.aggregates.specs.Kinds.{AccData, kind_of}
-use Rattle.window_state.specs.declared.parts.Part.{Part}
+use Rattle.packed_parts.specs.declared.part.Part.{Part}
 use Rattle.window_state.specs.Windows.{IsStart}
 
 -- the part of what stands in a pane, by the operator's kinds

@@ -6,7 +6,7 @@ mod fault;
 mod firing;
 mod having;
 mod opened;
-mod parts;
+pub mod parts;
 mod places;
 mod state;
 mod windows;

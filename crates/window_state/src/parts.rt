@@ -8,31 +8,27 @@ ghost use Rattle.window_state.specs.Parts.{entries_of, IsPartOf};
 
 use crate::opened::all_panes;
 use crate::windows::Windows;
-use aggregates::{Acc, Kind};
-use plan_model::{Aggregate, Pane};
+use aggregates::Kind;
+pub use packed_parts::Part;
+use packed_parts::{PackedParts, Packing};
+use plan_model::Aggregate;
 use std::alloc::{AllocError, Global};
 
-/// What stands in one pane of a window state.
-#[derive(Clone, Copy, Debug)]
-pub struct Part {
-    pub pane: Pane,
-    pub acc: Acc,
-}
-
 /// What stands in each pane, in order.
-pub(crate) fn parts_of(alloc: Global, windows: &Windows) -> Result<Vec<Part>, AllocError>
-    ensures says { IfOk result (λ parts. entries_of parts.items ≡ entries windows.now.totals) }
-    ensures sound { IfOk result (λ parts. All (IsPartOf windows.now.window) parts.items) }
+pub(crate) fn parts_of(alloc: Global, windows: &Windows) -> Result<PackedParts, AllocError>
+    ensures says { IfOk result (λ parts. entries_of parts ≡ entries windows.now.totals) }
+    ensures sound { IfOk result (λ parts. All (IsPartOf windows.now.window) parts) }
 {
     let panes = all_panes(alloc, &windows.opened)?;
-    let mut parts = Vec::with_capacity(alloc, windows.places.len())?;
     let kinds = kinds_of(alloc, windows.window().aggregates.as_slice())?;
+    let mut parts = Packing::new(alloc, kinds);
+    parts.reserve(panes.len())?;
     for pane in &panes {
-        if let Some(acc) = windows.acc(alloc, kinds.as_slice(), pane)? {
-            parts.push(Part { pane: *pane, acc })?;
+        if let Some(acc) = windows.acc(alloc, parts.kinds(), pane)? {
+            parts.push(&Part { pane: *pane, acc })?;
         }
     }
-    Ok(parts)
+    Ok(PackedParts::from_packing(parts))
 }
 
 /// The kind of each aggregate.

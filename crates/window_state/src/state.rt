@@ -14,9 +14,10 @@ ghost use Rattle.window_state.specs.Parts.{entries_of, IsPartOf};
 use crate::adding::add_batch;
 use crate::fault::StateFault;
 use crate::firing::{remove_due, rows_of};
-use crate::parts::{Part, parts_of};
+use crate::parts::parts_of;
 use crate::windows::Windows;
 use columns::Batch;
+use packed_parts::PackedParts;
 use pane_hashes::HashKeys;
 use plan_model::{Row, WindowSpec};
 use std::alloc::Global;
@@ -135,9 +136,9 @@ impl WindowState {
     /// # Errors
     ///
     /// `Failed` after an `add` that found no memory; `Memory`.
-    pub fn parts(&self, alloc: Global) -> Result<Vec<Part>, StateFault>
-        ensures says { IfOk result (λ parts. entries_of parts.items ≡ map.entries self.now.windows) }
-        ensures sound { IfOk result (λ parts. All (IsPartOf self.now.window) parts.items) }
+    pub fn parts(&self, alloc: Global) -> Result<PackedParts, StateFault>
+        ensures says { IfOk result (λ parts. entries_of parts ≡ map.entries self.now.windows) }
+        ensures sound { IfOk result (λ parts. All (IsPartOf self.now.window) parts) }
         ensures failed { IsErrOf result StateFault.Failed ↔ (self.now.has_failed ≡ true) }
     {
         if self.has_failed {
@@ -156,7 +157,7 @@ impl WindowState {
         alloc: Global,
         keys: HashKeys,
         window: &WindowSpec,
-        parts: &[Part],
+        parts: &PackedParts,
     ) -> Result<WindowState, StateFault>
         requires operator { IsOperator window.now }
         requires parts { All (IsPartOf window.now) parts.now }

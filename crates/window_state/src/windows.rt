@@ -17,10 +17,10 @@ ghost use Rattle.window_state.specs.Windows.{AreWhole, IsOperator, CanAggregate,
 ghost use Rattle.window_state.specs.Parts.{accs_in, entries_of, panes_in, IsPartOf};
 
 use crate::opened::{OpenPanes, open_new, open_pane};
-use crate::parts::Part;
 use crate::places::Places;
 use aggregates::{Acc, Kind};
 use columns::Batch;
+use packed_parts::PackedParts;
 use pane_hashes::HashKeys;
 use plan_model::{Numbers, Pane, WindowSpec};
 use std::alloc::{AllocError, Global};
@@ -70,7 +70,7 @@ impl Windows {
         ensures window { result.window ≡ window }
         ensures none { result.totals ≡ map_of.empty }
     {
-        let from = first_from(&window, &[]);
+        let from = earliest_from(&window);
         Windows {
             alloc,
             from,
@@ -85,7 +85,7 @@ impl Windows {
         alloc: Global,
         keys: HashKeys,
         window: WindowSpec,
-        parts: &[Part],
+        parts: &PackedParts,
     ) -> Result<Windows, AllocError>
         requires operator { IsOperator window }
         requires parts { All (IsPartOf window) parts.now }
@@ -225,19 +225,27 @@ impl Windows {
     }
 }
 
-/// From where on the windows of an operator are made of slices, where parts stand in others already.
-fn first_from(w: &WindowSpec, parts: &[Part]) -> i128
+/// From where on the windows of an operator are made of slices, where nothing stands in any.
+fn earliest_from(w: &WindowSpec) -> i128
+    requires { IsOperator w.now }
+    ensures { AreWhole w.now result }
+{
+    if w.size.rem_euclid(w.slide) != 0 || w.size / w.slide < FEWEST_WINDOWS {
+        NOWHERE
+    } else {
+        i64::MIN as i128
+    }
+}
+
+/// The same, where parts stand in some already.
+fn first_from(w: &WindowSpec, parts: &PackedParts) -> i128
     requires operator { IsOperator w.now }
     ensures parts { All (λ part. part.pane.start <ℤ result) parts.now }
     ensures whole { AreWhole w.now result }
 {
-    let mut from = if w.size.rem_euclid(w.slide) != 0 || w.size / w.slide < FEWEST_WINDOWS {
-        NOWHERE
-    } else {
-        i64::MIN as i128
-    };
-    for part in parts {
-        from = from.max(part.pane.start as i128 + 1);
+    let mut from = earliest_from(w);
+    for i in 0..parts.len() {
+        from = from.max(parts.part(i).pane.start as i128 + 1);
     }
     from
 }
@@ -258,7 +266,7 @@ fn places_of(
     alloc: Global,
     keys: HashKeys,
     window: WindowSpec,
-    parts: &[Part],
+    parts: &PackedParts,
 ) -> Result<Places, AllocError>
     requires operator { IsOperator window }
     requires parts { All (IsPartOf window) parts.now }
@@ -266,7 +274,8 @@ fn places_of(
     ensures first { IfOk result (λ places. (q : PaneValue) → acc_at places.entries q ≡ acc_at (accs_in parts.now) q) }
 {
     let mut places = Places::with_capacity(alloc, keys, window, parts.len())?;
-    for part in parts {
+    for i in 0..parts.len() {
+        let part = parts.part(i);
         if !places.contains(&part.pane) {
             places.push_acc(part.pane, &part.acc)?;
         }
@@ -275,12 +284,12 @@ fn places_of(
 }
 
 /// The panes of the parts, by their starts.
-fn open_of(alloc: Global, parts: &[Part]) -> Result<OpenPanes, AllocError>
+fn open_of(alloc: Global, parts: &PackedParts) -> Result<OpenPanes, AllocError>
     ensures { IfOk result (λ opened. (q : PaneValue) → has_open opened.entries q ≡ has_pane (panes_in parts.now) q) }
 {
     let mut opened = BTreeMap::new(alloc);
-    for part in parts {
-        open_pane(alloc, &mut opened, part.pane)?;
+    for i in 0..parts.len() {
+        open_pane(alloc, &mut opened, parts.part(i).pane)?;
     }
     Ok(opened)
 }

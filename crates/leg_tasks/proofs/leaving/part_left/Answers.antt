@@ -15,6 +15,6 @@ returns-in_ok-parts-in-Window-clause-says c =
     let s = state_at c.args.at c.args.task.now.state in
     let kinds = kinds_in c.args.task.now.window in
     let role_is : role.Window ≡ task_role l.stages c.args.number = search rules in
-    let parts = c.in_ok-parts-in-Window.field-0.items in
-    ap Window (c.from_vec.ensures ∙ parts_are c.args.task.now.window parts (entries s.windows) c.in_ok-parts-in-Window.ensures.sound c.in_ok-parts-in-Window.ensures.says)
+    let parts = c.in_ok-parts-in-Window.field-0 in
+    ap Window (parts_are c.args.task.now.window parts (entries s.windows) c.in_ok-parts-in-Window.ensures.sound c.in_ok-parts-in-Window.ensures.says)
     ∙ ap (λ r. with_windows (parts_left kinds s.windows) (start_of_role r (starts_left (partitions_of l.partitions l.stages c.args.number) s))) role_is

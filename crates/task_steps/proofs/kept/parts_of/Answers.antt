@@ -6,4 +6,4 @@ use Rattle.task_steps.proofs.Keeping.{none_there}
 use Rattle.task_steps.proofs.kept.parts_of.Goals as goal
 
 pub returns-in_default-clause-says : goal.returns-in_default-clause-says
-returns-in_default-clause-says c = ap entries_of c.new.ensures.items ∙ none_there ∙ ap (λ w. entries (windows_in w)) (sym c.in_default.is)
+returns-in_default-clause-says c = ap entries_of c.empty.ensures ∙ none_there ∙ ap (λ w. entries (windows_in w)) (sym c.in_default.is)

@@ -3,8 +3,8 @@ use Rattle.std.specs.List.{All}
 use Rattle.window_state.specs.Windows.{AreWhole}
 use Rattle.window_state.proofs.windows.first_from.Given as goal
 
-abbrev pub invariant-loop-part : goal.invariant-loop-part
-invariant-loop-part l = record {
-  parts : All (λ part. part.pane.start <ℤ l.from) (take l.part-index l.parts);
+abbrev pub invariant-loop-i : goal.invariant-loop-i
+invariant-loop-i l = record {
+  parts : All (λ part. part.pane.start <ℤ l.from) (take l.i l.parts);
   whole : AreWhole l.w l.from;
 }

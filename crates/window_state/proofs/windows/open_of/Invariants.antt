@@ -5,5 +5,5 @@ use Rattle.window_state.specs.Parts.{panes_in}
 use Rattle.window_state.specs.Windows.{has_pane}
 use Rattle.window_state.proofs.windows.open_of.Given as goal
 
-abbrev pub invariant-loop-part : goal.invariant-loop-part
-invariant-loop-part l = (q : Pane) → has_open l.opened.entries q ≡ has_pane (panes_in (take l.part-index l.parts)) q
+abbrev pub invariant-loop-i : goal.invariant-loop-i
+invariant-loop-i l = (q : Pane) → has_open l.opened.entries q ≡ has_pane (panes_in (take l.i l.parts)) q

@@ -2,6 +2,7 @@ use Rattle.std.proofs.Common.{◌≡◌, ◌∷◌, [], ◌++◌, List, sym, ◌
 use Rattle.savepoint_codec.specs.declared.entries.Head.{Head}
 use Rattle.savepoint_codec.specs.EntriesData.{EntryData, EntriesData}
 use Rattle.savepoint_codec.specs.EntriesView.{entries_of, entry_data}
+use Rattle.savepoint_codec.specs.Numbers.{list_of, numbers_of}
 use Rattle.savepoint_codec.proofs.EntriesFacts.{entries_of-append, keeps_width}
 use Rattle.savepoint_codec.proofs.entries.Entries.push.Goals as goal
 
@@ -11,7 +12,7 @@ invariant_of-self-2 c =
     let head : Head = record { pane = c.args.entry.pane; count = c.args.entry.count } in
     let heads = c.push_reserved.ensures.items ∙ ap (λ (hs : List Head). hs ++ head ∷ []) c.in_ok-reserve.ensures.items in
     let same = c.requires ∙ sym (ap (λ (v : EntriesData). v.width) c.self.view_is) in
-    keeps_width e.width e.heads.items _ e.numbers.items _ head c.args.entry.numbers.now heads c.in_ok-extend_from_slice.ensures.items same c.self.invariant
+    keeps_width e.width e.heads.items _ (list_of e.numbers) _ head (numbers_of c.args.entry.numbers) heads c.in_ok-extend.ensures.ok same c.self.invariant
 
 pub returns-clause-ok : goal.returns-clause-ok
 returns-clause-ok c =
@@ -20,6 +21,6 @@ returns-clause-ok c =
     let head : Head = record { pane = c.args.entry.pane; count = c.args.entry.count } in
     let heads = c.push_reserved.ensures.items ∙ ap (λ (hs : List Head). hs ++ head ∷ []) c.in_ok-reserve.ensures.items in
     let same = c.requires ∙ sym (ap (λ (v : EntriesData). v.width) c.self.view_is) in
-    let grown : entries_of e.width c.push_reserved.new.self.items c.extend_from_slice.new.self.items ≡ entries_of e.width e.heads.items e.numbers.items ++ x ∷ [] =
-    rw (heads, c.in_ok-extend_from_slice.ensures.items) (entries_of-append e.width e.heads.items e.numbers.items head c.args.entry.numbers.now c.self.invariant same) in
+    let grown : entries_of e.width c.push_reserved.new.self.items (list_of c.extend.new.self) ≡ entries_of e.width e.heads.items (list_of e.numbers) ++ x ∷ [] =
+    rw (heads, c.in_ok-extend.ensures.ok) (entries_of-append e.width e.heads.items (list_of e.numbers) head (numbers_of c.args.entry.numbers) c.self.invariant same) in
     ap (λ (es : List EntryData). record { width = e.width; entries = es }) grown ∙ ap (λ (v : EntriesData). record v { entries = v.entries ++ x ∷ [] }) c.self.view_is

@@ -8,5 +8,5 @@ use Rattle.task_steps.proofs.kept.Kept.new.Goals as goal
 
 pub returns-clause-is : goal.returns-clause-is
 returns-clause-is c =
-    let windows : windows_of c.in_ok-packed_of.field-0 ≡ windows_in c.args.window.now = ap (from_entries {R = pane_cmp}) c.in_ok-packed_of.ensures.says ∙ from_its_entries (windows_in c.args.window.now) in
+    let windows : windows_of c.in_ok-parts_of.field-0 ≡ windows_in c.args.window.now = ap (from_entries {R = pane_cmp}) c.in_ok-parts_of.ensures.says ∙ from_its_entries (windows_in c.args.window.now) in
     λ j. record { offsets = c.in_ok-from_slice.ensures.items j; marks = c.in_ok-from_slice-2.ensures.items j; windows = windows j; rows = c.args.rows }

@@ -7,7 +7,7 @@ use Rattle.std.specs.Option.{is_some, option_map}
 use Rattle.std.proofs.lemmas.Int.{to_z-of_z}
 use Rattle.aggregates.specs.Kinds.{AccData}
 use Rattle.plan_model.specs.declared.spec.WindowSpec.{WindowSpec}
-use Rattle.window_state.specs.declared.parts.Part.{Part}
+use Rattle.packed_parts.specs.declared.part.Part.{Part}
 use Rattle.window_state.specs.Windows.{AreWhole, IsOperator, acc_at}
 use Rattle.window_state.specs.Parts.{accs_in, entries_of}
 use Rattle.window_state.specs.StateView.{IsWindowsInside, windows_view}

@@ -3,7 +3,7 @@ use Rattle.std.specs.Int.{w128}
 use Rattle.std.proofs.lemmas.Int.{to_z-of_z}
 use Rattle.byte_fields.specs.Fields.{i128_field}
 use Rattle.savepoint_codec.proofs.Spelled.{spelled_more}
-use Rattle.savepoint_codec.proofs.encoding.put_numbers.Goals as goal
+use Rattle.savepoint_codec.proofs.encoding.put_wide_numbers.Goals as goal
 
 pub loop-number-preserved : goal.loop-number-preserved
 loop-number-preserved c =

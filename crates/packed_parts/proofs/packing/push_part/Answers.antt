@@ -1,6 +1,6 @@
 use Rattle.std.proofs.Common.{ap, ◌∙◌, length}
 use Rattle.aggregates.proofs.Accs.{length-numbers}
-use Rattle.packed_parts.proofs.packed.push_part.Goals as goal
+use Rattle.packed_parts.proofs.packing.push_part.Goals as goal
 
 pub push-requires : goal.push-requires
 push-requires c =
