@@ -45,11 +45,10 @@ pub fn read_mark<'a>(magic: &[u8], bytes: &'a [u8]) -> Result<&'a [u8], FieldFau
 pub fn read_u8(bytes: &[u8]) -> Result<(u8, &[u8]), FieldFault>
     ensures { Reads (λ x. (x.0, x.1.now)) result (u8_field.read bytes.now) }
 {
-    if bytes.len() < 1 {
+    let Some((front, rest)) = bytes.split_first_chunk::<1>() else {
         return Err(FieldFault::Truncated);
-    }
-    let (front, rest) = bytes.split_at(1);
-    Ok((u8::from_be_bytes([front[0]]), rest))
+    };
+    Ok((u8::from_be_bytes(*front), rest))
 }
 
 /// A number from 1 to a bound, in a byte.
@@ -79,11 +78,10 @@ pub fn read_few(most: u8, bytes: &[u8]) -> Result<(u8, &[u8]), FieldFault>
 pub fn read_u16(bytes: &[u8]) -> Result<(u16, &[u8]), FieldFault>
     ensures { Reads (λ x. (x.0, x.1.now)) result (u16_field.read bytes.now) }
 {
-    if bytes.len() < 2 {
+    let Some((front, rest)) = bytes.split_first_chunk::<2>() else {
         return Err(FieldFault::Truncated);
-    }
-    let (front, rest) = bytes.split_at(2);
-    Ok((u16::from_be_bytes([front[0], front[1]]), rest))
+    };
+    Ok((u16::from_be_bytes(*front), rest))
 }
 
 /// A number of eight bytes.
@@ -95,14 +93,10 @@ pub fn read_u16(bytes: &[u8]) -> Result<(u16, &[u8]), FieldFault>
 pub fn read_u64(bytes: &[u8]) -> Result<(u64, &[u8]), FieldFault>
     ensures { Reads (λ x. (x.0, x.1.now)) result (u64_field.read bytes.now) }
 {
-    if bytes.len() < 8 {
+    let Some((front, rest)) = bytes.split_first_chunk::<8>() else {
         return Err(FieldFault::Truncated);
-    }
-    let (front, rest) = bytes.split_at(8);
-    let number = u64::from_be_bytes([
-        front[0], front[1], front[2], front[3], front[4], front[5], front[6], front[7],
-    ]);
-    Ok((number, rest))
+    };
+    Ok((u64::from_be_bytes(*front), rest))
 }
 
 /// A number of eight bytes in two's complement.

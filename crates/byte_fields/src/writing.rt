@@ -70,8 +70,8 @@ fn put_u128(out: &mut Vec<u8>, number: u128) -> Result<(), AllocError>
 {
     let high = (number / (1 << 64)) as u64;
     let low = (number % (1 << 64)) as u64;
-    put_u64(out, high)?;
-    put_u64(out, low)
+    let halves = [high.to_be_bytes(), low.to_be_bytes()];
+    put_bytes(out, halves.as_flattened())
 }
 
 /// A number of sixteen bytes in two's complement.
