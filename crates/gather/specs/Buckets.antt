@@ -17,9 +17,12 @@ no_entries width = record { width = width; entries = [] }
 abbrev pub with_entry : EntriesData → EntryData → EntriesData
 with_entry b e = record { width = b.width; entries = b.entries ++ e ∷ [] }
 
--- the buckets with one pane more, in that of its key group
+-- the buckets with one entry more, in that of its key group
+abbrev pub with_pane : ℕ → List EntriesData → EntryData → List EntriesData
+with_pane max buckets e = slice_set buckets (key_group max e.pane.key) (with_entry (slice_index_or buckets (key_group max e.pane.key) (no_entries 0)) e)
+
 abbrev pub with_part : ℕ → List EntriesData → Part → List EntriesData
-with_part max buckets part = slice_set buckets (key_group max part.pane.key) (with_entry (slice_index_or buckets (key_group max part.pane.key) (no_entries 0)) (entry_of part))
+with_part max buckets part = with_pane max buckets (entry_of part)
 
 -- the buckets from a number on that have entries, as key groups
 abbrev pub groups_from : ℕ → List EntriesData → List SavedGroup

@@ -1,21 +1,23 @@
 //! What stands in the panes of tasks, by key group.
 
-ghost use Rattle.std.specs.Prelude.{◌≡◌, ℕ, ◌^◌, ◌<◌, ◌≤◌, ◌++◌, length, replicate, OnOk, IfOk};
+ghost use Rattle.std.specs.Prelude.{◌≡◌, ℕ, ◌^◌, ◌<◌, ◌≤◌, ◌++◌, length, replicate, FitsSigned, OnOk, IfOk};
+ghost use Rattle.std.specs.Int.{w64};
 ghost use Rattle.std.specs.List.{All, flat_map, fold};
 ghost use Rattle.std.specs.List.Sorted.{IsStrictlySortedBy};
 ghost use Rattle.plan_model.specs.Rows.{pane_cmp};
+ghost use Rattle.savepoint_codec.specs.EntriesView.{entry_data};
+ghost use Rattle.savepoint_codec.specs.Numbers.{numbers_of};
 ghost use Rattle.key_groups.specs.declared.limits.TheConstants.{MOST_GROUPS};
 ghost use Rattle.gather.specs.Saved.{entries_in_group, saved_group};
 ghost use Rattle.gather.specs.Saved as said;
 ghost use Rattle.gather.specs.Parts.{panes_in as panes_of, panes_in_group, windows_in};
-ghost use Rattle.gather.specs.Buckets.{HaveWidth, IsTyped, no_entries, with_part, groups_from};
+ghost use Rattle.gather.specs.Buckets.{HaveWidth, IsTyped, no_entries, with_pane, with_part, groups_from};
 
 use key_groups::{MaxParallelism, group_of};
-use packed_parts::{PackedParts, Part};
+use packed_parts::PackedParts;
 use plain_data::Items;
-use plan_model::Pane;
 use redistribute::TaskStart;
-use savepoint_codec::{Entries, Entry, Numbers, SavedGroup};
+use savepoint_codec::{Entries, Entry, SavedGroup};
 use std::alloc::{AllocError, Global};
 
 /// A bucket for each key group, with nothing in it.
@@ -36,20 +38,19 @@ fn empty_buckets(
 }
 
 /// What stands in a pane, put into the bucket of its key group.
-fn push_part(buckets: &mut [Entries], max: MaxParallelism, part: &Part) -> Result<(), AllocError>
+fn push_entry(
+    buckets: &mut [Entries],
+    max: MaxParallelism,
+    entry: Entry<'_>,
+) -> Result<(), AllocError>
     requires groups { length buckets.old ≡ max }
-    requires widths { HaveWidth (length part.now.acc.kinds) buckets.old }
-    ensures says { OnOk result (buckets.new ≡ with_part max buckets.old part.now) }
+    requires widths { HaveWidth (length (numbers_of entry.numbers)) buckets.old }
+    ensures says { OnOk result (buckets.new ≡ with_pane max buckets.old (entry_data entry.entry)) }
     ensures widths { OnOk result ((n : ℕ) → HaveWidth n buckets.old → HaveWidth n buckets.new) }
-    ensures typed { IsTyped part.now }
+    ensures typed { FitsSigned w64 entry.entry.pane.start × FitsSigned w64 entry.entry.pane.key }
 {
-    let Pane { start, key } = part.pane;
-    let group = group_of(key, max);
-    buckets[group as usize].push(Entry {
-        pane: Pane { start, key },
-        count: part.acc.count(),
-        numbers: Numbers::Wide(part.acc.numbers()),
-    })
+    let group = group_of(entry.pane.key, max);
+    buckets[group as usize].push(entry)
 }
 
 /// The panes of a task, put into the buckets of their key groups.
@@ -65,7 +66,7 @@ fn push_parts(
     ensures typed { OnOk result (All IsTyped parts.now) }
 {
     for i in 0..parts.len() {
-        push_part(buckets, max, &parts.part(i))?;
+        push_entry(buckets, max, parts.entry(i))?;
     }
     Ok(())
 }

@@ -1,1 +1,2 @@
 mod Sound
+pub mod Places

@@ -1,9 +1,14 @@
 //! Parts that were packed.
 
-ghost use Rattle.std.specs.Prelude.{◌≡◌, ◌<◌, [], length, slice_get, Some, IfOk};
+ghost use Rattle.std.specs.Prelude.{◌≡◌, ◌<◌, [], length, map, slice_get, Some, IfOk};
+ghost use Rattle.std.specs.List.{All};
+ghost use Rattle.aggregates.specs.Kinds.{IsAcc};
+ghost use Rattle.packed_parts.specs.Packing.{entry_of};
+ghost use Rattle.savepoint_codec.specs.EntriesView.{entry_data};
 
 use crate::packing::Packing;
 use crate::part::Part;
+use savepoint_codec::Entry;
 use std::alloc::{AllocError, Global};
 use std::marker::Model;
 
@@ -50,6 +55,15 @@ impl PackedParts {
         ensures { slice_get self.now i ≡ Some result }
     {
         self.packing.part(i)
+    }
+
+    /// Part i, counted from 0, as it is packed.
+    pub fn entry(&self, i: usize) -> Entry<'_>
+        requires { i < length self.now }
+        ensures is { slice_get (map entry_of self.now) i ≡ Some (entry_data result) }
+        ensures sound { All (λ part. IsAcc part.acc) self.now }
+    {
+        self.packing.entry(i)
     }
 
     /// The same again.

@@ -1,6 +1,6 @@
 //! Parts as they are packed.
 
-ghost use Rattle.std.specs.Prelude.{◌≡◌, true, ◌<◌, ◌++◌, ◌∷◌, [], length, slice_get, Some, OnOk, OnErr, IfOk};
+ghost use Rattle.std.specs.Prelude.{◌≡◌, true, ◌<◌, ◌++◌, ◌∷◌, [], length, map, slice_get, Some, OnOk, OnErr, IfOk};
 ghost use Rattle.std.specs.List.{All};
 ghost use Rattle.aggregates.specs.Kinds.{is_entry, IsAcc};
 ghost use Rattle.packed_parts.specs.Packing.{entry_of, part_of};
@@ -101,6 +101,15 @@ impl Packing {
         ensures kinds { result.acc.kinds ≡ self.now.kinds }
     {
         part_in(&self.kinds, self.entries.entry(i))
+    }
+
+    /// Part i, counted from 0, as it is packed.
+    pub fn entry(&self, i: usize) -> Entry<'_>
+        requires { i < length self.now.parts }
+        ensures is { slice_get (map entry_of self.now.parts) i ≡ Some (entry_data result) }
+        ensures sound { All (λ part. IsAcc part.acc) self.now.parts }
+    {
+        self.entries.entry(i)
     }
 
     /// One part more, after those that are there.

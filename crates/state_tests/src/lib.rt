@@ -1,4 +1,5 @@
-//! Tests of the hashes of panes, of the entries and the bytes of savepoints, and of the codes of the state's faults.
+//! Tests of the hashes of panes, of packed parts, of the entries and the bytes of savepoints, and of the codes of the
+//! state's faults.
 #![tactic(auto)]
 
 #[cfg(test)]
@@ -9,6 +10,8 @@ mod entries;
 mod hashes;
 #[cfg(test)]
 mod indexed;
+#[cfg(test)]
+mod packed;
 #[cfg(test)]
 mod savepoints;
 #[cfg(test)]

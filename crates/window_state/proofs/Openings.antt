@@ -24,10 +24,10 @@ use Rattle.window_state.specs.Windows.{is_pane}
 use Rattle.window_state.proofs.Slides.{held, positive_is, at_least_one, at_most, fits_window, fits_start}
 use Rattle.window_slices.proofs.Facts.{last_start, next_start, slices_start_at_boundaries, windows_have_whole_slices}
 
-abbrev narrow : ℤ → ℤ
+abbrev pub narrow : ℤ → ℤ
 narrow z = to_z w64 (of_z w64 z)
 
-abbrev wide : ℤ → ℤ
+abbrev pub wide : ℤ → ℤ
 wide z = to_z w128 (of_z w128 z)
 
 -- a number of less than 67 bits

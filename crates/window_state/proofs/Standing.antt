@@ -1,6 +1,6 @@
 -- What stands in the panes of a state, as a finite map.
-use Rattle.std.proofs.Common.{◌≡◌, ℤ, Bool, true, false, cond, ◌||◌, List, [], ◌∷◌, refl, sym, ap, subst, ◌∙◌, arith, Option, Some, None, Result, Ok, Err, FitsSigned, to_z, of_z}
-use Rattle.std.specs.Prelude.{int_lt, ◌<ℤ◌, IfOk, IfSome}
+use Rattle.std.proofs.Common.{◌≡◌, ℤ, Bool, true, false, cond, ◌||◌, List, [], ◌∷◌, refl, sym, ap, subst, ◌∙◌, arith, Option, Some, None, FitsSigned, to_z, of_z}
+use Rattle.std.specs.Prelude.{int_lt, ◌<ℤ◌, IfSome}
 use Rattle.std.specs.Int.{w64, w128}
 use Rattle.std.specs.Option.{is_some, option_map}
 use Rattle.std.specs.Global.{Vec}
@@ -165,10 +165,9 @@ pub acc_total : (w : WindowSpec) (p : Pane) (o : Option AccData) → IfSome o (�
 acc_total w p None is = refl
 acc_total w p (Some a) is = λ i. Some (record { kinds = is.kinds i; total = a.total })
 
-pub acc_of_place : {E : Type 0} (w : WindowSpec) (p : Pane) (r : Result (Option AccData) E) (t : Option Aggregated) (d : Option AccData) → IfOk r (λ found. found ≡ d) → IfOk r (λ found. IfSome found (λ a. IsPartOf w (record { pane = p; acc = a })))
-    → option_map (λ (a : AccData). a.total) d ≡ t → IfOk r (λ found. found ≡ option_map (acc_with w) t)
-acc_of_place w p (Err e) t d is part total = tt
-acc_of_place w p (Ok o) t d is part total = acc_total w p o part ∙ ap (λ x. option_map (acc_with w) (option_map (λ (a : AccData). a.total) x)) is ∙ ap (option_map (acc_with w)) total
+pub acc_of_place : (w : WindowSpec) (p : Pane) (o : Option AccData) (t : Option Aggregated) (d : Option AccData) → o ≡ d → IfSome o (λ a. IsPartOf w (record { pane = p; acc = a }))
+    → option_map (λ (a : AccData). a.total) d ≡ t → o ≡ option_map (acc_with w) t
+acc_of_place w p o t d is part total = acc_total w p o part ∙ ap (λ x. option_map (acc_with w) (option_map (λ (a : AccData). a.total) x)) is ∙ ap (option_map (acc_with w)) total
 
 -- ---- before any record has come
 

@@ -24,7 +24,7 @@ pub(crate) fn parts_of(alloc: Global, windows: &Windows) -> Result<PackedParts, 
     let mut parts = Packing::new(alloc, kinds);
     parts.reserve(panes.len())?;
     for pane in &panes {
-        if let Some(acc) = windows.acc(alloc, parts.kinds(), pane)? {
+        if let Some(acc) = windows.acc(parts.kinds(), pane) {
             parts.push(&Part { pane: *pane, acc })?;
         }
     }

@@ -11,12 +11,12 @@ ghost use Rattle.window_state.specs.Windows.{acc_at, is_pane, total_at, CanAggre
 ghost use Rattle.window_state.specs.Open.{has_key};
 ghost use Rattle.window_state.specs.Parts.{IsPartOf};
 
-use crate::words::{add_record, numbers_at, row_numbers_at, stride_of, write_acc, write_first};
+use crate::words::{add_record, copy_numbers, row_numbers_at, stride_of, write_acc, write_first};
 use aggregates::{Acc, Kind};
 use columns::Batch;
 use indexmap::IndexSet;
 use pane_hashes::HashKeys;
-use plan_model::{Numbers, Pane, WindowSpec};
+use plan_model::{MOST_AGGREGATES, Numbers, Pane, WindowSpec};
 use std::alloc::{AllocError, Global};
 use std::marker::Model;
 
@@ -119,19 +119,21 @@ impl Places {
     }
 
     /// The accumulator of a pane, if it has a place.
-    pub fn acc(&self, alloc: Global, kinds: &[Kind], pane: &Pane) -> Result<Option<Acc>, AllocError>
+    pub fn acc(&self, kinds: &[Kind], pane: &Pane) -> Option<Acc>
         requires { kinds.now ≡ map kind_of self.now.window.aggregates }
-        ensures acc { IfOk result (λ acc. acc ≡ acc_at self.now.entries pane.now) }
-        ensures part { IfOk result (λ acc. IfSome acc (λ a. IsPartOf self.now.window (record { pane = pane.now; acc = a }))) }
+        ensures acc { result ≡ acc_at self.now.entries pane.now }
+        ensures part { IfSome result (λ a. IsPartOf self.now.window (record { pane = pane.now; acc = a })) }
     {
         let Some(place) = self.panes.get_index_of(pane) else {
-            return Ok(None);
+            return None;
         };
         let at = place * self.stride;
         let count = self.words[at] as u64;
         let aggregates = self.window.aggregates.as_slice();
-        let numbers = numbers_at(alloc, self.words.as_slice(), at + 1, aggregates, count)?;
-        Ok(Some(Acc::of(kinds, count, numbers.as_slice())))
+        let mut room = [0; MOST_AGGREGATES];
+        let numbers = &mut room[..kinds.len()];
+        copy_numbers(self.words.as_slice(), at + 1, aggregates, count, numbers);
+        Some(Acc::of(kinds, count, numbers))
     }
 
     /// Brings a record in, if the pane has a place, and says whether it has one.

@@ -127,15 +127,15 @@ impl Windows {
     }
 
     /// The accumulator of a pane, if anything stands there.
-    pub fn acc(&self, alloc: Global, kinds: &[Kind], pane: &Pane) -> Result<Option<Acc>, AllocError>
+    pub fn acc(&self, kinds: &[Kind], pane: &Pane) -> Option<Acc>
         requires { kinds.now ≡ map kind_of self.now.window.aggregates }
-        ensures acc { IfOk result (λ acc. acc ≡ option_map (acc_with self.now.window) (map_of.get self.now.totals pane.now)) }
-        ensures part { IfOk result (λ acc. IfSome acc (λ a. IsPartOf self.now.window (record { pane = pane.now; acc = a }))) }
+        ensures acc { result ≡ option_map (acc_with self.now.window) (map_of.get self.now.totals pane.now) }
+        ensures part { IfSome result (λ a. IsPartOf self.now.window (record { pane = pane.now; acc = a })) }
     {
         if (pane.start as i128) < self.from {
-            return self.places.acc(alloc, kinds, pane);
+            return self.places.acc(kinds, pane);
         }
-        Ok(pane_total(&self.spans, self.places.window(), pane))
+        pane_total(&self.spans, self.places.window(), pane)
     }
 
     /// Brings a record in in a pane where nothing stands, of a window that begins before `from`. Where no memory is to
@@ -245,7 +245,7 @@ fn first_from(w: &WindowSpec, parts: &PackedParts) -> i128
 {
     let mut from = earliest_from(w);
     for i in 0..parts.len() {
-        from = from.max(parts.part(i).pane.start as i128 + 1);
+        from = from.max(parts.entry(i).pane.start as i128 + 1);
     }
     from
 }
@@ -289,7 +289,7 @@ fn open_of(alloc: Global, parts: &PackedParts) -> Result<OpenPanes, AllocError>
 {
     let mut opened = BTreeMap::new(alloc);
     for i in 0..parts.len() {
-        open_pane(alloc, &mut opened, parts.part(i).pane)?;
+        open_pane(alloc, &mut opened, parts.entry(i).pane)?;
     }
     Ok(opened)
 }

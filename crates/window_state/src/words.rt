@@ -72,24 +72,23 @@ fn number_at(words: &[i64], at: usize, aggregate: Aggregate, count: u64) -> i128
     }
 }
 
-/// The numbers of aggregates whose words begin at `at`, of so many records.
-pub(crate) fn numbers_at(
-    alloc: Global,
+/// The numbers of aggregates whose words begin at `at`, of so many records, put into places, one for each.
+pub(crate) fn copy_numbers(
     words: &[i64],
     at: usize,
     aggregates: &[Aggregate],
     count: u64,
-) -> Result<Vec<i128>, AllocError>
-    requires { at + width (map kind_of aggregates.now) ≤ length words.now }
-    ensures { IfOk result (λ numbers. numbers.items ≡ words_of.numbers_at count (map kind_of aggregates.now) words.now at) }
+    numbers: &mut [i128],
+)
+    requires words { at + width (map kind_of aggregates.now) ≤ length words.now }
+    requires room { length numbers.old ≡ length aggregates.now }
+    ensures { numbers.new ≡ words_of.numbers_at count (map kind_of aggregates.now) words.now at }
 {
-    let mut numbers = Vec::with_capacity(alloc, aggregates.len())?;
     let mut at = at;
-    for aggregate in aggregates {
-        numbers.push(number_at(words, at, *aggregate, count))?;
+    for (i, aggregate) in aggregates.iter().enumerate() {
+        numbers[i] = number_at(words, at, *aggregate, count);
         at += width_of(*aggregate);
     }
-    Ok(numbers)
 }
 
 /// The same, as the numbers of a row.

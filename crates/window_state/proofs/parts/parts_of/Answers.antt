@@ -30,13 +30,13 @@ loop-pane-preserved c =
     let rest = drop (c.loop-pane.pane-index + 1) items in
     let next : left ≡ p ∷ rest = drop_more items c.loop-pane.pane-index _ c.loop-pane-test.true in
     let parts = c.loop-pane.parts.parts in
-    elim c.match-branch-5.branch [
+    elim c.match-acc.branch [
       | in-Some+in_ok-push b ↦
           let a = b.in-Some.acc in
-          let is = sym b.in-Some.is ∙ c.in_ok-acc.ensures.acc in
+          let is = sym b.in-Some.is ∙ c.acc.ensures.acc in
           let there : f p ≡ Some a.total = with_acc w (f p) a is in
           let part : Part = record { pane = p; acc = a } in
-          let is_part : IsPartOf w part = subst (λ o. IfSome o (λ (x : AccData). IsPartOf w (record { pane = p; acc = x }))) b.in-Some.is c.in_ok-acc.ensures.part in
+          let is_part : IsPartOf w part = subst (λ o. IfSome o (λ (x : AccData). IsPartOf w (record { pane = p; acc = x }))) b.in-Some.is c.acc.ensures.part in
           record {
             kinds = ap (λ (r : PackingData). r.kinds) (b.parts-is ∙ b.in_ok-push.ensures.ok) ∙ c.loop-pane.invariant.kinds;
             same =
@@ -46,7 +46,7 @@ loop-pane-preserved c =
             sound = subst (λ (r : PackingData). All (IsPartOf w) r.parts) (sym (b.parts-is ∙ b.in_ok-push.ensures.ok)) (All-push (IsPartOf w) parts part c.loop-pane.invariant.sound is_part);
           }
       | in_default b ↦
-          let none : f p ≡ None = without_acc v.window (f p) (sym b.in_default.is ∙ c.in_ok-acc.ensures.acc) in
+          let none : f p ≡ None = without_acc v.window (f p) (sym b.in_default.is ∙ c.acc.ensures.acc) in
           record {
             kinds = ap (λ (r : PackingData). r.kinds) b.parts-is ∙ c.loop-pane.invariant.kinds;
             same =

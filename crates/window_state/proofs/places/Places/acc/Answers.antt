@@ -38,9 +38,8 @@ of-requires c =
     let counted = (c.self.invariant.sound c.args.pane.now (acc_in (kinds_of s.window) s.words.items at) st.here).counted in
     let count : nat_abs (to_z w64 (of_z w64 c.index.result.now)) ≡ count_of (word s.words.items at) =
     ap (λ z. nat_abs (to_z w64 (of_z w64 z))) here ∙ cast_is (word s.words.items at) (subst (FitsSigned w64) here read) counted in
-    let numbers = c.in_ok-numbers.ensures ∙ (λ t. numbers_at (count t) (map kind_of (c.as_slice-aggregates.ensures t)) (c.as_slice.ensures.value t) (at + 1)) in
+    let all = c.copy_numbers.ensures ∙ (λ t. numbers_at (count t) (map kind_of (c.as_slice-aggregates.ensures t)) (c.as_slice.ensures.value t) (at + 1)) in
     let kinds : c.args.kinds.now ≡ kinds_of s.window = c.requires ∙ ap (λ (v : PlacesData). kinds_of v.window) (sym c.self.view_is) in
-    let all = c.as_slice-2.ensures.value ∙ numbers in
     subst IsAcc (λ t. record { kinds = sym kinds t; total = record { count = sym count t; numbers = sym all t } }) (c.self.invariant.sound c.args.pane.now (acc_in (kinds_of s.window) s.words.items at) st.here)
 
 pub returns-clause-acc : goal.returns-clause-acc
@@ -53,9 +52,8 @@ returns-clause-acc c =
     let counted = (c.self.invariant.sound c.args.pane.now (acc_in (kinds_of s.window) s.words.items at) st.here).counted in
     let count : nat_abs (to_z w64 (of_z w64 c.index.result.now)) ≡ count_of (word s.words.items at) =
     ap (λ z. nat_abs (to_z w64 (of_z w64 z))) here ∙ cast_is (word s.words.items at) (subst (FitsSigned w64) here read) counted in
-    let numbers = c.in_ok-numbers.ensures ∙ (λ t. numbers_at (count t) (map kind_of (c.as_slice-aggregates.ensures t)) (c.as_slice.ensures.value t) (at + 1)) in
+    let all = c.copy_numbers.ensures ∙ (λ t. numbers_at (count t) (map kind_of (c.as_slice-aggregates.ensures t)) (c.as_slice.ensures.value t) (at + 1)) in
     let kinds : c.args.kinds.now ≡ kinds_of s.window = c.requires ∙ ap (λ (v : PlacesData). kinds_of v.window) (sym c.self.view_is) in
-    let all = c.as_slice-2.ensures.value ∙ numbers in
     ap Some (c.of.ensures ∙ (λ t. record { kinds = kinds t; total = record { count = count t; numbers = all t } }))
     ∙ sym (sym (ap (λ (v : PlacesData). acc_at v.entries c.args.pane.now) c.self.view_is) ∙ st.here)
 

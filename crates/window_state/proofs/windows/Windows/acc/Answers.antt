@@ -1,5 +1,4 @@
 use Rattle.std.proofs.Common.{◌≡◌, true, false, rules, ap, subst, ◌∙◌, FitsSigned}
-use Rattle.std.specs.Prelude.{IfOk}
 use Rattle.std.specs.FinMap.{get}
 use Rattle.std.specs.Int.{w64, w128}
 use Rattle.std.specs.Option.{option_map}
@@ -19,7 +18,7 @@ returns-then-pane-self-clause-acc c =
     let from : FitsSigned w128 s.from = search rules in
     let before = side_of p.start s.from true fits from c.if-pane-self.true in
     let window : s.places.window ≡ v.window = ap (λ (x : OpenWindows). x.window) c.self.view_is in
-    subst (λ (w : WindowSpec). IfOk c.acc.result (λ acc. acc ≡ option_map (acc_with w) (get v.totals p))) window
+    subst (λ (w : WindowSpec). c.acc.result ≡ option_map (acc_with w) (get v.totals p)) window
     (acc_of_place s.places.window p c.acc.result (get v.totals p) _ c.acc.ensures.acc c.acc.ensures.part (seen_before s v p c.self.invariant c.self.view_is before))
 
 pub returns-clause-acc : goal.returns-clause-acc
