@@ -11,6 +11,7 @@ use Rattle.dataflow_laws.specs.Compiled.{layout_to}
 use Rattle.redistribute.specs.StartData.{StartData}
 use Rattle.redistribute.specs.Laws.{opening_states}
 use Rattle.task_setups.specs.Legs.{counts_of}
+use Rattle.core_steps.specs.declared.given.Begun.{Begun}
 use Rattle.core_steps.specs.declared.given.Given.{Given}
 
 -- a plan, its input, the start that the leg begins at, a layout, the cuts at which the leg takes savepoints on its way,
@@ -25,6 +26,10 @@ pub record GivenData : Type 0 where
 
 abbrev pub given_data : Given → Until → GivenData
 given_data g until = record { plan = g.plan.now; input = g.input.now; start = g.start.now; layout = g.layout.now; saves = counts_of g.saves.now; until = until }
+
+-- the same of a leg whose tasks have begun
+abbrev pub begun_data : Begun → Until → GivenData
+begun_data b until = record { plan = b.plan.now; input = b.input.now; start = b.start.value; layout = b.layout.now; saves = counts_of b.saves.now; until = until }
 
 -- that of a leg that may be asked to stop
 abbrev pub given_asked : PlanData → InputData → StartData → LayoutData → GivenData

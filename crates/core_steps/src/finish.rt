@@ -4,15 +4,14 @@ ghost use Rattle.std.specs.Prelude.{◌≡◌, ◌<◌, ℕ, nat_lt, IfOk, lengt
 ghost use Rattle.dataflow_model.specs.Leg.Until.{ToEnd};
 ghost use Rattle.legs.specs.Stops.{until_in};
 ghost use Rattle.redistribute.specs.Begins.{IsFromNothing};
-ghost use Rattle.task_setups.specs.Legs.{counts_of};
 ghost use Rattle.task_steps.specs.TaskData.{TaskData};
-ghost use Rattle.core_steps.specs.Given.{given_data};
+ghost use Rattle.core_steps.specs.Given.{begun_data};
 ghost use Rattle.core_steps.specs.World.{state_at};
 ghost use Rattle.core_steps.specs.Finishing as leg;
 ghost use Rattle.core_steps.specs.Finishing.{AreAtEnd};
 ghost use Rattle.core_steps.specs.Ending.{IsEndOf, IsWholeRun};
 
-use crate::given::Given;
+use crate::given::Begun;
 use crate::sealing::{Sealed, sealed_of};
 use leg_tasks::{parts_left, save_parts};
 use legs::Until;
@@ -68,30 +67,26 @@ fn has_stopped(tasks: &[Task], saves: usize) -> bool
 /// Only where memory runs out, and of tasks that have failed for want of it.
 pub fn finish_of(
     alloc: Global,
-    given: Given<'_>,
+    given: &Begun<'_>,
     until: &Until,
     tasks: Vec<Task>,
 ) -> Result<Finish, AllocError>
-    requires { AreAtEnd (given_data given (until_in until.now)) tasks.items }
-    ensures is { let g = given_data given.entry (until_in until.now) in IfOk result (leg.IsFinishOf g (state_at g tasks.items)) }
-    ensures ends { IfOk result (λ finish. IsEndOf given.entry.plan.now given.entry.input.now given.entry.start.now (counts_of given.entry.saves.now) (until_in until.now) finish) }
-    ensures whole { IfOk result (λ finish. IsFromNothing given.entry.input.now given.entry.start.now → until_in until.now ≡ ToEnd → IsWholeRun given.entry.plan.now given.entry.input.now finish) }
+    requires { AreAtEnd (begun_data given.now (until_in until.now)) tasks.items }
+    ensures is { let g = begun_data given.now (until_in until.now) in IfOk result (leg.IsFinishOf g (state_at g tasks.items)) }
+    ensures ends { let g = begun_data given.now (until_in until.now) in IfOk result (λ finish. IsEndOf g.plan g.input g.start g.saves g.until finish) }
+    ensures whole { let g = begun_data given.now (until_in until.now) in IfOk result (λ finish. IsFromNothing g.input g.start → g.until ≡ ToEnd → IsWholeRun g.plan g.input finish) }
 {
-    let Given {
-        plan,
-        start,
-        layout,
-        saves,
-        ..
-    } = given;
-    let number = start.number() + saves.len() as u64 + 1;
-    if !has_stopped(tasks.as_slice(), saves.len()) {
+    let plan = given.plan;
+    let layout = given.layout;
+    let saves = given.saves.len();
+    if !has_stopped(tasks.as_slice(), saves) {
         let sealed = sealed_of(alloc, given, until, tasks.as_slice())?;
         return Ok(Finish::Ended(sink_rows(tasks), sealed));
     }
     let parts = parts_left(alloc, plan, layout, tasks.as_slice(), Moment::Now)?;
     // The tasks go before the savepoint is put together, so that their windows do not stand beside it.
     let rows = sink_rows(tasks);
+    let number = given.number + saves as u64 + 1;
     let savepoint = save_parts(alloc, plan, layout, parts, number)?;
     Ok(Finish::Stopped(rows, savepoint))
 }

@@ -15,6 +15,6 @@ mod world;
 
 pub use asked::tasks_asked;
 pub use finish::{Finish, finish_of};
-pub use given::Given;
+pub use given::{Begun, Given};
 pub use sealing::{Sealed, sealed_of};
 pub use world::World;

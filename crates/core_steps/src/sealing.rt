@@ -4,11 +4,11 @@ ghost use Rattle.std.specs.Prelude.{◌≡◌, ◌<◌, ℕ, IfOk, IfSome, lengt
 ghost use Rattle.legs.specs.Stops.{until_in};
 ghost use Rattle.task_steps.specs.Seen.{seen_at};
 ghost use Rattle.task_steps.specs.TaskData.{TaskData};
-ghost use Rattle.core_steps.specs.Given.{given_data};
+ghost use Rattle.core_steps.specs.Given.{begun_data};
 ghost use Rattle.core_steps.specs.World.{state_at};
 ghost use Rattle.core_steps.specs.Sealing.{AreOnTheWay, HavePassed, IsSealOf, IsSealed};
 
-use crate::given::Given;
+use crate::given::Begun;
 use leg_tasks::save;
 use legs::Until;
 use plain_data::Items;
@@ -64,29 +64,29 @@ fn rows_then(alloc: Global, tasks: &[Task], at: Moment) -> Result<Items<Row>, Al
 /// Only where memory runs out.
 pub fn sealed_of(
     alloc: Global,
-    given: Given<'_>,
+    given: &Begun<'_>,
     until: &Until,
     tasks: &[Task],
 ) -> Result<Option<Sealed>, AllocError>
-    requires { AreOnTheWay (given_data given (until_in until.now)) tasks.now }
-    ensures is { let g = given_data given.entry (until_in until.now) in IfOk result (IsSealed g (state_at g tasks.now)) }
-    ensures exact { let g = given_data given.entry (until_in until.now) in IfOk result (λ answer. IfSome answer (IsSealOf g (state_at g tasks.now))) }
+    requires { AreOnTheWay (begun_data given.now (until_in until.now)) tasks.now }
+    ensures is { let g = begun_data given.now (until_in until.now) in IfOk result (IsSealed g (state_at g tasks.now)) }
+    ensures exact { let g = begun_data given.now (until_in until.now) in IfOk result (λ answer. IfSome answer (IsSealOf g (state_at g tasks.now))) }
 {
-    let Given {
-        plan,
-        start,
-        layout,
-        saves,
-        ..
-    } = given;
-    let _saves = saves.len();
+    let _saves = given.saves.len();
     let barrier = barriers_passed(tasks);
     if barrier == 0 {
         return Ok(None);
     }
     let at = Moment::Barrier(barrier - 1);
     let rows = rows_then(alloc, tasks, at)?;
-    let savepoint = save(alloc, plan, layout, tasks, at, start.number() + barrier)?;
+    let savepoint = save(
+        alloc,
+        given.plan,
+        given.layout,
+        tasks,
+        at,
+        given.number + barrier,
+    )?;
     Ok(Some(Sealed {
         barrier,
         rows,

@@ -409,7 +409,12 @@ impl<'a> World<'a> {
         ensures exact { IfOk result (λ answer. IfSome answer (IsSealOf self.now.given (world_in self.now).tasks)) }
         ensures on_the_way { let g = self.now.given in self.now.has_failed ≡ true → IfOk result (λ answer. IfSome answer (HasSealed g.plan g.input g.start g.saves)) }
     {
-        sealed_of(alloc, self.given, &self.leg.until, self.tasks.as_slice())
+        sealed_of(
+            alloc,
+            &self.given.begun(),
+            &self.leg.until,
+            self.tasks.as_slice(),
+        )
     }
 
     /// How the leg ended, with the rows that it has delivered and the savepoint that it leaves where it stopped; `None`
@@ -432,7 +437,7 @@ impl<'a> World<'a> {
             tasks,
             ..
         } = self;
-        Ok(Some(finish_of(alloc, given, &leg.until, tasks)?))
+        Ok(Some(finish_of(alloc, &given.begun(), &leg.until, tasks)?))
     }
 
     /// Whether every task is done. Where not, and the world has not failed, there is a step.

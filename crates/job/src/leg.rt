@@ -4,7 +4,9 @@ ghost use Rattle.std.specs.Prelude.{◌≡◌, false, IfOk, IfSome, None, option
 ghost use Rattle.answers.specs.Answer.{Gives};
 ghost use Rattle.layout_rules.specs.Scale.{IsScale};
 ghost use Rattle.redistribute.specs.Begins.{IsStartIn};
+ghost use Rattle.savepoint_codec.specs.Answer.{Gives as Reads};
 ghost use Rattle.savepoint_codec.specs.Layout.{IsSavepoint};
+ghost use Rattle.savepoint_index.specs.Answer.{savepoint_of_bytes};
 ghost use Rattle.stream_model.specs.InputData.{BelongsTo};
 ghost use Rattle.job_texts.specs.Fault.{is_memory};
 ghost use Rattle.job_texts.specs.Tells.{KeepsWriter};
@@ -23,7 +25,7 @@ use plan_model::{Plan, Row};
 use plan_scale::ReadScale;
 use redistribute::Start;
 use restore::check;
-use savepoint_codec::Savepoint;
+use savepoint_codec::{SaveFault, Savepoint};
 use savepoint_index::decode;
 use std::alloc::Global;
 use std::io::Write;
@@ -32,7 +34,7 @@ use std::sync::{Arc, Wait};
 use std::thread::Threads;
 use std::time::Clock;
 use stream_model::Input;
-use thread_runner::{Gate, Stop, run_leg};
+use thread_runner::{Gate, Stop, run_leg_from};
 use window_state::HashKeys;
 
 /// Where a leg begins: at the savepoint that `from` has the bytes of, or from nothing at the front of the input.
@@ -58,7 +60,19 @@ pub fn start_of(
     Ok(check(alloc, plan, input, &savepoint)?)
 }
 
-/// The same, and the bytes are let go: they may take as much memory as the windows that they fill.
+/// The savepoint that bytes spell, which are let go: they take more memory than what is read of them.
+///
+/// # Errors
+///
+/// The fault of the first field, from the front, that cannot be read; `Memory`.
+fn decoded(alloc: Global, bytes: Vec<u8>) -> Result<Savepoint, SaveFault>
+    ensures { Reads result (savepoint_of_bytes bytes.items) }
+{
+    decode(alloc, bytes.as_slice())
+}
+
+/// The same as `start_of`, and the bytes are let go as soon as the savepoint is read from them.
+#[tactic(auto, unfolding(crate::specs::Leg::start_said))]
 fn start_from(
     alloc: Global,
     plan: &Plan,
@@ -69,7 +83,11 @@ fn start_from(
     ensures reads { Gives is_memory (λ start. start) result (start_said plan.now input.now (option_map (λ bytes. bytes.items) from)) }
     ensures in_input { IfOk result (λ start. IsStartIn plan.now input.now start) }
 {
-    start_of(alloc, plan, input, from.as_deref())
+    let Some(bytes) = from else {
+        return Ok(Start::empty(alloc, plan, input)?);
+    };
+    let savepoint = decoded(alloc, bytes)?;
+    Ok(check(alloc, plan, input, &savepoint)?)
 }
 
 /// Where a leg is to take savepoints on its way, and to stop.
@@ -181,19 +199,19 @@ fn leg_rows<R: Threads + Wait + Clock + Sync, G: Gate>(
     plan: &Plan,
     input: &Input,
     scale: &Scale,
-    start: &Start,
+    start: Start,
     aims: Aims,
     gate: &G,
 ) -> Result<LegRows, JobFault>
     requires belongs { BelongsTo plan.now input.now }
     requires scale { IsScale plan.now scale.now }
-    requires starts { IsStartIn plan.now input.now start.now }
+    requires starts { IsStartIn plan.now input.now start }
     requires aims { AreAims aims }
-    ensures { let job = leg_job plan.now input.now start.now (aims_in aims) in GivesLeg (λ given. EndsSo (may_ask aims.stop) (λ leg. AreLegRows given.abandoned leg given.rows.items given.savepoint) job) job result }
+    ensures { let job = leg_job plan.now input.now start (aims_in aims) in GivesLeg (λ given. EndsSo (may_ask aims.stop) (λ leg. AreLegRows given.abandoned leg given.rows.items given.savepoint) job) job result }
 {
     let Aims { saves, stop } = aims;
     let saves = saves.as_slice();
-    let finish = run_leg(
+    let finish = run_leg_from(
         rt, alloc, keys, plan, input, start, scale, saves, stop, gate,
     )?;
     let given = rows_of(finish);
@@ -227,15 +245,15 @@ fn leg_end<R: Threads + Wait + Clock + Sync, G: Gate>(
     plan: &Plan,
     input: &Input,
     scale: &Scale,
-    start: &Start,
+    start: Start,
     aims: Aims,
     gate: &G,
 ) -> Result<LegEnd, JobFault>
     requires belongs { BelongsTo plan.now input.now }
     requires scale { IsScale plan.now scale.now }
-    requires starts { IsStartIn plan.now input.now start.now }
+    requires starts { IsStartIn plan.now input.now start }
     requires aims { AreAims aims }
-    ensures { let job = leg_job plan.now input.now start.now (aims_in aims) in GivesLeg (IsEndSo (may_ask aims.stop) job) job result }
+    ensures { let job = leg_job plan.now input.now start (aims_in aims) in GivesLeg (IsEndSo (may_ask aims.stop) job) job result }
 {
     let mut given = leg_rows(rt, alloc, keys, plan, input, scale, start, aims, gate)?;
     sort_rows(&mut given.rows)?;
@@ -266,7 +284,7 @@ fn leg_at_scale<R: Threads + Wait + Clock + Sync, G: Gate>(
 {
     let start = start_from(alloc, plan, input, from)?;
     let aims = aims_of(alloc, stop)?;
-    leg_end(rt, alloc, keys, plan, input, scale, &start, aims, gate)
+    leg_end(rt, alloc, keys, plan, input, scale, start, aims, gate)
 }
 
 /// The leg of a plan and an input.

@@ -1,6 +1,7 @@
 pub mod Rings
 pub mod Works
 pub mod Stops
+pub mod Starts
 pub mod Jobs
 pub mod Edges
 pub mod Legs

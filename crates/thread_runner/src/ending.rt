@@ -5,8 +5,7 @@ ghost use Rattle.layout_rules.specs.Stages.{task_count};
 ghost use Rattle.dataflow_model.specs.Leg.Until.{ToEnd};
 ghost use Rattle.legs.specs.Stops.{until_in};
 ghost use Rattle.redistribute.specs.Begins.{IsFromNothing};
-ghost use Rattle.task_setups.specs.Legs.{counts_of};
-ghost use Rattle.core_steps.specs.Given.{given_data};
+ghost use Rattle.core_steps.specs.Given.{begun_data};
 ghost use Rattle.core_steps.specs.World.{IsSound};
 ghost use Rattle.core_steps.specs.Ending.{IsEndOf, IsWholeRun, IsWholeOrGivenUp};
 ghost use Rattle.thread_runner.specs.Edges.{SameDones, HasEdges, AreJoined, AreLeft, out_names, in_names, put_tables, taken_tables, done_task};
@@ -15,7 +14,7 @@ ghost use Rattle.thread_runner.specs.Legs.{NoFaults, AreWorked};
 use crate::edges::settle_all;
 use crate::jobs::Done;
 use crate::laws::layouts_have_edges;
-use core_steps::{Finish, Given, finish_of, sealed_of};
+use core_steps::{Begun, Finish, finish_of, sealed_of};
 use legs::Until;
 use plan_compiler::Layout;
 use std::alloc::{AllocError, Global};
@@ -70,15 +69,15 @@ fn settled(layout: &Layout, dones: Vec<Done>) -> Vec<Done>
 /// What a leg comes to whose workers have ended without a fault.
 fn finished(
     alloc: Global,
-    given: Given<'_>,
+    given: &Begun<'_>,
     until: &Until,
     dones: Vec<Done>,
 ) -> Result<Finish, AllocError>
-    requires sound { IsSound (given_data given (until_in until.now)) }
-    requires worked { AreWorked (given_data given (until_in until.now)) dones.items }
+    requires sound { IsSound (begun_data given.now (until_in until.now)) }
+    requires worked { AreWorked (begun_data given.now (until_in until.now)) dones.items }
     requires fine { NoFaults dones.items }
-    ensures ends { IfOk result (λ finish. IsEndOf given.entry.plan.now given.entry.input.now given.entry.start.now (counts_of given.entry.saves.now) (until_in until.now) finish) }
-    ensures whole { IfOk result (λ finish. IsFromNothing given.entry.input.now given.entry.start.now → until_in until.now ≡ ToEnd → IsWholeRun given.entry.plan.now given.entry.input.now finish) }
+    ensures ends { let g = begun_data given.now (until_in until.now) in IfOk result (λ finish. IsEndOf g.plan g.input g.start g.saves g.until finish) }
+    ensures whole { let g = begun_data given.now (until_in until.now) in IfOk result (λ finish. IsFromNothing g.input g.start → g.until ≡ ToEnd → IsWholeRun g.plan g.input finish) }
 {
     let _edges = layouts_have_edges();
     let dones = settled(given.layout, dones);
@@ -90,14 +89,14 @@ fn finished(
 /// barrier of a stop is none of these: where every task has passed it, no worker has ended early.
 fn given_up(
     alloc: Global,
-    given: Given<'_>,
+    given: &Begun<'_>,
     until: &Until,
     dones: Vec<Done>,
 ) -> Result<Finish, AllocError>
-    requires sound { IsSound (given_data given (until_in until.now)) }
-    requires worked { AreWorked (given_data given (until_in until.now)) dones.items }
-    ensures ends { IfOk result (λ finish. IsEndOf given.entry.plan.now given.entry.input.now given.entry.start.now (counts_of given.entry.saves.now) (until_in until.now) finish) }
-    ensures whole { IfOk result (λ finish. IsWholeOrGivenUp given.entry.plan.now given.entry.input.now finish) }
+    requires sound { IsSound (begun_data given.now (until_in until.now)) }
+    requires worked { AreWorked (begun_data given.now (until_in until.now)) dones.items }
+    ensures ends { let g = begun_data given.now (until_in until.now) in IfOk result (λ finish. IsEndOf g.plan g.input g.start g.saves g.until finish) }
+    ensures whole { let g = begun_data given.now (until_in until.now) in IfOk result (λ finish. IsWholeOrGivenUp g.plan g.input finish) }
 {
     let _edges = layouts_have_edges();
     let dones = settled(given.layout, dones);
@@ -113,14 +112,14 @@ fn given_up(
 /// What a leg comes to, out of what its workers have done.
 pub(crate) fn conclude(
     alloc: Global,
-    given: Given<'_>,
+    given: &Begun<'_>,
     until: &Until,
     dones: Vec<Done>,
 ) -> Result<Finish, AllocError>
-    requires sound { IsSound (given_data given (until_in until.now)) }
-    requires worked { AreWorked (given_data given (until_in until.now)) dones.items }
-    ensures ends { IfOk result (λ finish. IsEndOf given.entry.plan.now given.entry.input.now given.entry.start.now (counts_of given.entry.saves.now) (until_in until.now) finish) }
-    ensures whole { IfOk result (λ finish. IsFromNothing given.entry.input.now given.entry.start.now → until_in until.now ≡ ToEnd → IsWholeOrGivenUp given.entry.plan.now given.entry.input.now finish) }
+    requires sound { IsSound (begun_data given.now (until_in until.now)) }
+    requires worked { AreWorked (begun_data given.now (until_in until.now)) dones.items }
+    ensures ends { let g = begun_data given.now (until_in until.now) in IfOk result (λ finish. IsEndOf g.plan g.input g.start g.saves g.until finish) }
+    ensures whole { let g = begun_data given.now (until_in until.now) in IfOk result (λ finish. IsFromNothing g.input g.start → g.until ≡ ToEnd → IsWholeOrGivenUp g.plan g.input finish) }
 {
     if has_fault(dones.as_slice()) {
         return given_up(alloc, given, until, dones);

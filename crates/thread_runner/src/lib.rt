@@ -25,7 +25,7 @@ pub use edges::settle_all;
 pub use ending::{has_fault, tasks_of};
 pub use gate::{Gate, OpenGate};
 pub use jobs::{Done, Job};
-pub use leg::{prepared, run_leg};
+pub use leg::{prepared, run_leg, run_leg_from};
 pub use rings::{Receiver, Sender, ring, settle};
 pub use run::run_all;
 pub use stop::Stop;

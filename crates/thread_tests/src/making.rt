@@ -28,7 +28,7 @@ use std::thread::Threads;
 use std::time::Clock;
 use stream_input::ReadInput;
 use stream_model::Input;
-use thread_runner::{Gate, run_leg};
+use thread_runner::{Gate, run_leg_from};
 use window_state::HashKeys;
 
 pub const USAGE: &str =
@@ -167,19 +167,19 @@ fn run_scaled<R: AllocGlobal + RandomSource + Threads + Wait + Clock + Sync, G: 
     rt: &R,
     plan: &Plan,
     input: &Input,
-    start: &Start,
+    start: Start,
     scale: &Scale,
     stop: Stop,
     threads: OnThreads<'_, G>,
 ) -> Result<Result<Finish, LegFault>, Fail>
     requires belongs { BelongsTo plan.now input.now }
     requires scale { IsScale plan.now scale.now }
-    requires starts { IsStartIn plan.now input.now start.now }
+    requires starts { IsStartIn plan.now input.now start }
 {
     let keys = HashKeys::random(rt)?;
     let OnThreads { gate, word } = threads;
     let stop = stop_on_threads(stop, word)?;
-    Ok(run_leg(
+    Ok(run_leg_from(
         rt,
         rt.alloc(),
         keys,
@@ -197,12 +197,12 @@ fn run_started<R: AllocGlobal + RandomSource + Threads + Wait + Clock + Sync, G:
     rt: &R,
     plan: &Plan,
     input: &Input,
-    start: &Start,
+    start: Start,
     case: &Case<'_>,
     threads: OnThreads<'_, G>,
 ) -> Result<Result<Finish, LegFault>, Fail>
     requires belongs { BelongsTo plan.now input.now }
-    requires starts { IsStartIn plan.now input.now start.now }
+    requires starts { IsStartIn plan.now input.now start }
 {
     let scale = Scale::read(rt.alloc(), plan, case.scale.as_bytes())?;
     let stop = stop_at(rt.alloc(), case.stop)?;
@@ -231,7 +231,7 @@ fn run_input<R: AllocGlobal + RandomSource + Threads + Wait + Clock + Sync, G: G
     requires { BelongsTo plan.now input.now }
 {
     let start = start_of(rt.alloc(), plan, input, case.from)?;
-    run_started(rt, plan, input, &start, case, threads)
+    run_started(rt, plan, input, start, case, threads)
 }
 
 fn run_plan<R: AllocGlobal + RandomSource + Threads + Wait + Clock + Sync, G: Gate>(

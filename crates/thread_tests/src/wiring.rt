@@ -66,7 +66,7 @@ fn settle(
     let _end = workers_are_at_end();
     let (dones, left) = settled(given.layout, dones);
     let tasks = tasks_of(alloc, dones)?;
-    Ok((finish_of(alloc, given, until, tasks)?, left))
+    Ok((finish_of(alloc, &given.begun(), until, tasks)?, left))
 }
 
 /// What the workers of a wired leg hand back, if none of them had a fault.

@@ -9,7 +9,7 @@ use Rattle.task_steps.specs.TaskData.{TaskData}
 use Rattle.task_steps.specs.declared.seen.Moment.TheVariants.{Now}
 use Rattle.leg_tasks.specs.Leaving.{CanSave}
 use Rattle.core_steps.specs.declared.finish.Finish.TheVariants.{Ended, Stopped}
-use Rattle.core_steps.specs.Given.{GivenData, given_data, layout_in}
+use Rattle.core_steps.specs.Given.{GivenData, begun_data, layout_in}
 use Rattle.core_steps.specs.World.{state_at}
 use Rattle.core_steps.specs.Finishing.{AreAtEnd, has_stopped, number_after}
 use Rattle.core_steps.specs.Sealing.{AreOnTheWay, IsSealOf, IsSealed}
@@ -36,7 +36,7 @@ sink_tells g saves tasks given b c at are same is told =
 
 pub has_stopped-requires : goal.has_stopped-requires
 has_stopped-requires c =
-    let g = given_data c.args.given (until_in c.args.until.now) in
+    let g = begun_data c.args.given.now (until_in c.args.until.now) in
     let one = (sound g c.requires.ended.given).count in
     let two = c.requires.count in
     let same = ap (λ (ts : List TaskData). length ts) c.as_slice.ensures.value in
@@ -44,39 +44,39 @@ has_stopped-requires c =
 
 pub sink_rows-requires : goal.sink_rows-requires
 sink_rows-requires c =
-    let g = given_data c.args.given (until_in c.args.until.now) in
+    let g = begun_data c.args.given.now (until_in c.args.until.now) in
     let one = (sound g c.requires.ended.given).count in
     let two = c.requires.count in
     omega (arith, one, two)
 
 pub sink_rows-rows-requires : goal.sink_rows-rows-requires
 sink_rows-rows-requires c =
-    let g = given_data c.args.given (until_in c.args.until.now) in
+    let g = begun_data c.args.given.now (until_in c.args.until.now) in
     let one = (sound g c.requires.ended.given).count in
     let two = c.requires.count in
     omega (arith, one, two)
 
 pub sealed_of-requires : goal.sealed_of-requires
 sealed_of-requires c =
-    let g = given_data c.args.given (until_in c.args.until.now) in
+    let g = begun_data c.args.given.now (until_in c.args.until.now) in
     subst (AreOnTheWay g) (sym c.as_slice-then-not-has_stopped.ensures.value) (at_end_on_way g c.args.tasks.items c.requires)
 
 pub parts_left-requires-clause-tasks : goal.parts_left-requires-clause-tasks
 parts_left-requires-clause-tasks c =
-    let g = given_data c.args.given (until_in c.args.until.now) in
+    let g = begun_data c.args.given.now (until_in c.args.until.now) in
     let r = c.requires in
     subst (CanSave g.plan g.layout.stages Now) (sym c.as_slice-2.ensures.value) (can_save g r.ended.given c.args.tasks.items r.count r.placed Now (own_panes g (state_at g c.args.tasks.items) r.ended))
 
 pub returns-then-not-has_stopped-clause-is : goal.returns-then-not-has_stopped-clause-is
 returns-then-not-has_stopped-clause-is c =
-    let g = given_data c.args.given (until_in c.args.until.now) in
-    let goes_on = sink_tells g c.args.given.saves.now c.args.tasks.items _ false c.has_stopped.result c.requires refl c.as_slice.ensures.value c.if-not-has_stopped.true c.has_stopped.ensures in
+    let g = begun_data c.args.given.now (until_in c.args.until.now) in
+    let goes_on = sink_tells g c.args.given.now.saves.now c.args.tasks.items _ false c.has_stopped.result c.requires refl c.as_slice.ensures.value c.if-not-has_stopped.true c.has_stopped.ensures in
     let sealed = subst (λ (ts : List TaskData). IsSealed g (state_at g ts) c.in_ok-sealed.sealed) c.as_slice-then-not-has_stopped.ensures.value c.in_ok-sealed.ensures.is in
     ended_is g c.args.tasks.items c.requires c.sink_rows.result c.sink_rows.ensures goes_on c.in_ok-sealed.sealed sealed
 
 pub returns-then-not-has_stopped-clause-ends : goal.returns-then-not-has_stopped-clause-ends
 returns-then-not-has_stopped-clause-ends c =
-    let g = given_data c.args.given (until_in c.args.until.now) in
+    let g = begun_data c.args.given.now (until_in c.args.until.now) in
     let states = state_at g c.args.tasks.items in
     let is = returns-then-not-has_stopped-clause-is c in
     let exact = subst (λ (ts : List TaskData). IfSome c.in_ok-sealed.sealed (IsSealOf g (state_at g ts))) c.as_slice-then-not-has_stopped.ensures.value c.in_ok-sealed.ensures.exact in
@@ -84,21 +84,21 @@ returns-then-not-has_stopped-clause-ends c =
 
 pub returns-then-not-has_stopped-clause-whole : goal.returns-then-not-has_stopped-clause-whole
 returns-then-not-has_stopped-clause-whole c = λ nothing ends.
-    let g = given_data c.args.given (until_in c.args.until.now) in
+    let g = begun_data c.args.given.now (until_in c.args.until.now) in
     whole_run g (state_at g c.args.tasks.items) c.requires.ended (Ended c.sink_rows.result c.in_ok-sealed.sealed) (returns-then-not-has_stopped-clause-is c) nothing ends
 
 pub returns-clause-is : goal.returns-clause-is
 returns-clause-is c =
-    let g = given_data c.args.given (until_in c.args.until.now) in
-    let stopped = sink_tells g c.args.given.saves.now c.args.tasks.items _ true c.has_stopped.result c.requires refl c.as_slice.ensures.value c.if-not-has_stopped.false c.has_stopped.ensures in
-    stopped_is g c.args.tasks.items c.requires c.sink_rows-rows.result c.sink_rows-rows.ensures c.in_ok-savepoint.savepoint _ _ c.as_slice-2.ensures.value (λ states have. c.in_ok-savepoint.ensures states (c.in_ok-parts.ensures.says states have)) (number_of g.start.number c.args.given.saves.now _ _ c.number.ensures refl) stopped
+    let g = begun_data c.args.given.now (until_in c.args.until.now) in
+    let stopped = sink_tells g c.args.given.now.saves.now c.args.tasks.items _ true c.has_stopped.result c.requires refl c.as_slice.ensures.value c.if-not-has_stopped.false c.has_stopped.ensures in
+    stopped_is g c.args.tasks.items c.requires c.sink_rows-rows.result c.sink_rows-rows.ensures c.in_ok-savepoint.savepoint _ _ c.as_slice-2.ensures.value (λ states have. c.in_ok-savepoint.ensures states (c.in_ok-parts.ensures.says states have)) (number_of g.start.number c.args.given.now.saves.now _ _ c.args.given.now.numbered refl) stopped
 
 pub returns-clause-ends : goal.returns-clause-ends
 returns-clause-ends c =
-    let g = given_data c.args.given (until_in c.args.until.now) in
+    let g = begun_data c.args.given.now (until_in c.args.until.now) in
     stopped_of g (state_at g c.args.tasks.items) c.requires.ended c.sink_rows-rows.result c.in_ok-savepoint.savepoint (returns-clause-is c)
 
 pub returns-clause-whole : goal.returns-clause-whole
 returns-clause-whole c = λ nothing ends.
-    let g = given_data c.args.given (until_in c.args.until.now) in
+    let g = begun_data c.args.given.now (until_in c.args.until.now) in
     whole_run g (state_at g c.args.tasks.items) c.requires.ended (Stopped c.sink_rows-rows.result c.in_ok-savepoint.savepoint) (returns-clause-is c) nothing ends

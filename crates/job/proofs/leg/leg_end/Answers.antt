@@ -11,7 +11,7 @@ pub returns : goal.returns
 returns g c =
     let p = c.args.plan.now in
     let i = c.args.input.now in
-    let s = c.args.start.now in
+    let s = c.args.start in
     let given = c.in_ok-given.given in (
       c.in_ok-given.ensures.0,
       ends_on (λ leg. AreLegRows given.abandoned leg given.rows.items given.savepoint) _ (may_ask c.args.aims.stop) p i s (aims_in c.args.aims)

@@ -18,7 +18,7 @@ pub returns-in_err-finish : goal.returns-in_err-finish
 returns-in_err-finish g c =
     let p = c.args.plan.now in
     let i = c.args.input.now in
-    let s = c.args.start.now in
+    let s = c.args.start in
     let aims = c.args.aims in
     let r = c.from_residual in
     let f = c.in_err-finish.field-0.0 in
@@ -31,7 +31,7 @@ returns g c =
     let e = c.in_ok-finish.ensures in
     let p = c.args.plan.now in
     let i = c.args.input.now in
-    let s = c.args.start.now in
+    let s = c.args.start in
     let aims = c.args.aims in
     let same = c.as_slice-saves.ensures in
     let save = subst (λ (cuts : List Cut). CanSaveAt i.sources (offsets_of s) (counts_of cuts) (until_of aims.stop)) same e.saves in

@@ -1,5 +1,7 @@
+use Rattle.std.proofs.Common.{subst, sym}
 use Rattle.legs.specs.Stops.{until_in}
-use Rattle.core_steps.specs.Given.{given_data}
+use Rattle.core_steps.specs.Finishing.{AreAtEnd}
+use Rattle.core_steps.specs.Given.{GivenData, given_data}
 use Rattle.thread_tests.proofs.wiring.settle.Goals as goal
 
 pub settled-dones-requires-clause-count : goal.settled-dones-requires-clause-count
@@ -13,4 +15,6 @@ settled-dones-requires-clause-joined c = (c.workers_hand_back_rings-rings.ensure
 
 pub finish_of-requires : goal.finish_of-requires
 finish_of-requires c =
-    rw c.in_ok-tasks.ensures (c.workers_are_at_end-end.ensures (given_data c.args.given (until_in c.args.until.now)) c.args.dones.items c.settled-dones.result.0.items c.requires.sound c.requires.worked c.requires.fine c.settled-dones.ensures.same c.settled-dones.ensures.left)
+    let g = given_data c.args.given (until_in c.args.until.now) in
+    let end : AreAtEnd g c.in_ok-tasks.tasks.items = rw c.in_ok-tasks.ensures (c.workers_are_at_end-end.ensures (given_data c.args.given (until_in c.args.until.now)) c.args.dones.items c.settled-dones.result.0.items c.requires.sound c.requires.worked c.requires.fine c.settled-dones.ensures.same c.settled-dones.ensures.left) in
+    subst (λ (x : GivenData). AreAtEnd x c.in_ok-tasks.tasks.items) (sym (c.begun.ensures (until_in c.args.until.now))) end
