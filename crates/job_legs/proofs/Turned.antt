@@ -1,6 +1,7 @@
 -- Legs that have their turns one after the other.
-use Rattle.std.proofs.Common.{◌≡◌, ◌∙◌, ℕ, zero, suc, ◌+◌, ◌-◌, List, [], ◌∷◌, ◌++◌, length, drop, Option, Result, Ok, Some, None, refl, sym, ap, subst, arith}
+use Rattle.std.proofs.Common.{◌≡◌, ◌∙◌, ℕ, zero, suc, ◌+◌, ◌-◌, ◌≤◌, List, [], ◌∷◌, ◌++◌, length, drop, take, Option, Result, Ok, Some, None, refl, sym, ap, subst, arith}
 use Rattle.std.specs.Prelude.{slice_get, slice_index_or, IfOk}
+use Rattle.std.proofs.lemmas.List.{drop-drop}
 use Rattle.core_steps.specs.declared.finish.Finish.{Finish}
 use Rattle.dataflow_model.specs.Leg.{Until}
 use Rattle.layout_rules.specs.ScaleData.{ScaleData}
@@ -15,10 +16,11 @@ use Rattle.redistribute.specs.StartData.{StartData}
 use Rattle.restarts.specs.Laws.{IsStartAt}
 use Rattle.stream_model.specs.InputData.{InputData}
 use Rattle.job_legs.specs.Reached.{HasSaved, IsLegGiven, rows_of, saved_of, taken_of}
-use Rattle.job_legs.specs.Running.{saves_in}
+use Rattle.job_legs.specs.Running.{saves_in, savepoints_in}
 use Rattle.job_legs.specs.Turns.{HaveTurned, IsTurn, over_after}
 use Rattle.job_legs.specs.Turns.HaveTurned.{none, more}
 use Rattle.job_legs.specs.declared.running.Reached.{Reached}
+use Rattle.job_legs.proofs.Turns.{dropped_length}
 
 -- what stands at a place behind which so much is left
 at_drop : {X : Type 0} (xs : List X) (n : ℕ) (x : X) (ys : List X) → drop n xs ≡ x ∷ ys → (slice_get xs n ≡ Some x) × (drop (suc n) xs ≡ ys)
@@ -30,23 +32,33 @@ at_drop (y ∷ xs) (suc n) x ys e = at_drop xs n x ys e
 -- of the first of these legs, the savepoints that are left are the last of its own
 abbrev pub IsRestOf : List LegSpec → List Cut → Type 0
 IsRestOf [] saves = Unit {0}
-IsRestOf (leg ∷ rest) saves = (taken : ℕ) × (saves ≡ drop taken leg.saves)
+IsRestOf (leg ∷ rest) saves = (taken : ℕ) × (taken ≤ length leg.saves) × (saves ≡ drop taken leg.saves)
 
 pub all_left : (legs : List LegSpec) → IsRestOf legs (saves_in legs)
 all_left [] = tt
-all_left (leg ∷ rest) = (0, refl)
+all_left (leg ∷ rest) = (0, omega arith, refl)
 
-drop_none : {X : Type 0} (n : ℕ) → drop {A = X} n [] ≡ []
-drop_none zero = refl
-drop_none (suc n) = refl
+pub fewer_left : (leg : LegSpec) (rest : List LegSpec) (saves : List Cut) (taken : ℕ) → taken ≤ length saves → IsRestOf (leg ∷ rest) saves → IsRestOf (leg ∷ rest) (drop taken saves)
+fewer_left leg rest saves taken few kept =
+    let long = dropped_length kept.0 leg.saves kept.1 in
+    let same = ap (λ (cuts : List Cut). length cuts) kept.2 in
+    (kept.0 + taken, omega (arith, few, long, same), ap (drop taken) kept.2 ∙ drop-drop taken kept.0 leg.saves)
 
-drop_twice : {X : Type 0} (m n : ℕ) (xs : List X) → drop n (drop m xs) ≡ drop (m + n) xs
-drop_twice zero n xs = ap (λ k. drop k xs) (omega (arith))
-drop_twice (suc m) n [] = drop_none n ∙ sym (drop_none (suc m + n))
-drop_twice (suc m) n (x ∷ xs) = (let e : suc (m + n) ≡ suc m + n = omega (arith) in drop_twice m n xs ∙ ap (λ k. drop k (x ∷ xs)) e)
+-- the savepoints of legs are those of the first so many, and of the others
+savepoints_split : (legs : List LegSpec) (n : ℕ) → savepoints_in legs ≡ savepoints_in (take n legs) + savepoints_in (drop n legs)
+savepoints_split legs zero = omega arith
+savepoints_split [] (suc n) = refl
+savepoints_split (leg ∷ legs) (suc n) = let rest = savepoints_split legs n in omega (arith, rest)
 
-pub fewer_left : (leg : LegSpec) (rest : List LegSpec) (saves : List Cut) (taken : ℕ) → IsRestOf (leg ∷ rest) saves → IsRestOf (leg ∷ rest) (drop taken saves)
-fewer_left leg rest saves taken kept = (kept.0 + taken, ap (drop taken) kept.1 ∙ drop_twice kept.0 taken leg.saves)
+-- a leg that is to take so many more has the number behind those before it and its own that were taken
+counted_of : (legs : List LegSpec) (over : ℕ) (leg : LegSpec) (rest : List LegSpec) → drop over legs ≡ leg ∷ rest → (first number : ℕ) → first + savepoints_in (leg ∷ rest) ≡ savepoints_in legs → (saves : List Cut) → number + length saves ≡ first + length leg.saves
+    → (kept : IsRestOf (leg ∷ rest) saves) → number ≡ savepoints_in (take over legs) + kept.0
+counted_of legs over leg rest behind first number all saves sum kept =
+    let split = savepoints_split legs over in
+    let there = ap savepoints_in behind in
+    let long = dropped_length kept.0 leg.saves kept.1 in
+    let same = ap (λ (cuts : List Cut). length cuts) kept.2 in
+    omega (arith, split, there, all, sum, long, same)
 
 module _ (by : PlanData → ScaleData → InputData → StartData → List (List (List ℕ)) → Until → List Choice → Finish → Type 0) (p : PlanData) (i : InputData) (legs : List LegSpec) (lists : List (List Choice)) where
   -- the legs before these have had their turns
@@ -66,11 +78,11 @@ module _ (by : PlanData → ScaleData → InputData → StartData → List (List
 
   module _ (leg : LegSpec) (rest : List LegSpec) (old : Reached) (are : AreTurned (leg ∷ rest) old) where
     -- a turn of the first of them
-    pub turn_of : (left : List LegSpec) → left ≡ leg ∷ rest → (cut : List (List ℕ)) (number : ℕ) → HasSaved p i cut number old.savepoint → (start : StartData) → IsStartAt p i cut number start → (saves : List Cut) → IsRestOf (leg ∷ rest) saves → (stop : Stop) → stop ≡ leg.stop
+    pub turn_of : (left : List LegSpec) → left ≡ leg ∷ rest → (cut : List (List ℕ)) (number : ℕ) → HasSaved p i cut number old.savepoint → (start : StartData) → IsStartAt p i cut number start → (saves : List Cut) → IsRestOf (leg ∷ rest) saves → (first : ℕ) → first + savepoints_in (leg ∷ rest) ≡ savepoints_in legs → number + length saves ≡ first + length leg.saves → (stop : Stop) → stop ≡ leg.stop
         → (choices : List Choice) → choices ≡ slice_index_or lists (length legs - length left) [] → (finish : Finish) → IsLegGiven p i cut number (counts_of saves) leg.stop finish
         → (result : Result Finish LegFault) → result ≡ Ok finish → IfOk result (by p leg.scale i start (counts_of saves) (until_of stop) choices)
         → IsTurn by p i legs lists are.over old.savepoint finish
-    turn_of left same cut number saved start starts saves kept stop stops choices listed finish gives result gave goes =
+    turn_of left same cut number saved start starts saves kept first all sum stop stops choices listed finish gives result gave goes =
         let some = are.some in
         let long = ap length same in
         let place : length legs - length left ≡ are.over = omega (arith, some, long) in
@@ -86,8 +98,10 @@ module _ (by : PlanData → ScaleData → InputData → StartData → List (List
           start = start;
           starts = starts;
           taken = kept.0;
-          gives = subst (λ (cuts : List Cut). IsLegGiven p i cut number (counts_of cuts) leg.stop finish) kept.1 gives;
-          goes = subst (λ (cuts : List Cut). by p leg.scale i start (counts_of cuts) (until_of leg.stop) (slice_index_or lists are.over []) finish) kept.1 so;
+          few = kept.1;
+          counted = counted_of legs are.over leg rest are.left first number all saves sum kept;
+          gives = subst (λ (cuts : List Cut). IsLegGiven p i cut number (counts_of cuts) leg.stop finish) kept.2 gives;
+          goes = subst (λ (cuts : List Cut). by p leg.scale i start (counts_of cuts) (until_of leg.stop) (slice_index_or lists are.over []) finish) kept.2 so;
         }
 
     turned_more : (new : Reached) (finish : Finish) (taken : Option ℕ) → IsTurn by p i legs lists are.over old.savepoint finish → taken_of finish ≡ taken → new.rows.items ≡ old.rows.items ++ rows_of finish → new.savepoint ≡ saved_of finish

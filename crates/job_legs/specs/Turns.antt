@@ -1,5 +1,5 @@
 -- The turns of the legs of a list, each by its own choices.
-use Rattle.std.specs.Prelude.{◌≡◌, ℕ, suc, List, [], ◌++◌, length, drop, slice_get, slice_index_or, Option, Some, None, option_map}
+use Rattle.std.specs.Prelude.{◌≡◌, ℕ, suc, ◌+◌, ◌≤◌, List, [], ◌++◌, length, drop, take, slice_get, slice_index_or, Option, Some, None, option_map}
 use Rattle.core_steps.specs.declared.finish.Finish.{Finish}
 use Rattle.dataflow_model.specs.Leg.{Until}
 use Rattle.layout_rules.specs.ScaleData.{ScaleData}
@@ -16,9 +16,10 @@ use Rattle.savepoint_codec.specs.declared.savepoint.Contents.{Contents}
 use Rattle.savepoint_index.specs.Layout.{savepoint_bytes}
 use Rattle.stream_model.specs.InputData.{InputData}
 use Rattle.job_legs.specs.Reached.{HasSaved, IsLegGiven, rows_of, saved_of, taken_of}
+use Rattle.job_legs.specs.Running.{savepoints_in}
 
 -- a turn of the leg at a place, from the cut to which the turn before has come and what that one left: it has given
--- what such a leg gives, with the leg's own scale and stop, and savepoints at the last of the leg's cuts, and it went
+-- what such a leg gives, with the leg's own scale and stop, and savepoints at the rest of the leg's cuts, and it went
 -- by the list of choices at that place
 pub record IsTurn (by : PlanData → ScaleData → InputData → StartData → List (List (List ℕ)) → Until → List Choice → Finish → Type 0) (p : PlanData) (i : InputData) (legs : List LegSpec) (lists : List (List Choice)) (place : ℕ) (left : Option Contents) (finish : Finish) : Type 0 where
   pub leg : LegSpec
@@ -28,8 +29,10 @@ pub record IsTurn (by : PlanData → ScaleData → InputData → StartData → L
   pub saved : HasSaved p i cut number left
   pub start : StartData
   pub starts : IsStartAt p i cut number start
-  -- so many of its savepoints were taken before
+  -- so many of its savepoints were taken before, and all of the legs before it
   pub taken : ℕ
+  pub few : taken ≤ length leg.saves
+  pub counted : number ≡ savepoints_in (take place legs) + taken
   pub gives : IsLegGiven p i cut number (counts_of (drop taken leg.saves)) leg.stop finish
   pub goes : by p leg.scale i start (counts_of (drop taken leg.saves)) (until_of leg.stop) (slice_index_or lists place []) finish
 

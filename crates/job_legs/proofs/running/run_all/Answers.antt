@@ -151,7 +151,7 @@ turns-preserved g c =
     let kept = subst (λ legs. IsRestOf legs saves) e c.turns.invariant.kept in
     let here = t.between.here in
     let count = t.between.count in
-    let turn = turn_of by p i all lists leg more c.turns.reached are c.turns.rest.now e here count t.between.at.saved s (c.in_ok-start.ensures here count t.between.at.saved) saves kept c.in_ok-stop.stop c.in_ok-stop.ensures c.choices_of-choices.result.now c.choices_of-choices.ensures finish gives c.run.result c.in_ok-finish.was (c.requires.goes _ _ _ _ _ _ _ _ _ _ can c.run.ensures) in
+    let turn = turn_of by p i all lists leg more c.turns.reached are c.turns.rest.now e here count t.between.at.saved s (c.in_ok-start.ensures here count t.between.at.saved) saves kept t.before.number t.before.count t.between.sum c.in_ok-stop.stop c.in_ok-stop.ensures c.choices_of-choices.result.now c.choices_of-choices.ensures finish gives c.run.result c.in_ok-finish.was (c.requires.goes _ _ _ _ _ _ _ _ _ _ can c.run.ensures) in
     let fit = All (λ (leg : LegSpec). IsScale p leg.scale) in
     elim c.match-branch-5.branch [
       | in-Some-2 w ↦ (
@@ -161,7 +161,7 @@ turns-preserved g c =
             way = subst (λ legs. IsOnWay p i all legs c.match-branch-5.saves.now new) (sym (ap now w.rest-is ∙ e)) (subst (λ (rest : List Cut). IsOnWay p i all (leg ∷ more) rest new) (sym (ap cuts w.saves-is ∙ w.rest_of-saves.ensures)) again);
             scales = subst fit (sym (ap now w.rest-is)) c.turns.invariant.scales;
             turned = turned_again by p i all lists leg more c.turns.reached are c.match-branch-5.rest.now (ap now w.rest-is ∙ e) new finish taken turn (sym c.in_ok-taken.ensures.taken ∙ w.in-Some-2.is) c.in_ok-taken.ensures.rows c.in_ok-taken.ensures.savepoint;
-            kept = subst (λ legs. IsRestOf legs c.match-branch-5.saves.now) (sym (ap now w.rest-is ∙ e)) (subst (IsRestOf (leg ∷ more)) (sym (ap cuts w.saves-is ∙ w.rest_of-saves.ensures)) (fewer_left leg more saves taken kept));
+            kept = subst (λ legs. IsRestOf legs c.match-branch-5.saves.now) (sym (ap now w.rest-is ∙ e)) (subst (IsRestOf (leg ∷ more)) (sym (ap cuts w.saves-is ∙ w.rest_of-saves.ensures)) (fewer_left leg more saves taken (turn_takes p i all leg more saves c.turns.reached t finish taken gives (sym c.in_ok-taken.ensures.taken ∙ w.in-Some-2.is)).1 kept));
           })
       | in-None w ↦ (
           let over = turn_ended p i all leg more saves c.turns.reached t input add new finish gives (sym c.in_ok-taken.ensures.taken ∙ w.in-None.is) c.in_ok-taken.ensures.rows c.in_ok-taken.ensures.savepoint in
