@@ -5,7 +5,6 @@ use Rattle.std.proofs.lemmas.Option.{slice_get-get_or}
 use Rattle.dataflow_model.specs.Role.{is_source}
 use Rattle.dataflow_model.specs.State.{State}
 use Rattle.dataflow_model.specs.Steps as event
-use Rattle.dataflow_model.specs.Steps.{Event}
 use Rattle.dataflow_laws.specs.declared.step.Step.{Step}
 use Rattle.dataflow_laws.specs.declared.step.Step.TheVariants.{Open, Read, Save, Stop, Close, Take, Put}
 use Rattle.dataflow_laws.specs.StepTask.{task_of}

@@ -9,7 +9,6 @@ use Rattle.dataflow_laws.specs.declared.step.Step.TheVariants.{Read, Save, Stop,
 use Rattle.dataflow_laws.specs.StepTask.{task_of}
 use Rattle.dataflow_laws.specs.StepMoves.{Makes}
 use Rattle.dataflow_laws.specs.World as flow
-use Rattle.dataflow_laws.specs.World.{Move}
 use Rattle.layout_rules.specs.Stages.{inputs_of, partitions_of}
 use Rattle.plan_compiler.specs.LayoutData.{LayoutData}
 use Rattle.core_steps.specs.Given.{layout_in}

@@ -1,5 +1,5 @@
 -- What a try to make a step comes to.
-use Rattle.std.proofs.Common.{◌≡◌, Bool, true, false, Err, refl, sym, subst}
+use Rattle.std.proofs.Common.{◌≡◌, Bool, true, false, Result, Ok, Err, OnErr, refl, sym, subst}
 use Rattle.std.proofs.lemmas.Bool.{false≢true}
 use Rattle.dataflow_laws.specs.declared.step.Step.{Step}
 use Rattle.task_steps.specs.declared.fault.StepFault.{StepFault}
@@ -31,3 +31,8 @@ refused step old new fault is answers =
 
 pub no_step : (old : WorldData) → old.has_failed ≡ false → ((step : Step) → CanMake old step → ⊥) → IsTryOfAll old old false
 no_step old going none = record { going = going; moved = λ e. absurd (false≢true e); kept = λ _. refl; none = λ _. none }
+
+-- what holds anyway holds of an error
+pub on_err : {X E : Type 0} (r : Result X E) (P : Type 0) → P → OnErr r P
+on_err (Ok x) P h = tt
+on_err (Err e) P h = h

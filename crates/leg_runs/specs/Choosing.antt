@@ -18,6 +18,7 @@ use Rattle.core_steps.specs.World.{WorldData, world_in}
 use Rattle.core_steps.specs.Answers.{LeadsTo, CanMake, StepAnswers}
 use Rattle.core_steps.specs.Beginning.{IsNewWorld}
 use Rattle.core_steps.specs.Finishing.{IsFinishIn}
+use Rattle.core_steps.specs.Sealing.{IsSealed}
 use Rattle.core_steps.specs.declared.finish.Finish.{Finish}
 use Rattle.core_steps.specs.declared.finish.Finish.TheVariants.{Ended, Stopped, Abandoned}
 
@@ -92,12 +93,23 @@ pub record MakesThen (choices : List Choice) (old new : WorldData) : Type 0 wher
   pub follows : Follows choices old next
   pub steps : MakesSteps next new
 
--- from this world a leg has ended so by choices, unless it was given up: they were followed, and more steps were made,
--- to a world in which it has ended so
+-- some steps were made, one after the other, and memory was refused for the next
+pub record FailsBehind (old new : WorldData) : Type 0 where
+  pub before : WorldData
+  pub steps : MakesSteps old before
+  pub step : Step
+  pub refused : StepAnswers step before new (Err Memory)
+
+-- memory was refused for the step that a choice picks, or for one that comes when all of them were followed
+abbrev pub GivesUp : List Choice → WorldData → WorldData → Type 0
+GivesUp choices old new = FailsAtStep choices old new ⊎ ((next : WorldData) × Follows choices old next × FailsBehind next new)
+
+-- from this world a leg has ended so by choices: they were followed, and more steps were made, to a world in which it
+-- has ended so; or it was given up for want of memory, with what it has sealed by then
 abbrev pub EndsBy : List Choice → WorldData → Finish → Type 0
 EndsBy choices old (Ended rows sealed) = (new : WorldData) × MakesThen choices old new × IsFinishIn new (Ended rows sealed)
 EndsBy choices old (Stopped rows savepoint) = (new : WorldData) × MakesThen choices old new × IsFinishIn new (Stopped rows savepoint)
-EndsBy choices old (Abandoned sealed) = Unit {0}
+EndsBy choices old (Abandoned sealed) = (new : WorldData) × GivesUp choices old new × IsSealed new.given (world_in new).tasks (Some sealed)
 
 -- so has a leg, from the world in which it opens on the layout of its plan at a scale
 pub record IsLegBy (p : PlanData) (c : ScaleData) (i : InputData) (s : StartData) (saves : List (List (List ℕ))) (until : Until) (choices : List Choice) (finish : Finish) : Type 0 where

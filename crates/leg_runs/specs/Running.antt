@@ -1,10 +1,11 @@
 -- What a world comes to.
-use Rattle.std.specs.Prelude.{◌≡◌, Bool, true, false}
+use Rattle.std.specs.Prelude.{◌≡◌, Bool, true, false, Err}
 use Rattle.dataflow_laws.specs.declared.step.Step.{Step}
 use Rattle.dataflow_laws.specs.Progress.{IsFinished}
 use Rattle.core_steps.specs.Given.{layout_in}
 use Rattle.core_steps.specs.World.{WorldData, world_in}
-use Rattle.core_steps.specs.Answers.{LeadsTo, CanMake}
+use Rattle.task_steps.specs.declared.fault.StepFault.TheVariants.{Memory}
+use Rattle.core_steps.specs.Answers.{LeadsTo, CanMake, StepAnswers}
 
 -- a world has come to where all its tasks are done
 pub record HasRun (old new : WorldData) : Type 0 where
@@ -37,3 +38,7 @@ pub record IsTryOfAll (old new : WorldData) (made : Bool) : Type 0 where
   pub moved : made ≡ true → HasMoved old new
   pub kept : made ≡ false → new ≡ old
   pub none : made ≡ false → (step : Step) → CanMake old step → ⊥
+
+-- where the new world has failed, memory was refused for a step of the old one, and none was made before it
+abbrev pub Refuses : WorldData → WorldData → Type 0
+Refuses old new = new.has_failed ≡ true → (step : Step) × StepAnswers step old new (Err Memory)

@@ -4,10 +4,10 @@
 //! taken as soon as it is put, and its sender goes on once that led to nothing more. What steps there are does not hang
 //! on hints being good ones: each is tried, and all tasks are gone through where none is left.
 
-ghost use Rattle.std.specs.Prelude.{◌≡◌, IfOk, false, vec_len};
+ghost use Rattle.std.specs.Prelude.{◌≡◌, IfOk, OnErr, false, vec_len};
 ghost use Rattle.task_setups.specs.Legs.{IsLayoutOf};
 ghost use Rattle.core_steps.specs.Answers.{CanMake};
-ghost use Rattle.leg_runs.specs.Running.{HasMoved, IsTry, IsTryOf};
+ghost use Rattle.leg_runs.specs.Running.{HasMoved, IsTry, IsTryOf, Refuses};
 
 use crate::order::task_step;
 use core_steps::World;
@@ -48,6 +48,7 @@ fn try_step(world: &mut World, step: Step) -> Result<bool, AllocError>
     requires going { world.old.has_failed ≡ false }
     ensures given { world.new.given ≡ world.old.given }
     ensures tries { IfOk result (IsTryOf step world.old world.new) }
+    ensures refuses { OnErr result (Refuses world.old world.new) }
 {
     match world.apply(step) {
         Ok(()) => Ok(true),
@@ -93,6 +94,7 @@ fn try_put(
     requires going { world.old.has_failed ≡ false }
     ensures given { world.new.given ≡ world.old.given }
     ensures tries { IfOk result (IsTry world.old world.new) }
+    ensures refuses { OnErr result (Refuses world.old world.new) }
     ensures hints { IfOk result (λ made. made ≡ false → vec_len hints.new ≡ vec_len hints.old) }
 {
     let Some(receiver) = world.receiver(task) else {
@@ -116,6 +118,7 @@ fn try_take(
     requires going { world.old.has_failed ≡ false }
     ensures given { world.new.given ≡ world.old.given }
     ensures tries { IfOk result (IsTry world.old world.new) }
+    ensures refuses { OnErr result (Refuses world.old world.new) }
     ensures hints { IfOk result (λ made. made ≡ false → vec_len hints.new ≡ vec_len hints.old) }
 {
     if try_step(world, Step::Take(task, input))? {
@@ -136,6 +139,7 @@ fn try_next(
     requires going { world.old.has_failed ≡ false }
     ensures given { world.new.given ≡ world.old.given }
     ensures tries { IfOk result (IsTry world.old world.new) }
+    ensures refuses { OnErr result (Refuses world.old world.new) }
     ensures hints { IfOk result (λ made. made ≡ false → vec_len hints.new ≡ vec_len hints.old) }
 {
     let Step::Read(task, partition) = step else {
@@ -161,6 +165,7 @@ fn try_task(
     requires going { world.old.has_failed ≡ false }
     ensures given { world.new.given ≡ world.old.given }
     ensures tries { IfOk result (IsTry world.old world.new) }
+    ensures refuses { OnErr result (Refuses world.old world.new) }
     ensures hints { IfOk result (λ made. made ≡ false → vec_len hints.new ≡ vec_len hints.old) }
 {
     if task >= layout.task_count() {
@@ -186,6 +191,7 @@ fn try_again(
     requires going { world.old.has_failed ≡ false }
     ensures given { world.new.given ≡ world.old.given }
     ensures tries { IfOk result (IsTry world.old world.new) }
+    ensures refuses { OnErr result (Refuses world.old world.new) }
     ensures hints { IfOk result (λ made. made ≡ false → vec_len hints.new ≡ vec_len hints.old) }
 {
     if try_put(world, layout, hints, step.task())? {
@@ -215,6 +221,7 @@ pub(crate) fn try_hint(
     requires going { world.old.has_failed ≡ false }
     ensures given { world.new.given ≡ world.old.given }
     ensures tries { IfOk result (IsTry world.old world.new) }
+    ensures refuses { OnErr result (Refuses world.old world.new) }
     ensures hints { IfOk result (λ made. made ≡ false → vec_len hints.new ≡ vec_len hints.old) }
 {
     match hint {
@@ -252,6 +259,7 @@ pub(crate) fn make_found(
     requires going { world.old.has_failed ≡ false }
     ensures given { world.new.given ≡ world.old.given }
     ensures moves { IfOk result (λ _. HasMoved world.old world.new) }
+    ensures refuses { OnErr result (Refuses world.old world.new) }
 {
     note(hints, world, layout, step)?;
     match world.apply(step) {

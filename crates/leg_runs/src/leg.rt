@@ -1,6 +1,6 @@
 //! A leg of a job, run in one thread.
 
-ghost use Rattle.std.specs.Prelude.{◌≡◌, IfErr, IfOk, MatchResult, OnOk, false};
+ghost use Rattle.std.specs.Prelude.{◌≡◌, IfErr, IfOk, MatchResult, OnErr, OnOk, Some, false, true};
 ghost use Rattle.plan_model.specs.Rows.{AreRowsOf};
 ghost use Rattle.stream_model.specs.InputData.{BelongsTo};
 ghost use Rattle.stream_model.specs.PlanRows.{plan_rows};
@@ -16,7 +16,9 @@ ghost use Rattle.task_setups.specs.Legs.{IsLayoutOf, counts_of};
 ghost use Rattle.core_steps.specs.declared.finish.Finish.TheVariants.{Abandoned};
 ghost use Rattle.core_steps.specs.declared.sealing.Sealed.{Sealed};
 ghost use Rattle.core_steps.specs.Ending.{IsEndOf, IsWholeOrGivenUp};
-ghost use Rattle.leg_runs.specs.Choosing.{EndsBy, IsLegBy, MakesThen};
+ghost use Rattle.core_steps.specs.Sealing.{IsSealed};
+ghost use Rattle.core_steps.specs.World.{world_in};
+ghost use Rattle.leg_runs.specs.Choosing.{EndsBy, GivesUp, IsLegBy, MakesThen};
 ghost use Rattle.leg_runs.specs.Running.{HasRun};
 
 use crate::running::{follow, run};
@@ -44,6 +46,7 @@ fn make_steps(
     ensures given { world.new.given ≡ world.old.given }
     ensures has { IfOk result (λ _. HasRun world.old world.new) }
     ensures chosen { OnOk result (MakesThen choices.now world.old world.new) }
+    ensures gives_up { OnErr result (world.new.has_failed ≡ true → GivesUp choices.now world.old world.new) }
 {
     follow(alloc, world, layout, choices)?;
     run(alloc, world, layout)
@@ -57,7 +60,8 @@ fn make_steps(
 fn given_up(alloc: Global, world: &World<'_>) -> Result<Finish, AllocError>
     ensures ends { let g = world.now.given in IfOk result (IsEndOf g.plan g.input g.start g.saves g.until) }
     ensures whole { let g = world.now.given in IfOk result (IsWholeOrGivenUp g.plan g.input) }
-    ensures abandoned { IfOk result (λ finish. (sealed : Sealed) × (finish ≡ Abandoned sealed)) }
+    ensures failed { OnOk result (world.now.has_failed ≡ true) }
+    ensures abandoned { IfOk result (λ finish. (sealed : Sealed) × (finish ≡ Abandoned sealed) × IsSealed world.now.given (world_in world.now).tasks (Some sealed)) }
 {
     if !world.has_failed() {
         return Err(AllocError);
@@ -107,7 +111,7 @@ fn finish_by(
 /// # Errors
 ///
 /// `StopRange` where a leg from the start cannot stop so, else `SaveRange` where it cannot take its savepoints on the
-/// way there, else `Memory` where memory runs out before a savepoint is complete.
+/// way there, else `Memory` where memory runs out: for a step before a savepoint is complete, or for what else is kept.
 pub fn run_leg_by(
     alloc: Global,
     keys: HashKeys,

@@ -1,9 +1,9 @@
 //! A leg run to its end.
 
-ghost use Rattle.std.specs.Prelude.{◌≡◌, IfOk, OnErr, OnOk, false};
+ghost use Rattle.std.specs.Prelude.{◌≡◌, IfOk, OnErr, OnOk, false, true};
 ghost use Rattle.task_setups.specs.Legs.{IsLayoutOf};
-ghost use Rattle.leg_runs.specs.Choosing.{FailsBy, Follows, MakesSteps};
-ghost use Rattle.leg_runs.specs.Running.{HasRun, IsTryOfAll};
+ghost use Rattle.leg_runs.specs.Choosing.{FailsBehind, FailsBy, Follows, MakesSteps};
+ghost use Rattle.leg_runs.specs.Running.{HasRun, IsTryOfAll, Refuses};
 
 use crate::hints::{Hint, make_found, try_hint};
 use crate::order::step_from;
@@ -20,6 +20,7 @@ fn try_first(world: &mut World, layout: &Layout, hints: &mut Vec<Hint>) -> Resul
     requires going { world.old.has_failed ≡ false }
     ensures given { world.new.given ≡ world.old.given }
     ensures tries { IfOk result (IsTryOfAll world.old world.new) }
+    ensures refuses { OnErr result (Refuses world.old world.new) }
 {
     let _failed = world.has_failed();
     let Some(step) = step_from(world, layout, 0) else {
@@ -37,6 +38,7 @@ fn try_any(world: &mut World, layout: &Layout, hints: &mut Vec<Hint>) -> Result<
     requires going { world.old.has_failed ≡ false }
     ensures given { world.new.given ≡ world.old.given }
     ensures tries { IfOk result (IsTryOfAll world.old world.new) }
+    ensures refuses { OnErr result (Refuses world.old world.new) }
 {
     while let Some(hint) = hints.last().copied() {
         if try_hint(world, layout, hints, hint)? {
@@ -83,6 +85,10 @@ pub fn follow(
 }
 
 /// Makes steps until all tasks are done.
+///
+/// # Errors
+///
+/// Only where memory runs out: for a step, and then the world has failed, or for a note of what comes next.
 pub(crate) fn run(alloc: Global, world: &mut World, layout: &Layout) -> Result<(), AllocError>
     requires same { layout.now ≡ world.old.given.layout }
     requires laid_out { IsLayoutOf world.old.given.plan layout.now }
@@ -90,6 +96,7 @@ pub(crate) fn run(alloc: Global, world: &mut World, layout: &Layout) -> Result<(
     ensures given { world.new.given ≡ world.old.given }
     ensures has { IfOk result (λ _. HasRun world.old world.new) }
     ensures steps { OnOk result (MakesSteps world.old world.new) }
+    ensures fails { OnErr result (world.new.has_failed ≡ true → FailsBehind world.old world.new) }
 {
     let mut hints = Vec::new(alloc);
     let _failed = world.has_failed();

@@ -1,4 +1,4 @@
-use Rattle.std.proofs.Common.{◌≡◌, Result, Ok, Err, IfOk, IfSome, sym, subst}
+use Rattle.std.proofs.Common.{◌≡◌, Result, Ok, Err, IfOk, IfSome, subst}
 use Rattle.std.specs.Prelude.{MatchOption}
 use Rattle.plan_model.specs.PlanData.{PlanData}
 use Rattle.stream_model.specs.InputData.{InputData}
@@ -9,8 +9,7 @@ use Rattle.core_steps.specs.declared.finish.Finish.{Finish}
 use Rattle.core_steps.specs.declared.finish.Finish.TheVariants.{Ended, Stopped, Abandoned}
 use Rattle.core_steps.specs.Finishing.{HasFinished, IsFinishIn}
 use Rattle.core_steps.specs.Ending.{IsEndOf, IsWholeOrGivenUp, IsWholeRun}
-use Rattle.leg_runs.specs.Choosing.{EndsBy}
-use Rattle.leg_runs.proofs.Chosen.{ended_by}
+use Rattle.leg_runs.proofs.Chosen.{ended_by, given_by}
 use Rattle.leg_runs.proofs.leg.finish_by.Goals as goal
 
 -- a whole run is one that was not given up
@@ -44,7 +43,7 @@ returns-clause-whole c =
     subst (λ (x : GivenData). IsFromNothing x.input x.start → x.until ≡ ToEnd → IsWholeOrGivenUp x.plan x.input c.in-Some.finish) c.make_steps.ensures.given (λ nothing ends. whole g.plan g.input c.in-Some.finish (is nothing ends))
 
 pub returns-in-Err-clause-chosen : goal.returns-in-Err-clause-chosen
-returns-in-Err-clause-chosen c = weaker c.given_up.result _ _ (λ finish h. subst (EndsBy c.args.choices.now c.args.world) (sym h.1) tt) c.given_up.ensures.abandoned
+returns-in-Err-clause-chosen c = given_by c.args.choices.now c.args.world c.make_steps.new.world c.given_up.result c.in-Err.ensures.gives_up c.given_up.ensures.failed c.given_up.ensures.abandoned
 
 pub returns-clause-chosen : goal.returns-clause-chosen
 returns-clause-chosen c =

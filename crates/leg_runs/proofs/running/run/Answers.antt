@@ -1,10 +1,11 @@
-use Rattle.std.proofs.Common.{inl, inr, rules, refl, sym, subst, ◌∙◌}
+use Rattle.std.proofs.Common.{◌≡◌, true, inl, inr, rules, refl, sym, subst, ◌∙◌}
 use Rattle.std.proofs.lemmas.Bool.{cases_Bool}
 use Rattle.core_steps.specs.World.{WorldData}
 use Rattle.core_steps.specs.Answers.{CanMake}
-use Rattle.leg_runs.specs.Choosing.{MakesSteps}
+use Rattle.leg_runs.specs.Choosing.{FailsBehind, MakesSteps}
 use Rattle.leg_runs.specs.Choosing.MakesSteps.{stay, one}
 use Rattle.leg_runs.proofs.Falling.{step_falls}
+use Rattle.leg_runs.proofs.Tries.{on_err}
 use Rattle.leg_runs.proofs.running.run.Goals as goal
 
 pub loop-hints-smaller : goal.loop-hints-smaller
@@ -40,3 +41,9 @@ returns-clause-has c =
             absurd (tries.none (search rules) next.0 (subst (λ (w : WorldData). CanMake w next.0) (tries.kept (search rules)) next.1)))
       ];
     }
+
+pub returns-in_err-try_any-clause-fails : goal.returns-in_err-try_any-clause-fails
+returns-in_err-try_any-clause-fails c =
+    let new = c.try_any.new.world in
+    on_err c.from_residual.result (new.has_failed ≡ true → FailsBehind c.args.world.now new)
+    (λ failed. let one = c.in_err-try_any.ensures.refuses failed in record { before = c.loop-hints.world; steps = c.loop-hints.invariant.steps; step = one.0; refused = one.1 })
