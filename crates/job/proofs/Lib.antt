@@ -7,3 +7,4 @@ mod CutAnswers
 mod TextAnswers
 mod ShowAnswers
 mod Written
+mod ChosenTexts

@@ -7,3 +7,4 @@ pub mod Show
 pub mod Leg
 pub mod Start
 pub mod Asked
+pub mod Chosen

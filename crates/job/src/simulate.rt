@@ -1,10 +1,11 @@
 //! A job whose order of steps choices pick, from bytes to bytes.
 
-ghost use Rattle.std.specs.Prelude.{◌≡◌, Ok, Some, length, string_bytes, true};
+ghost use Rattle.std.specs.Prelude.{◌≡◌, IfOk, Ok, OnOk, Some, length, string_bytes, true};
 ghost use Rattle.std.specs.List.{All};
 ghost use Rattle.layout_rules.specs.Scale.{IsScale};
 ghost use Rattle.legs.specs.Requirements.{are_legs};
 ghost use Rattle.stream_model.specs.InputData.{BelongsTo};
+ghost use Rattle.job.specs.Chosen.{IsTextBy, IsTextChosen, IsTextOfInput, IsTextOfLegs, IsTextOfPlan, WritesChosen};
 ghost use Rattle.job.specs.Ends.{InOneThread};
 ghost use Rattle.job.specs.Run.{Answers, EndsRun, choices_in, legs_in, run_by, run_job, run_said};
 ghost use Rattle.job_texts.specs.Tells.{KeepsWriter};
@@ -35,7 +36,8 @@ fn text_by(
     requires scales { All (λ leg. IsScale plan.now leg.scale) legs.items }
     requires list { are_legs legs.items ≡ true }
     requires choices { length choices.now ≡ length legs.items }
-    ensures { EndsRun InOneThread string_bytes (Ok (run_job plan.now input.now (Some legs.items))) result }
+    ensures answers { EndsRun InOneThread string_bytes (Ok (run_job plan.now input.now (Some legs.items))) result }
+    ensures chosen { IfOk result (λ text. IsTextBy plan.now input.now legs.items choices.now (string_bytes text)) }
 {
     let end = run_legs_by(alloc, keys, plan, input, legs, choices)?;
     Ok(text_of_rows(alloc, &end.rows)?)
@@ -53,7 +55,8 @@ fn text_chosen(
     requires belongs { BelongsTo plan.now input.now }
     requires scales { All (λ leg. IsScale plan.now leg.scale) legs.items }
     requires list { are_legs legs.items ≡ true }
-    ensures { EndsRun InOneThread string_bytes (choices_in plan.now input.now legs.items (Some choices.now)) result }
+    ensures answers { EndsRun InOneThread string_bytes (choices_in plan.now input.now legs.items (Some choices.now)) result }
+    ensures chosen { IfOk result (λ text. IsTextChosen plan.now input.now legs.items choices.now (string_bytes text)) }
 {
     let choices = read_choices(alloc, choices, legs.len())?;
     text_by(alloc, keys, plan, input, legs, choices.as_slice())
@@ -69,7 +72,8 @@ fn simulated_on_input(
     choices: &[u8],
 ) -> Result<String, JobFault>
     requires { BelongsTo plan.now input.now }
-    ensures { EndsRun InOneThread string_bytes (legs_in plan.now input.now legs.now (Some choices.now)) result }
+    ensures answers { EndsRun InOneThread string_bytes (legs_in plan.now input.now legs.now (Some choices.now)) result }
+    ensures chosen { IfOk result (λ text. IsTextOfLegs plan.now input.now legs.now choices.now (string_bytes text)) }
 {
     let legs = read_legs(alloc, plan, legs)?;
     text_chosen(alloc, keys, plan, input, legs, choices)
@@ -84,7 +88,8 @@ fn simulated_of_plan(
     legs: &[u8],
     choices: &[u8],
 ) -> Result<String, JobFault>
-    ensures { EndsRun InOneThread string_bytes (run_by plan.now input.items (Some legs.now) (Some choices.now)) result }
+    ensures answers { EndsRun InOneThread string_bytes (run_by plan.now input.items (Some legs.now) (Some choices.now)) result }
+    ensures chosen { IfOk result (λ text. IsTextOfInput plan.now input.items legs.now choices.now (string_bytes text)) }
 {
     let input = read_input(alloc, plan, input)?;
     simulated_on_input(alloc, keys, plan, &input, legs, choices)
@@ -99,7 +104,8 @@ fn simulated_of_texts(
     legs: &[u8],
     choices: &[u8],
 ) -> Result<String, JobFault>
-    ensures { EndsRun InOneThread string_bytes (run_said plan.now input.items (Some legs.now) (Some choices.now)) result }
+    ensures answers { EndsRun InOneThread string_bytes (run_said plan.now input.items (Some legs.now) (Some choices.now)) result }
+    ensures chosen { IfOk result (λ text. IsTextOfPlan plan.now input.items legs.now choices.now (string_bytes text)) }
 {
     let plan = Plan::read(alloc, plan)?;
     simulated_of_plan(alloc, keys, &plan, input, legs, choices)
@@ -124,6 +130,7 @@ pub fn job_simulate<W: Write>(
     out: &mut W,
 ) -> Result<(), JobFault>
     ensures answers { Answers InOneThread (run_said plan.now input.items (Some legs.now) (Some choices.now)) result (W.contents out.old) (W.contents out.new) }
+    ensures chosen { OnOk result (WritesChosen plan.now input.items legs.now choices.now (W.contents out.old) (W.contents out.new)) }
     ensures kept { KeepsWriter result (W.contents out.old) (W.contents out.new) }
 {
     let text = simulated_of_texts(alloc, keys, plan, input, legs, choices)?;
