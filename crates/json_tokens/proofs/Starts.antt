@@ -49,8 +49,12 @@ name_first after_value s ls e = absurd (cc)
 name_first after_comma s ls e = refl
 name_first after_key s ls e = absurd (cc)
 
+-- the bracket may stand behind white space
+pub bracket_begins : (ts : List Token) (t r : List ℕ) → Begins ts t → lex between t ≡ lex between (91 ∷ r) → ts ≡ begin_array ∷ tokens_from false r
+bracket_begins ts t r b e = b.2 ∙ ap (punctuate b.0) e ∙ bracket_first b.0 r b.1
+
 pub list_begins : (ts : List Token) (t r : List ℕ) → Begins ts t → t ≡ 91 ∷ r → ts ≡ begin_array ∷ tokens_from false r
-list_begins ts t r b e = b.2 ∙ ap (λ u. punctuate b.0 (lex between u)) e ∙ bracket_first b.0 r b.1
+list_begins ts t r b e = bracket_begins ts t r b (ap (lex between) e)
 
 pub object_begins : (ts : List Token) (t r : List ℕ) → Begins ts t → t ≡ 123 ∷ r → ts ≡ begin_object ∷ tokens_from false r
 object_begins ts t r b e = b.2 ∙ ap (λ u. punctuate b.0 (lex between u)) e ∙ brace_first b.0 r b.1

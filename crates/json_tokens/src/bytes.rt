@@ -7,6 +7,7 @@ ghost use Rattle.json.specs.Run.{is_plain};
 ghost use Rattle.json_tokens.specs.Lexemes.{ends_number, BeginsDigits, BeginsName};
 
 use core::dec2flt::read_digits;
+use digit_words::few_digits;
 
 /// The most digits whose number surely fits 64 bits.
 const MOST_DIGITS: usize = 19;
@@ -50,6 +51,17 @@ pub fn behind_spaces(text: &[u8]) -> &[u8]
     &text[at..]
 }
 
+/// What follows the byte, where it comes first or behind white space.
+#[inline(always)]
+pub fn behind_mark(text: &[u8], byte: u8) -> Option<&[u8]>
+    ensures { IfSome result (λ rest. lex between text.now ≡ lex between (byte ∷ rest.now)) }
+{
+    if let Some(rest) = behind(text, byte) {
+        return Some(rest);
+    }
+    behind(behind_spaces(text), byte)
+}
+
 #[inline(always)]
 fn ends_number(byte: u8) -> bool
     ensures { result ≡ ends_number byte }
@@ -73,8 +85,21 @@ pub fn digits(text: &[u8]) -> Option<(u64, &[u8])>
     Some((value, rest))
 }
 
-/// How many bytes come before the first that ends the text of a string, or begins an escape in it.
+/// The same of digits that are found at once, if they are.
 #[inline(always)]
+pub fn short_digits(text: &[u8]) -> Option<(u64, &[u8])>
+    ensures { IfSome result (λ found. BeginsDigits text.now found.0 found.1.now) }
+{
+    let (count, value) = few_digits(text)?;
+    if count == 0 || !ends_number(text[count]) || (text[0] == b'0' && count != 1) {
+        return None;
+    }
+    Some((value, &text[count..]))
+}
+
+/// How many bytes come before the first that ends the text of a string, or begins an escape in it.
+// In line it had no registers of its own, and took twice as long.
+#[inline(never)]
 fn plain_end(text: &[u8]) -> usize
     ensures value { result ≡ prefix_len is_plain text.now }
     ensures within { result ≤ length text.now }

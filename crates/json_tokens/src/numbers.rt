@@ -5,7 +5,7 @@ ghost use Rattle.serde_json.specs.Data.{unsigned as positive};
 ghost use Rattle.serde_json.specs.Find.{as_i64};
 ghost use Rattle.json_tokens.specs.Lexemes.{BeginsWhole};
 
-use crate::bytes::{behind, digits};
+use crate::bytes::{behind, behind_spaces, digits, short_digits};
 
 #[inline(always)]
 fn small(n: u64) -> Option<i64>
@@ -32,9 +32,9 @@ fn negated(size: u64) -> Option<i64>
     }
 }
 
-/// The whole number of 64 bits that comes first in a text, and what follows it.
+/// The whole number of 64 bits that comes first in a text, with or without a sign, and what follows it.
 #[inline(always)]
-pub fn whole_at(text: &[u8]) -> Option<(i64, &[u8])>
+fn signed_at(text: &[u8]) -> Option<(i64, &[u8])>
     ensures said { IfSome result (λ found. BeginsWhole text.now found.0 found.1.now) }
     ensures fits { IfSome result (λ found. FitsSigned w64 found.0) }
 {
@@ -46,4 +46,18 @@ pub fn whole_at(text: &[u8]) -> Option<(i64, &[u8])>
     let (size, rest) = digits(text)?;
     let number = small(size)?;
     Some((number, rest))
+}
+
+/// The whole number of 64 bits that comes first in a text or behind white space, and what follows it. Most have no
+/// sign and few digits.
+#[inline(always)]
+pub fn whole_at(text: &[u8]) -> Option<(i64, &[u8])>
+    ensures said { IfSome result (λ found. BeginsWhole text.now found.0 found.1.now) }
+    ensures fits { IfSome result (λ found. FitsSigned w64 found.0) }
+{
+    if let Some((size, rest)) = short_digits(text) {
+        let number = small(size)?;
+        return Some((number, rest));
+    }
+    signed_at(behind_spaces(text))
 }

@@ -7,7 +7,7 @@ ghost use Rattle.json_tokens.specs.Ahead.{part, parts};
 ghost use Rattle.json_tokens.specs.Lexemes.{tokens_from, Begins};
 ghost use Rattle.json_tokens.specs.Rows.{row_text, joined};
 
-use crate::bytes::{behind, behind_spaces};
+use crate::bytes::behind_mark;
 use crate::miss::Miss;
 use crate::numbers::whole_at;
 use crate::scanner::Scanner;
@@ -27,7 +27,7 @@ fn cells_at<'a>(
     ensures fewer { IfOk result (λ rest. length (lex between rest.now) < length (lex between text.now)) }
     ensures within { OnOk result (length cells.new.items ≤ most) }
 {
-    let mut item = behind_spaces(text);
+    let mut item = text;
     'cells: loop {
         let Some((cell, rest)) = whole_at(item) else {
             return Err(Miss::Other);
@@ -36,14 +36,13 @@ fn cells_at<'a>(
             return Err(Miss::Other);
         }
         cells.push(cell)?;
-        let spaced = behind_spaces(rest);
-        let Some(next) = behind(spaced, b',') else {
-            let Some(over) = behind(spaced, b']') else {
+        let Some(next) = behind_mark(rest, b',') else {
+            let Some(over) = behind_mark(rest, b']') else {
                 return Err(Miss::Other);
             };
             return Ok(over);
         };
-        item = behind_spaces(next);
+        item = next;
     }
 }
 
@@ -65,7 +64,7 @@ fn row_at<'a>(
     if depth == 0 {
         return Err(Miss::Other);
     }
-    let Some(inner) = behind(text, b'[') else {
+    let Some(inner) = behind_mark(text, b'[') else {
         return Err(Miss::Other);
     };
     let before = cells.len();
@@ -91,20 +90,19 @@ fn rows_at<'a>(
     ensures shorter { IfOk result (λ rest. length (tokens_from true rest.now) < length (tokens_from false text.now)) }
     ensures within { OnOk result (length cells.old.items ≤ most → length cells.new.items ≤ most) }
 {
-    let mut item = behind_spaces(text);
-    if let Some(over) = behind(item, b']') {
+    if let Some(over) = behind_mark(text, b']') {
         return Ok(over);
     }
+    let mut item = text;
     'rows: loop {
         let rest = row_at(item, cells, width, most, depth)?;
-        let spaced = behind_spaces(rest);
-        let Some(next) = behind(spaced, b',') else {
-            let Some(over) = behind(spaced, b']') else {
+        let Some(next) = behind_mark(rest, b',') else {
+            let Some(over) = behind_mark(rest, b']') else {
                 return Err(Miss::Other);
             };
             return Ok(over);
         };
-        item = behind_spaces(next);
+        item = next;
     }
 }
 

@@ -6,6 +6,7 @@ ghost use Rattle.std.specs.Fmt.{signed_decimal};
 ghost use Rattle.row_lines.specs.Numbers.{GivesNumber, IsNumberFront, IsSizeFront, IsSizeOf};
 
 use core::dec2flt::read_digits;
+use digit_words::few_digits;
 use itoa::Buffer;
 use std::str;
 
@@ -41,6 +42,9 @@ fn with_rest(size: u64, text: &[u8], count: usize) -> Option<(i64, &[u8])>
 fn size_front(text: &[u8]) -> Option<(i64, &[u8])>
     ensures { IfSome result (λ front. IsSizeFront text.now front.0 front.1.now) }
 {
+    if let Some((count, size)) = few_digits(text) {
+        return with_rest(size, text, count);
+    }
     let (count, size) = read_digits(text, 0, 0);
     if MOST_DIGITS < count {
         return None;

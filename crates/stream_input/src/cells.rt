@@ -1,7 +1,8 @@
 //! Batches of numbers that stand in one list, row after row.
 
-ghost use Rattle.std.specs.Prelude.{◌≡◌, ◌<◌, ◌≤◌, ◌*◌, ℤ, true, List, Option, Some, ◌++◌, length, map, IfOk, OnOk};
+ghost use Rattle.std.specs.Prelude.{◌≡◌, ◌<◌, ◌≤◌, ◌+◌, ◌*◌, ℤ, true, List, Option, Some, ◌++◌, length, map, IfOk};
 ghost use Rattle.std.specs.List.{flat_map, range_with_len};
+ghost use Rattle.std.specs.Vec.{vec_len, vec_capacity};
 ghost use Rattle.columns.specs.Table.{IsWidth};
 ghost use Rattle.json_tokens.specs.Rows.{joined};
 ghost use Rattle.stream_input.specs.Fit.{column_in_cells, if_fit};
@@ -15,21 +16,18 @@ use json_tokens::Miss;
 use plan_model::are_times;
 use std::alloc::{AllocError, Global};
 
-fn put_column(
-    numbers: &mut Vec<i64>,
-    cells: &[i64],
-    width: usize,
-    count: usize,
-    column: usize,
-) -> Result<(), AllocError>
+/// Puts the cells of a column behind numbers, where there is room for them.
+fn put_column(numbers: &mut Vec<i64>, cells: &[i64], width: usize, count: usize, column: usize)
     requires column_in { column < width }
     requires whole { count * width ≤ length cells.now }
-    ensures { OnOk result (numbers.new.items ≡ numbers.old.items ++ column_in_cells width count cells.now column) }
+    requires room { vec_len numbers.old + count ≤ vec_capacity numbers.old }
+    ensures put { numbers.new.items ≡ numbers.old.items ++ column_in_cells width count cells.now column }
+    ensures len { vec_len numbers.new ≡ vec_len numbers.old + count }
+    ensures capacity { vec_capacity numbers.new ≡ vec_capacity numbers.old }
 {
     for row in 0..count {
-        numbers.push(cells[row * width + column])?;
+        numbers.push_reserved(cells[row * width + column]);
     }
-    Ok(())
 }
 
 fn numbers_at(
@@ -43,7 +41,7 @@ fn numbers_at(
 {
     let mut numbers = Vec::with_capacity(alloc, count * width)?;
     for column in 0..width {
-        put_column(&mut numbers, cells, width, count, column)?;
+        put_column(&mut numbers, cells, width, count, column);
     }
     Ok(numbers)
 }

@@ -14,6 +14,7 @@ use json_parts::{PartError, value_of};
 use json_tokens::Miss;
 use plain_data::Items;
 use plan_model::Plan;
+use simdutf8::basic::from_utf8;
 use std::alloc::Global;
 use stream_model::{Input, Source, first_late, is_few};
 
@@ -80,7 +81,7 @@ fn check_bytes(alloc: Global, plan: &Plan, bytes: &[u8]) -> Result<(), InputFaul
 fn read_by_tokens(alloc: Global, plan: &Plan, bytes: &[u8]) -> Result<Items<Source>, Miss>
     ensures { IfOk result (λ sources. IsRead plan.now (option_and_then input_text (json_of bytes.now)) sources) }
 {
-    match str::from_utf8(bytes) {
+    match from_utf8(bytes) {
         Ok(text) => sources_in(alloc, plan, text),
         Err(_) => Err(Miss::Other),
     }

@@ -13,6 +13,8 @@ mod calendars;
 #[cfg(test)]
 mod decimals;
 #[cfg(test)]
+mod digits;
+#[cfg(test)]
 mod groups;
 #[cfg(test)]
 mod instants;

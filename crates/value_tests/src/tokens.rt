@@ -95,6 +95,45 @@ fn rows(rt: HostRuntime) -> Result<(), Fail> {
     Ok(())
 }
 
+/// A number of fewer than eight digits is read at once where eight bytes are there, and any other digit by digit.
+#[test]
+fn digits_within_eight_bytes_and_beyond(rt: HostRuntime) -> Result<(), Fail> {
+    for (text, want) in [
+        ("[[7],[12]]", [7, 12]),
+        ("[[0],[1234567]]", [0, 1_234_567]),
+        ("[[1234567],[0]]", [1_234_567, 0]),
+        ("[[12345678],[9]]", [12_345_678, 9]),
+        ("[[123456789],[-1234567]]", [123_456_789, -1_234_567]),
+        ("[[9223372036854775807],[1000000]]", [i64::MAX, 1_000_000]),
+        ("[ [ 12 ] , [\t34\n] ] ", [12, 34]),
+        ("[[1 ],[2\r]]", [1, 2]),
+    ] {
+        let cells = cells_of(&rt, text, 1, 2, 2)?;
+        assert_eq!(rt; cells.as_slice(), want.as_slice(), "at {text}");
+    }
+    for text in [
+        "[[01],[1234567]]",
+        "[[0123456],[1]]",
+        "[[00000000],[1]]",
+        "[[],[1234567]]",
+        "[[1x],[1234567]]",
+        "[[1.0],[1234567]]",
+        "[[1e5],[1234567]]",
+        "[[1:2],[1234567]]",
+        "[[1;2],[1234567]]",
+        "[[1/],[1234567]]",
+        "[[12345678x],[1]]",
+        "[[1[2]],[1234567]]",
+        "[[1,],[1234567]]",
+        "[[,1],[1234567]]",
+        "[[1}],[1234567]]",
+    ] {
+        let refused = cells_of(&rt, text, 1, 2, 2).err();
+        assert_eq!(rt; refused, Some(Miss::Other), "at {text}");
+    }
+    Ok(())
+}
+
 fn walk(text: &str) -> Result<usize, OtherForm> {
     let mut reader = Scanner::new(text.as_bytes());
     reader.open_object()?;

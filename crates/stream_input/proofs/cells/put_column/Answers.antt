@@ -12,5 +12,10 @@ cell_more first old new cell n x before is more =
 
 pub loop-row-preserved : goal.loop-row-preserved
 loop-row-preserved c =
+    let i = c.loop-row.invariant in
     let cell : ℕ → ℤ = λ row. get_or c.args.cells.now (row * c.args.width + c.args.column) (pos 0) in
-    cell_more c.args.numbers.now.items c.loop-row.numbers.items _ cell c.loop-row.row _ c.loop-row.invariant (search rules) c.in_ok-push.ensures.items
+    record {
+      items = cell_more c.args.numbers.now.items c.loop-row.numbers.items _ cell c.loop-row.row _ i.items (search rules) c.push_reserved.ensures.items;
+      len = omega (arith, i.len, c.push_reserved.ensures.len);
+      capacity = c.push_reserved.ensures.capacity ∙ i.capacity;
+    }

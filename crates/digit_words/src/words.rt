@@ -1,0 +1,69 @@
+//! A word of eight bytes, its first byte the lowest.
+
+ghost use Rattle.std.specs.Prelude.{◌≡◌, ◌⊎◌, ℕ, ◌<◌, ◌≤◌, List, length, take, IfSome, IfNone};
+ghost use Rattle.std.specs.List.{prefix_len};
+ghost use Rattle.std.specs.Char.{is_ascii_digit};
+ghost use Rattle.std.specs.Str.Parse.{digits_value};
+ghost use Rattle.core.specs.Prelude.{nat_le};
+ghost use Rattle.core.specs.Slice.Scan.{digits_from, flag_word};
+ghost use Rattle.core.specs.Dec2flt.Digits.{IsEightDigits};
+ghost use Rattle.core.specs.Int.Digits.{number_from_digits};
+ghost use lib.Lanes.{number_l};
+
+/// The digit zero in each byte.
+const ZEROS: u64 = 0x3030_3030_3030_3030;
+
+/// The high bit of each byte that is 10 or more. No sum carries into the next byte.
+#[inline(always)]
+fn flags_from_ten(lanes: u64) -> u64
+    ensures { (byte : ℕ → ℕ) → ((k : ℕ) → byte k < 256) → lanes ≡ digits_from byte 0 8
+        → result ≡ flag_word (λ k. nat_le 10 (byte k)) }
+{
+    ((lanes & 0x7f7f_7f7f_7f7f_7f7f) + 0x7676_7676_7676_7676 | lanes) & 0x8080_8080_8080_8080
+}
+
+/// The number that eight digits write.
+#[inline(always)]
+fn value_of_eight(lanes: u64) -> u64
+    ensures { (ds : List ℕ) → IsEightDigits ds → lanes ≡ number_l 256 ds → result ≡ number_from_digits 10 ds }
+{
+    let pairs = lanes.wrapping_mul(10).wrapping_add(lanes >> 8);
+    let first = (pairs & 0x0000_00ff_0000_00ff).wrapping_mul(100 + (1_000_000 << 32));
+    let second = ((pairs >> 16) & 0x0000_00ff_0000_00ff).wrapping_mul(1 + (10_000 << 32));
+    first.wrapping_add(second) >> 32
+}
+
+/// How many digits come first, where they are fewer than eight, and the number that they write.
+#[inline(always)]
+fn digits_in(bytes: &[u8; 8]) -> Option<(usize, u64)>
+    ensures few { IfSome result (λ found. found.0 < 8) }
+    ensures counted { IfSome result (λ found. found.0 ≡ prefix_len is_ascii_digit bytes.now) }
+    ensures says { IfSome result (λ found. found.1 ≡ digits_value 10 (take found.0 bytes.now)) }
+    ensures none { IfNone result (prefix_len is_ascii_digit bytes.now ≡ 8) }
+{
+    let lanes = u64::from_le_bytes(*bytes) ^ ZEROS;
+    let others = flags_from_ten(lanes);
+    if others == 0 {
+        return None;
+    }
+    let count = others.trailing_zeros() / 8;
+    // Two shifts, since a shift by 64 is not defined.
+    let last = lanes << (56 - 8 * count) << 8;
+    Some((count as usize, value_of_eight(last)))
+}
+
+/// How many digits a text begins with, and the number that they write, 0 where there is none. Of a text of fewer than
+/// eight bytes, and of one that begins with eight digits, there is no telling.
+#[inline(always)]
+pub fn few_digits(text: &[u8]) -> Option<(usize, u64)>
+    ensures few { IfSome result (λ found. found.0 < 8) }
+    ensures more { IfSome result (λ found. found.0 < length text.now) }
+    ensures counted { IfSome result (λ found. found.0 ≡ prefix_len is_ascii_digit text.now) }
+    ensures says { IfSome result (λ found. found.1 ≡ digits_value 10 (take found.0 text.now)) }
+    ensures none { IfNone result ((length text.now < 8) ⊎ (8 ≤ prefix_len is_ascii_digit text.now)) }
+{
+    match text.first_chunk::<8>() {
+        Some(front) => digits_in(front),
+        None => None,
+    }
+}
