@@ -95,7 +95,7 @@ fn rows(rt: HostRuntime) -> Result<(), Fail> {
     Ok(())
 }
 
-/// A number of fewer than eight digits is read at once where eight bytes are there, and any other digit by digit.
+/// A number of fewer than eight digits is read at once where eight bytes are there, and any other in another way.
 #[test]
 fn digits_within_eight_bytes_and_beyond(rt: HostRuntime) -> Result<(), Fail> {
     for (text, want) in [
