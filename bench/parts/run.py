@@ -9,18 +9,23 @@ into N parts (4), `run` of each part, and `rows` over what they print, of which 
 `run`.
 
 For each, the least CPU time of user and system, the least wall time and the greatest peak of memory, of 3 runs or as
---runs says, in turn, and the CPU time over that of reading. The last line has the longest way of a job whose parts run
-side by side, over the one `run`: that of the slowest part, and the same with `split` before it and `rows` behind it.
-Ends with status 1 if two answers differ.
+--runs says, in turn, and the CPU time over that of reading. `ranges` is what scripts/streamjob_dask does in place of
+`rows`, by all processors (scripts/row_ranges.py); of it the wall time alone is measured. The last line has the longest
+way of a job whose parts run side by side, over the one `run`: that of the slowest part, with `rows` behind it, with
+`ranges` behind it, and with `split` before it and `ranges` behind. Ends with status 1 if two answers differ.
 """
 import argparse
+import os
 import pathlib
 import sys
 import tempfile
+import time
 
 sys.dont_write_bytecode = True
-sys.path.insert(0, str(pathlib.Path(__file__).resolve().parents[1]))
+HERE = pathlib.Path(__file__).resolve()
+sys.path[:0] = [str(HERE.parents[1]), str(HERE.parents[2] / "scripts")]
 from measuring import PROGRAM, Cost, generate, run_once  # noqa: E402
+from row_ranges import put_together  # noqa: E402
 
 
 def told(name, cost, reading):
@@ -40,29 +45,41 @@ def commands_of(parts):
     ]
 
 
+def put_in_ranges(program, folder, rows):
+    """How long it takes to put rows together by all processors."""
+    with tempfile.TemporaryDirectory(dir=folder) as name, open(folder / "ranges.rows", "wb") as out:
+        begun = time.monotonic()
+        if not put_together(program, rows, out, pathlib.Path(name) / "ranges", len(os.sched_getaffinity(0))):
+            sys.exit("there are too few rows, or processors, for ranges")
+        return time.monotonic() - begun
+
+
 def costs_of(program, folder, commands, runs):
-    """What each command took, by its name. They run in turn, so that a slow minute is one for all; `split` finds no
-    parts."""
-    costs = {name: Cost() for name, _, _ in commands}
+    """What each command took, by its name, and the wall time of ranges. They run in turn, so that a slow minute is one
+    for all; `split` finds no parts."""
+    costs, ranges = {name: Cost() for name, _, _ in commands}, float("inf")
+    rows = [folder / out for name, _, out in commands if name.startswith("run part")]
     for _ in range(runs):
         for name, words, out in commands:
             if name == "split":
                 for part in folder.glob("part.*"):
                     part.unlink()
             costs[name].take(*run_once(program, folder, words, out))
-    return costs
+        ranges = min(ranges, put_in_ranges(program, folder, rows))
+    return costs, ranges
 
 
 def measure(program, folder, parts, runs):
     """Prints what each command took; returns whether the parts gave what the whole gave."""
-    costs = costs_of(program, folder, commands_of(parts), runs)
+    costs, ranges = costs_of(program, folder, commands_of(parts), runs)
     for name, cost in costs.items():
         told(name, cost, costs["cuts"].cpu)
+    print(f"ranges       wall {ranges:7.3f} s")
     slowest = max(cost.wall for name, cost in costs.items() if name.startswith("run part"))
-    way = slowest + costs["split"].wall + costs["rows"].wall
+    ways = {"the slowest part": slowest, "with rows": slowest + costs["rows"].wall, "with ranges": slowest + ranges, "with split and ranges": slowest + costs["split"].wall + ranges}
     whole = costs["run"].wall
-    print(f"longest way over one run: the slowest part {slowest / whole:.2f}, with split and rows {way / whole:.2f}")
-    return (folder / "all.rows").read_bytes() == (folder / "whole.rows").read_bytes()
+    print("longest way over one run:", ", ".join(f"{name} {way / whole:.2f}" for name, way in ways.items()))
+    return len({(folder / name).read_bytes() for name in ("whole.rows", "all.rows", "ranges.rows")}) == 1
 
 
 def main():
