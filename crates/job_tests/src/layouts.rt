@@ -13,7 +13,7 @@ use std::time::Clock;
 
 /// The bytes of the same savepoint without an index.
 fn unindexed(alloc: Global, bytes: &[u8]) -> Result<Vec<u8>, Fail> {
-    let savepoint = decode(alloc, bytes)?;
+    let savepoint = Box::new(alloc, decode(alloc, bytes)?)?;
     Ok(savepoint_codec::encode(alloc, &savepoint)?)
 }
 

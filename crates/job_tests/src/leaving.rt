@@ -36,7 +36,7 @@ fn sealed_after(
 {
     let layout = given.layout;
     let choices = vec![in alloc; Choice { number: 0 }; steps]?;
-    let mut world = World::new(alloc, keys, given, Stop::Never)?;
+    let mut world = Box::new(alloc, World::new(alloc, keys, given, Stop::Never)?)?;
     follow(alloc, &mut world, layout, &choices)?;
     Ok(world.sealed(alloc)?)
 }
@@ -57,10 +57,16 @@ fn first_sealed(alloc: Global, keys: HashKeys, given: Given<'_>) -> Result<Optio
 
 /// The text of the rows that a leg has sealed, and the bytes of the savepoint.
 fn told(alloc: Global, sealed: Sealed) -> Result<(String, Vec<u8>), Fail> {
-    let mut rows = sealed.rows.into_vec();
+    let Sealed {
+        rows,
+        savepoint,
+        ..
+    } = sealed;
+    let savepoint = Box::new(alloc, savepoint)?;
+    let mut rows = rows.into_vec();
     sort_rows(&mut rows)?;
     let text = text_of_rows(alloc, &rows)?;
-    let bytes = encode(alloc, &sealed.savepoint)?;
+    let bytes = encode(alloc, &savepoint)?;
     Ok((text, bytes))
 }
 
@@ -74,7 +80,7 @@ fn left_from(
     requires belongs { BelongsTo plan.now input.now }
     requires starts { IsStartIn plan.now input.now start.now }
 {
-    let layout = layout_of(alloc, plan)?;
+    let layout = Box::new(alloc, layout_of(alloc, plan)?)?;
     let saves = [halfway(alloc)?];
     let given = Given {
         plan,
@@ -97,7 +103,7 @@ fn left_on_input(
 ) -> Result<Option<(String, Vec<u8>)>, Fail>
     requires { BelongsTo plan.now input.now }
 {
-    let start = Start::empty(alloc, plan, input)?;
+    let start = Box::new(alloc, Start::empty(alloc, plan, input)?)?;
     left_from(alloc, keys, plan, input, &start)
 }
 
@@ -106,13 +112,13 @@ fn left_of_plan(
     keys: HashKeys,
     plan: &Plan,
 ) -> Result<Option<(String, Vec<u8>)>, Fail> {
-    let input = Input::read(alloc, plan, INPUT.as_bytes())?;
+    let input = Box::new(alloc, Input::read(alloc, plan, INPUT.as_bytes())?)?;
     left_on_input(alloc, keys, plan, &input)
 }
 
 /// The rows that a leg has sealed when it is left, and the bytes of its savepoint.
 fn left(alloc: Global, keys: HashKeys) -> Result<Option<(String, Vec<u8>)>, Fail> {
-    let plan = Plan::read(alloc, PLAN.as_bytes())?;
+    let plan = Box::new(alloc, Plan::read(alloc, PLAN.as_bytes())?)?;
     left_of_plan(alloc, keys, &plan)
 }
 

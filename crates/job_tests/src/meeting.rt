@@ -98,10 +98,11 @@ fn sources_of_a_list_of_legs_meet(rt: HostRuntime) -> Result<(), Fail> {
     let alloc = rt.alloc();
     let gate = Meeting::new(&rt, LIMIT);
     let keys = HashKeys::random(&rt)?;
-    let plan = Plan::read(alloc, PLAN.as_bytes())?;
-    let input = Input::read(alloc, &plan, INPUT.as_bytes())?;
+    let plan = Box::new(alloc, Plan::read(alloc, PLAN.as_bytes())?)?;
+    let input = Box::new(alloc, Input::read(alloc, &plan, INPUT.as_bytes())?)?;
     let legs = read_legs(alloc, &plan, LEG_OF_TWO.as_bytes())?;
     let end = run_legs(&rt, alloc, keys, &plan, &input, legs, &gate)?;
+    let end = Box::new(alloc, end)?;
     assert_eq!(rt; end.rows.len(), 4);
     assert!(rt; gate.took_place() && !gate.gave_up());
     Ok(())

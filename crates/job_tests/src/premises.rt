@@ -19,7 +19,7 @@ use plan_compiler::{Layout, compile};
 use plan_model::Plan;
 use plan_scale::ReadScale;
 use redistribute::Start;
-use std::alloc::Global;
+use std::alloc::{AllocError, Global};
 use std::process::Abort;
 use std::test::Fail;
 use stream_input::ReadInput;
@@ -28,7 +28,7 @@ use stream_model::Input;
 pub fn layout_of(alloc: Global, plan: &Plan) -> Result<Layout, Fail>
     ensures { IfOk result (λ layout. IsLayoutOf plan.now layout) }
 {
-    let scale = Scale::read(alloc, plan, SCALE.as_bytes())?;
+    let scale = Box::new(alloc, Scale::read(alloc, plan, SCALE.as_bytes())?)?;
     Ok(compile(alloc, plan, &scale)?)
 }
 
@@ -53,9 +53,9 @@ fn rows_after(
 {
     let layout = given.layout;
     let choices = vec![in alloc; Choice { number: 0 }; steps]?;
-    let mut world = World::new(alloc, keys, given, stop)?;
+    let mut world = Box::new(alloc, World::new(alloc, keys, given, stop)?)?;
     follow(alloc, &mut world, layout, &choices)?;
-    match leg_of(alloc, world)? {
+    match leg_of(alloc, Box::into_inner(world))? {
         Some(Finish::Ended(rows, _)) => Ok(Some((rows.len(), false))),
         Some(Finish::Stopped(rows, _)) => Ok(Some((rows.len(), true))),
         Some(Finish::Abandoned(_)) | None => Ok(None),
@@ -70,7 +70,7 @@ fn check_legs(
 ) -> Result<(), Fail>
     requires { BelongsTo plan.now input.now }
 {
-    let start = Start::empty(rt.alloc(), plan, input)?;
+    let start = Box::new(rt.alloc(), Start::empty(rt.alloc(), plan, input)?)?;
     check_legs_from(rt, keys, plan, input, &start)
 }
 
@@ -103,7 +103,7 @@ fn check_legs_from(
     requires belongs { BelongsTo plan.now input.now }
     requires starts { IsStartIn plan.now input.now start.now }
 {
-    let layout = layout_of(rt.alloc(), plan)?;
+    let layout = Box::new(rt.alloc(), layout_of(rt.alloc(), plan)?)?;
     let given = Given {
         plan,
         input,
@@ -121,14 +121,14 @@ fn check_legs_on_input(
     keys: HashKeys,
     plan: &Plan,
 ) -> Result<(), Fail> {
-    let input = Input::read(rt.alloc(), plan, INPUT.as_bytes())?;
+    let input = Box::new(rt.alloc(), Input::read(rt.alloc(), plan, INPUT.as_bytes())?)?;
     check_legs(rt, keys, plan, &input)
 }
 
 #[test]
 fn a_finished_world_is_a_leg(rt: HostRuntime) -> Result<(), Fail> {
     let keys = HashKeys::random(&rt)?;
-    let plan = Plan::read(rt.alloc(), PLAN.as_bytes())?;
+    let plan = Box::new(rt.alloc(), Plan::read(rt.alloc(), PLAN.as_bytes())?)?;
     check_legs_on_input(&rt, keys, &plan)
 }
 
@@ -140,7 +140,7 @@ fn starts_at(
     bytes: &[u8],
     read: u64,
 ) -> Result<bool, JobFault> {
-    let start = start_from(alloc, plan, input, bytes)?;
+    let start = Box::new(alloc, start_from(alloc, plan, input, bytes)?)?;
     Ok(
         start.sources().iter().all(|partitions| {
             partitions
@@ -154,7 +154,7 @@ fn starts_at(
 /// Bytes give such a start, and others none.
 fn check_start(rt: &(impl AllocGlobal + Abort), plan: &Plan, bytes: &[u8]) -> Result<(), Fail> {
     let alloc = rt.alloc();
-    let input = Input::read(alloc, plan, INPUT.as_bytes())?;
+    let input = Box::new(alloc, Input::read(alloc, plan, INPUT.as_bytes())?)?;
     assert_eq!(rt; starts_at(alloc, plan, &input, bytes, 2), Ok(true));
     assert_eq!(rt; starts_at(alloc, plan, &input, bytes, 1), Ok(false));
     for magic in [b"WSP1", b"WSP2"] {
@@ -167,19 +167,19 @@ fn check_start(rt: &(impl AllocGlobal + Abort), plan: &Plan, bytes: &[u8]) -> Re
 /// Bytes give no start by another plan.
 fn check_refused(rt: &(impl AllocGlobal + Abort), other: &Plan, bytes: &[u8]) -> Result<(), Fail> {
     let alloc = rt.alloc();
-    let input = Input::read(alloc, other, INPUT.as_bytes())?;
+    let input = Box::new(alloc, Input::read(alloc, other, INPUT.as_bytes())?)?;
     let none = starts_at(alloc, other, &input, bytes, 2);
     assert!(rt; matches!(none, Err(JobFault::Restore(_))));
     Ok(())
 }
 
 fn check_bytes(rt: &(impl AllocGlobal + Abort), bytes: &[u8]) -> Result<(), Fail> {
-    let plan = Plan::read(rt.alloc(), PLAN.as_bytes())?;
+    let plan = Box::new(rt.alloc(), Plan::read(rt.alloc(), PLAN.as_bytes())?)?;
     check_start(rt, &plan, bytes)
 }
 
 fn check_other(rt: &(impl AllocGlobal + Abort), bytes: &[u8]) -> Result<(), Fail> {
-    let other = Plan::read(rt.alloc(), OTHER_PLAN.as_bytes())?;
+    let other = Box::new(rt.alloc(), Plan::read(rt.alloc(), OTHER_PLAN.as_bytes())?)?;
     check_refused(rt, &other, bytes)
 }
 

@@ -34,7 +34,7 @@ use window_state::HashKeys;
 pub(crate) fn planned_calls<
     R: Files + Print + RandomSource + Threads + Wait + Clock + Sync + AllocGlobal,
 >(rt: &R, call: Call) -> Result<(), JobFault> {
-    let plan = Plan::read(rt.alloc(), &file(rt, "plan")?)?;
+    let plan = Box::new(rt.alloc(), Plan::read(rt.alloc(), &file(rt, "plan")?)?)?;
     calls_of_plan(rt, call, &plan)
 }
 
@@ -46,7 +46,10 @@ fn calls_of_plan<R: Files + Print + RandomSource + Threads + Wait + Clock + Sync
     let Ok(keys) = HashKeys::random(rt) else {
         return Err(JobFault::Read);
     };
-    let input = Input::read(rt.alloc(), plan, &file(rt, "input")?)?;
+    let input = Box::new(
+        rt.alloc(),
+        Input::read(rt.alloc(), plan, &file(rt, "input")?)?,
+    )?;
     calls_on_input(rt, call, keys, plan, &input)
 }
 
@@ -65,7 +68,7 @@ fn calls_on_input<R: Files + Print + Threads + Wait + Clock + Sync + AllocGlobal
         Call::RunLegsBy => run_legs_by_calls(rt, keys, plan, input),
         Call::RunLegs => run_legs_calls(rt, keys, plan, input),
         _ => {
-            let savepoint = decode(rt.alloc(), &file(rt, "savepoint")?)?;
+            let savepoint = Box::new(rt.alloc(), decode(rt.alloc(), &file(rt, "savepoint")?)?)?;
             calls_of_savepoint(rt, call, keys, plan, input, &savepoint)
         }
     }
@@ -85,7 +88,7 @@ fn calls_of_savepoint<R: Files + Print + Threads + Wait + Clock + Sync + AllocGl
         Call::Encode => encode_calls(rt, savepoint),
         Call::Check => check_calls(rt, plan, input, savepoint),
         _ => {
-            let start = start_of(rt.alloc(), plan, input, savepoint)?;
+            let start = Box::new(rt.alloc(), start_of(rt.alloc(), plan, input, savepoint)?)?;
             calls_from_start(rt, call, keys, plan, input, &start)
         }
     }
@@ -103,7 +106,10 @@ fn calls_from_start<R: Files + Print + Threads + Wait + Clock + Sync + AllocGlob
     requires starts { IsStartIn plan.now input.now start.now }
     requires groups { HasGroups plan.now start.now }
 {
-    let scale = Scale::read(rt.alloc(), plan, &file(rt, "scale")?)?;
+    let scale = Box::new(
+        rt.alloc(),
+        Scale::read(rt.alloc(), plan, &file(rt, "scale")?)?,
+    )?;
     match call {
         Call::RunLegBy | Call::RunLegSaving => {
             let goes_on = call == Call::RunLegSaving;
@@ -131,7 +137,7 @@ fn calls_at_layout<R: Files + Print + AllocGlobal>(
     requires starts { IsStartIn plan.now input.now start.now }
     requires groups { HasGroups plan.now start.now }
 {
-    let layout = compile(rt.alloc(), plan, scale)?;
+    let layout = Box::new(rt.alloc(), compile(rt.alloc(), plan, scale)?)?;
     match call {
         Call::Spread => spread_calls(rt, plan, start, &layout),
         Call::Gather => gather_calls(rt, plan, start, &layout),

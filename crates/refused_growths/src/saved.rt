@@ -38,6 +38,7 @@ fn decode_file<R: Files + Print + AllocGlobal>(
         begins(rt, name)?;
         match decode(alloc, &bytes) {
             Ok(savepoint) => {
+                let savepoint = Box::new(alloc, savepoint)?;
                 let text = text_of_savepoint(alloc, savepoint.contents())?;
                 return answered(rt, text.as_str());
             }
@@ -100,7 +101,10 @@ pub(crate) fn check_calls<R: Print + AllocGlobal>(
     for _ in 0..2 {
         begins(rt, "check")?;
         match check(alloc, plan, input, savepoint) {
-            Ok(start) => return answered(rt, format!(in alloc; "{start:?}")?.as_str()),
+            Ok(start) => {
+                let start = Box::new(alloc, start)?;
+                return answered(rt, format!(in alloc; "{start:?}")?.as_str());
+            }
             Err(fault) => refused(rt, &fault)?,
         }
     }
@@ -193,6 +197,7 @@ fn gather_once<R: Print + AllocGlobal>(
     begins(rt, "gather")?;
     match gather(alloc, plan, layout, parts, 1) {
         Ok(savepoint) => {
+            let savepoint = Box::new(alloc, savepoint)?;
             let text = text_of_savepoint(alloc, savepoint.contents())?;
             answered(rt, text.as_str())?;
             Ok(true)

@@ -22,19 +22,25 @@ pub(crate) trait Told {
     fn text(self, alloc: Global) -> Result<String, AllocError>;
 }
 
-fn text_of_stop(
-    alloc: Global,
-    rows: Vec<Row>,
-    savepoint: &Savepoint,
-) -> Result<String, AllocError> {
+fn text_of_stop(alloc: Global, rows: Vec<Row>, savepoint: Savepoint) -> Result<String, AllocError> {
+    let savepoint = Box::new(alloc, savepoint)?;
     let mut text = text_of_sorted(alloc, rows)?;
     text.push_str(text_of_savepoint(alloc, savepoint.contents())?.as_str())?;
     Ok(text)
 }
 
+fn text_of_sealed(alloc: Global, sealed: Sealed) -> Result<String, AllocError> {
+    let Sealed {
+        rows,
+        savepoint,
+        ..
+    } = sealed;
+    text_of_stop(alloc, rows.into_vec(), savepoint)
+}
+
 fn text_of_seal(alloc: Global, sealed: Sealed) -> Result<String, AllocError> {
+    let part = text_of_sealed(alloc, sealed)?;
     let mut text = String::from_str(alloc, GIVEN_UP)?;
-    let part = text_of_stop(alloc, sealed.rows.into_vec(), &sealed.savepoint)?;
     text.push_str(part.as_str())?;
     Ok(text)
 }
@@ -44,11 +50,12 @@ fn text_of_end(
     rows: Vec<Row>,
     sealed: Option<Sealed>,
 ) -> Result<String, AllocError> {
+    let part = match sealed {
+        Some(sealed) => text_of_sealed(alloc, sealed)?,
+        None => String::new(alloc),
+    };
     let mut text = text_of_sorted(alloc, rows)?;
-    if let Some(sealed) = sealed {
-        let part = text_of_stop(alloc, sealed.rows.into_vec(), &sealed.savepoint)?;
-        text.push_str(part.as_str())?;
-    }
+    text.push_str(part.as_str())?;
     Ok(text)
 }
 
@@ -58,7 +65,7 @@ impl Told for Finish {
     fn text(self, alloc: Global) -> Result<String, AllocError> {
         match self {
             Finish::Ended(rows, sealed) => text_of_end(alloc, rows.into_vec(), sealed),
-            Finish::Stopped(rows, savepoint) => text_of_stop(alloc, rows.into_vec(), &savepoint),
+            Finish::Stopped(rows, savepoint) => text_of_stop(alloc, rows.into_vec(), savepoint),
             Finish::Abandoned(sealed) => text_of_seal(alloc, sealed),
         }
     }

@@ -107,7 +107,7 @@ fn apply_once<R: Print + AllocGlobal>(
     requires laid_out { IsLayoutOf given.plan.now given.layout.now }
 {
     let alloc = rt.alloc();
-    let mut world = World::new(alloc, keys, given, stop)?;
+    let mut world = Box::new(alloc, World::new(alloc, keys, given, stop)?)?;
     begins(rt, "apply")?;
     if let Err(fault) = play(&mut world, steps) {
         refused(rt, &fault)?;
@@ -115,7 +115,7 @@ fn apply_once<R: Print + AllocGlobal>(
         left(rt, "each later step is refused", is_over)?;
         return Ok(false);
     }
-    if let Some(finish) = world.finish(alloc)? {
+    if let Some(finish) = Box::into_inner(world).finish(alloc)? {
         answered(rt, finish.text(alloc)?.as_str())?;
     }
     Ok(true)

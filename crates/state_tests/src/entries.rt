@@ -102,7 +102,7 @@ fn bytes_of(alloc: Global, entries: &Entries) -> Result<Vec<u8>, AllocError> {
 
 #[test]
 fn numbers_of_64_bits_are_kept_in_so_many(rt: HostRuntime) -> Result<(), Fail> {
-    let entries = made(rt.alloc(), &NARROW)?;
+    let entries = Box::new(rt.alloc(), made(rt.alloc(), &NARROW)?)?;
     assert_eq!(rt; entries.len(), NARROW.len());
     assert_eq!(rt; first_other(&entries, &NARROW), None);
     assert!(rt; is_narrow(&entries));
@@ -113,7 +113,7 @@ fn numbers_of_64_bits_are_kept_in_so_many(rt: HostRuntime) -> Result<(), Fail> {
 fn all_numbers_come_back_around_one_beyond(rt: HostRuntime) -> Result<(), Fail> {
     for beyond in BEYOND {
         let pairs = with_one_beyond(rt.alloc(), beyond)?;
-        let entries = made(rt.alloc(), &pairs)?;
+        let entries = Box::new(rt.alloc(), made(rt.alloc(), &pairs)?)?;
         assert_eq!(rt; entries.len(), pairs.len(), "{beyond}");
         assert_eq!(rt; first_other(&entries, &pairs), None, "{beyond}");
         assert!(rt; !is_narrow(&entries), "{beyond}");
@@ -123,8 +123,9 @@ fn all_numbers_come_back_around_one_beyond(rt: HostRuntime) -> Result<(), Fail> 
 
 /// Whether entries with more behind them give the numbers of both.
 fn are_joined(alloc: Global, front: &[[i128; 2]], back: &[[i128; 2]]) -> Result<bool, AllocError> {
-    let mut entries = made(alloc, front)?;
-    append(&mut entries, &made(alloc, back)?)?;
+    let mut entries = Box::new(alloc, made(alloc, front)?)?;
+    let more = Box::new(alloc, made(alloc, back)?)?;
+    append(&mut entries, &more)?;
     let mut pairs = Vec::from_slice(alloc, front)?;
     pairs.extend_from_slice(back)?;
     Ok(entries.len() == pairs.len() && first_other(&entries, &pairs) == None)

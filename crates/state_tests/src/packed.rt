@@ -84,7 +84,7 @@ fn is_narrow(parts: &PackedParts) -> bool {
 
 #[test]
 fn parts_are_entries(rt: HostRuntime) -> Result<(), Fail> {
-    let parts = packed(rt.alloc(), &NARROW)?;
+    let parts = Box::new(rt.alloc(), packed(rt.alloc(), &NARROW)?)?;
     assert_eq!(rt; parts.len(), NARROW.len());
     assert_eq!(rt; first_other(&parts, &NARROW), None);
     assert!(rt; is_narrow(&parts));
@@ -93,7 +93,7 @@ fn parts_are_entries(rt: HostRuntime) -> Result<(), Fail> {
 
 #[test]
 fn parts_beyond_64_bits_are_entries(rt: HostRuntime) -> Result<(), Fail> {
-    let parts = packed(rt.alloc(), &WIDE)?;
+    let parts = Box::new(rt.alloc(), packed(rt.alloc(), &WIDE)?)?;
     assert_eq!(rt; parts.len(), WIDE.len());
     assert_eq!(rt; first_other(&parts, &WIDE), None);
     assert!(rt; !is_narrow(&parts));
@@ -104,9 +104,11 @@ fn parts_beyond_64_bits_are_entries(rt: HostRuntime) -> Result<(), Fail> {
 fn parts_of_all_kinds_fit(rt: HostRuntime) -> Result<(), Fail> {
     let alloc = rt.alloc();
     let kinds = [Kind::Sum; MOST_AGGREGATES];
-    let mut packing = Packing::new(alloc, Vec::from_slice(alloc, &kinds)?);
+    let packing = Packing::new(alloc, Vec::from_slice(alloc, &kinds)?);
+    let mut packing = Box::new(alloc, packing)?;
     assert!(rt; push(&mut packing, pane_at(0), &[3 * MOST; MOST_AGGREGATES])?);
-    let parts = PackedParts::from_packing(packing);
+    let parts = PackedParts::from_packing(Box::into_inner(packing));
+    let parts = Box::new(alloc, parts)?;
     assert_eq!(rt; parts.len(), 1);
     if 0 < parts.len() {
         assert_eq!(rt; parts.entry(0).numbers.len(), MOST_AGGREGATES);

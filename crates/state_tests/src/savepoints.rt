@@ -111,13 +111,18 @@ fn spelled(alloc: Global, savepoint: &Savepoint, bytes: &[u8]) -> Result<Vec<u8>
     }
 }
 
-/// Whether bytes are spelled as the savepoint that they are.
-fn is_well_spelled(alloc: Global, bytes: &[u8]) -> Result<bool, SaveFault> {
-    let savepoint = decode(alloc, bytes)?;
-    match spelled(alloc, &savepoint, bytes) {
+/// Whether bytes are spelled as a savepoint is.
+fn is_spelled(alloc: Global, savepoint: &Savepoint, bytes: &[u8]) -> Result<bool, SaveFault> {
+    match spelled(alloc, savepoint, bytes) {
         Ok(spelled) => Ok(spelled.as_slice() == bytes),
         Err(_) => Err(SaveFault::Memory),
     }
+}
+
+/// Whether bytes are spelled as the savepoint that they are.
+fn is_well_spelled(alloc: Global, bytes: &[u8]) -> Result<bool, SaveFault> {
+    let savepoint = decode(alloc, bytes)?;
+    is_spelled(alloc, &savepoint, bytes)
 }
 
 /// Counts what bytes come to.

@@ -41,7 +41,7 @@ fn drawn(alloc: Global, seed: u32, count: usize) -> Result<Vec<Choice>, AllocErr
 }
 
 /// The keys of the rows of a leg in the order in which they came, where it ends.
-fn keys_of(alloc: Global, finish: Finish) -> Result<Vec<i64>, AllocError> {
+fn keys_of(alloc: Global, finish: &Finish) -> Result<Vec<i64>, AllocError> {
     match finish {
         Finish::Ended(rows, _) => rows.as_slice().iter().map(|row| row.key).collect(alloc),
         Finish::Stopped(..) | Finish::Abandoned(_) => Ok(Vec::new(alloc)),
@@ -69,32 +69,24 @@ fn keys_from(alloc: Global, leg: Leg<'_>, start: &Start, scale: &Scale) -> Resul
         input,
         ..
     } = leg;
-    let finish = run_leg_by(
-        alloc,
-        keys,
-        plan,
-        input,
-        start,
-        scale,
-        &[],
-        Stop::Never,
-        &choices,
-    )?;
-    Ok(keys_of(alloc, finish)?)
+    let never = Stop::Never;
+    let finish = run_leg_by(alloc, keys, plan, input, start, scale, &[], never, &choices)?;
+    let finish = Box::new(alloc, finish)?;
+    Ok(keys_of(alloc, &finish)?)
 }
 
 fn keys_at_scale(alloc: Global, leg: Leg<'_>, start: &Start) -> Result<Vec<i64>, Fail>
     requires belongs { BelongsTo leg.plan.now leg.input.now }
     requires starts { IsStartIn leg.plan.now leg.input.now start.now }
 {
-    let scale = Scale::read(alloc, leg.plan, ONE_TWO.as_bytes())?;
+    let scale = Box::new(alloc, Scale::read(alloc, leg.plan, ONE_TWO.as_bytes())?)?;
     keys_from(alloc, leg, start, &scale)
 }
 
 fn keys_of_leg(alloc: Global, leg: Leg<'_>) -> Result<Vec<i64>, Fail>
     requires { BelongsTo leg.plan.now leg.input.now }
 {
-    let start = Start::empty(alloc, leg.plan, leg.input)?;
+    let start = Box::new(alloc, Start::empty(alloc, leg.plan, leg.input)?)?;
     keys_at_scale(alloc, leg, &start)
 }
 
@@ -104,19 +96,20 @@ fn keys_of_plan(
     seed: u32,
 ) -> Result<Vec<i64>, Fail> {
     let keys = HashKeys::random(rt)?;
-    let input = Input::read(rt.alloc(), plan, TWO_KEYS.as_bytes())?;
+    let alloc = rt.alloc();
+    let input = Box::new(alloc, Input::read(alloc, plan, TWO_KEYS.as_bytes())?)?;
     let leg = Leg {
         keys,
         plan,
         input: &input,
         seed,
     };
-    keys_of_leg(rt.alloc(), leg)
+    keys_of_leg(alloc, leg)
 }
 
 /// The keys of the rows in the order in which they came, by choices that are drawn from a seed.
 fn keys_by(rt: &(impl AllocGlobal + RandomSource), seed: u32) -> Result<Vec<i64>, Fail> {
-    let plan = Plan::read(rt.alloc(), COUNTS.as_bytes())?;
+    let plan = Box::new(rt.alloc(), Plan::read(rt.alloc(), COUNTS.as_bytes())?)?;
     keys_of_plan(rt, &plan, seed)
 }
 

@@ -205,8 +205,9 @@ fn follow_beside(
     requires starts { IsStartIn leg.given.plan.now leg.given.input.now leg.given.start.now }
     requires laid_out { IsLayoutOf leg.given.plan.now leg.given.layout.now }
 {
-    let stop = stop_at(rt.alloc(), leg.case.stop)?;
-    let mut followed = World::new(rt.alloc(), leg.keys, leg.given, stop)?;
+    let alloc = rt.alloc();
+    let stop = stop_at(alloc, leg.case.stop)?;
+    let mut followed = Box::new(alloc, World::new(alloc, leg.keys, leg.given, stop)?)?;
     follow_all(rt, by_hand, &mut followed, leg.given.layout, leg.case.seed)?;
     assert!(rt; followed.is_finished(), "seed {}", leg.case.seed);
     Ok(())
@@ -218,8 +219,9 @@ fn follow_leg(rt: &(impl AllocGlobal + Abort), leg: Leg<'_>) -> Result<(), Fail>
     requires starts { IsStartIn leg.given.plan.now leg.given.input.now leg.given.start.now }
     requires laid_out { IsLayoutOf leg.given.plan.now leg.given.layout.now }
 {
-    let stop = stop_at(rt.alloc(), leg.case.stop)?;
-    let mut by_hand = World::new(rt.alloc(), leg.keys, leg.given, stop)?;
+    let alloc = rt.alloc();
+    let stop = stop_at(alloc, leg.case.stop)?;
+    let mut by_hand = Box::new(alloc, World::new(alloc, leg.keys, leg.given, stop)?)?;
     follow_beside(rt, leg, &mut by_hand)
 }
 
@@ -246,7 +248,7 @@ fn follow_input<R: AllocGlobal + Abort + RandomSource>(
     requires belongs { BelongsTo plan.now input.now }
     requires laid_out { IsLayoutOf plan.now layout.now }
 {
-    let start = Start::empty(rt.alloc(), plan, input)?;
+    let start = Box::new(rt.alloc(), Start::empty(rt.alloc(), plan, input)?)?;
     let given = Given {
         plan,
         input,
@@ -265,7 +267,8 @@ fn follow_layout<R: AllocGlobal + Abort + RandomSource>(
 ) -> Result<(), Fail>
     requires { IsLayoutOf plan.now layout.now }
 {
-    let input = Input::read(rt.alloc(), plan, THREE_AND_THREE.as_bytes())?;
+    let alloc = rt.alloc();
+    let input = Box::new(alloc, Input::read(alloc, plan, THREE_AND_THREE.as_bytes())?)?;
     follow_input(rt, plan, layout, &input, case)
 }
 
@@ -274,12 +277,12 @@ fn follow_plan<R: AllocGlobal + Abort + RandomSource>(
     plan: &Plan,
     case: &Case<'_>,
 ) -> Result<(), Fail> {
-    let layout = layout_at(rt.alloc(), plan, case.scale)?;
+    let layout = Box::new(rt.alloc(), layout_at(rt.alloc(), plan, case.scale)?)?;
     follow_layout(rt, plan, &layout, case)
 }
 
 fn follow_case<R: AllocGlobal + Abort + RandomSource>(rt: &R, case: Case<'_>) -> Result<(), Fail> {
-    let plan = Plan::read(rt.alloc(), case.plan.as_bytes())?;
+    let plan = Box::new(rt.alloc(), Plan::read(rt.alloc(), case.plan.as_bytes())?)?;
     follow_plan(rt, &plan, &case)
 }
 

@@ -1,4 +1,4 @@
-//! Layouts and stops, made of texts and numbers.
+//! Layouts and stops, made of texts and numbers, and values on the heap.
 
 ghost use Rattle.std.specs.Prelude.{IfOk};
 ghost use Rattle.task_setups.specs.Legs.{IsLayoutOf};
@@ -16,7 +16,7 @@ use std::test::Fail;
 pub fn layout_at(alloc: Global, plan: &Plan, scale: &str) -> Result<Layout, Fail>
     ensures { IfOk result (λ layout. IsLayoutOf plan.now layout) }
 {
-    let scale = Scale::read(alloc, plan, scale.as_bytes())?;
+    let scale = Box::new(alloc, Scale::read(alloc, plan, scale.as_bytes())?)?;
     Ok(compile(alloc, plan, &scale)?)
 }
 

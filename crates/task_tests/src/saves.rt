@@ -187,6 +187,7 @@ fn ended_at(
 {
     let never = Stop::Never;
     let finish = run_leg_by(alloc, keys, plan, input, start, scale, saves, never, &[])?;
+    let finish = Box::new(alloc, finish)?;
     Ok(ended_so(&finish))
 }
 
@@ -225,7 +226,8 @@ fn check_legs<R: AllocGlobal + Abort + RandomSource>(
     requires belongs { BelongsTo plan.now input.now }
     requires starts { IsStartIn plan.now input.now start.now }
 {
-    let scale = Scale::read(rt.alloc(), plan, ONE_ONE.as_bytes())?;
+    let alloc = rt.alloc();
+    let scale = Box::new(alloc, Scale::read(alloc, plan, ONE_ONE.as_bytes())?)?;
     check_legs_at(rt, plan, input, start, &scale)
 }
 
@@ -236,19 +238,19 @@ fn check_start<R: AllocGlobal + Abort + RandomSource>(
 ) -> Result<(), Fail>
     requires { BelongsTo plan.now input.now }
 {
-    let start = Start::empty(rt.alloc(), plan, input)?;
+    let start = Box::new(rt.alloc(), Start::empty(rt.alloc(), plan, input)?)?;
     check_cases(rt, input, &start)?;
     check_limits(rt, input, &start)?;
     check_legs(rt, plan, input, &start)
 }
 
 fn check_plan<R: AllocGlobal + Abort + RandomSource>(rt: &R, plan: &Plan) -> Result<(), Fail> {
-    let input = Input::read(rt.alloc(), plan, INPUT.as_bytes())?;
+    let input = Box::new(rt.alloc(), Input::read(rt.alloc(), plan, INPUT.as_bytes())?)?;
     check_start(rt, plan, &input)
 }
 
 #[test]
 fn a_leg_takes_savepoints_at_cuts_that_rise_to_its_stop(rt: HostRuntime) -> Result<(), Fail> {
-    let plan = Plan::read(rt.alloc(), PLAN.as_bytes())?;
+    let plan = Box::new(rt.alloc(), Plan::read(rt.alloc(), PLAN.as_bytes())?)?;
     check_plan(&rt, &plan)
 }

@@ -136,7 +136,7 @@ fn check_sealed<R: AllocGlobal + Abort>(
     world: &World,
     seal: &Option<Seal>,
 ) -> Result<(), AllocError> {
-    let sealed = world.sealed(rt.alloc())?;
+    let sealed = Box::new(rt.alloc(), world.sealed(rt.alloc())?)?;
     assert!(rt; is_sealed_so(&sealed, seal));
     Ok(())
 }
@@ -197,15 +197,15 @@ fn has_ended_so(finish: &Option<Finish>, ending: &Ending) -> bool {
     }
 }
 
-fn ends_so(alloc: Global, world: World, ending: &Ending) -> Result<bool, AllocError> {
-    let finish = world.finish(alloc)?;
+fn ends_so(alloc: Global, world: Box<World>, ending: &Ending) -> Result<bool, AllocError> {
+    let finish = Box::new(alloc, Box::into_inner(world).finish(alloc)?)?;
     Ok(has_ended_so(&finish, ending))
 }
 
 /// The world is finished or not, and has ended so.
 fn check_end<R: AllocGlobal + Abort>(
     rt: &R,
-    world: World,
+    world: Box<World>,
     ending: &Ending,
 ) -> Result<(), AllocError> {
     let is_over = !matches!(ending, Ending::GoesOn);
@@ -236,7 +236,8 @@ fn check_world<R: AllocGlobal + Abort>(
     requires starts { IsStartIn given.plan.now given.input.now given.start.now }
     requires laid_out { IsLayoutOf given.plan.now given.layout.now }
 {
-    let mut world = World::new(rt.alloc(), keys, given, stop)?;
+    let world = World::new(rt.alloc(), keys, given, stop)?;
+    let mut world = Box::new(rt.alloc(), world)?;
     for part in case.parts {
         play_part(rt, &mut world, part)?;
     }
@@ -292,7 +293,7 @@ fn check_start<R: AllocGlobal + Abort + RandomSource>(
     requires belongs { BelongsTo plan.now input.now }
     requires starts { IsStartIn plan.now input.now start.now }
 {
-    let layout = layout_at(rt.alloc(), plan, case.scale)?;
+    let layout = Box::new(rt.alloc(), layout_at(rt.alloc(), plan, case.scale)?)?;
     let given = Given {
         plan,
         input,
@@ -314,7 +315,7 @@ fn check_input<R: AllocGlobal + Abort + RandomSource>(
 ) -> Result<Result<(), LegFault>, Fail>
     requires { BelongsTo plan.now input.now }
 {
-    let start = Start::empty(rt.alloc(), plan, input)?;
+    let start = Box::new(rt.alloc(), Start::empty(rt.alloc(), plan, input)?)?;
     check_start(rt, plan, input, &start, case)
 }
 
@@ -323,7 +324,8 @@ fn check_plan<R: AllocGlobal + Abort + RandomSource>(
     plan: &Plan,
     case: &Case<'_>,
 ) -> Result<Result<(), LegFault>, Fail> {
-    let input = Input::read(rt.alloc(), plan, THREE_AND_THREE.as_bytes())?;
+    let alloc = rt.alloc();
+    let input = Box::new(alloc, Input::read(alloc, plan, THREE_AND_THREE.as_bytes())?)?;
     check_input(rt, plan, &input, case)
 }
 
@@ -332,7 +334,7 @@ fn check<R: AllocGlobal + Abort + RandomSource>(
     rt: &R,
     case: Case<'_>,
 ) -> Result<Result<(), LegFault>, Fail> {
-    let plan = Plan::read(rt.alloc(), USAGE.as_bytes())?;
+    let plan = Box::new(rt.alloc(), Plan::read(rt.alloc(), USAGE.as_bytes())?)?;
     check_plan(rt, &plan, &case)
 }
 

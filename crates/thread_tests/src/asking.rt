@@ -45,8 +45,9 @@ fn left(outcome: &Outcome) -> &[u8] {
 }
 
 /// The savepoint that a leg left which was asked to stop.
-fn savepoint_of<R: AllocGlobal>(rt: &R, outcome: &Outcome) -> Result<Savepoint, Fail> {
-    Ok(decode(rt.alloc(), left(outcome))?)
+fn savepoint_of<R: AllocGlobal>(rt: &R, outcome: &Outcome) -> Result<Box<Savepoint>, Fail> {
+    let savepoint = decode(rt.alloc(), left(outcome))?;
+    Ok(Box::new(rt.alloc(), savepoint)?)
 }
 
 /// How far each partition was read, of all sources.

@@ -103,10 +103,11 @@ fn lines(alloc: Global, rows: Items<Row>, sorts: bool) -> Result<String, AllocEr
 fn saved(
     alloc: Global,
     rows: Items<Row>,
-    savepoint: &Savepoint,
+    savepoint: Savepoint,
     sorts: bool,
 ) -> Result<Outcome, AllocError> {
-    let bytes = encode(alloc, savepoint)?;
+    let savepoint = Box::new(alloc, savepoint)?;
+    let bytes = encode(alloc, &savepoint)?;
     Ok(Outcome {
         rows: lines(alloc, rows, sorts)?,
         savepoint: Some(bytes),
@@ -120,8 +121,8 @@ pub fn outcome_of(alloc: Global, finish: Finish, sorts: bool) -> Result<Outcome,
             rows: lines(alloc, rows, sorts)?,
             savepoint: None,
         }),
-        Finish::Stopped(rows, savepoint) => saved(alloc, rows, &savepoint, sorts),
-        Finish::Abandoned(sealed) => saved(alloc, sealed.rows, &sealed.savepoint, sorts),
+        Finish::Stopped(rows, savepoint) => saved(alloc, rows, savepoint, sorts),
+        Finish::Abandoned(sealed) => saved(alloc, sealed.rows, sealed.savepoint, sorts),
     }
 }
 
@@ -129,7 +130,7 @@ pub fn outcome_of(alloc: Global, finish: Finish, sorts: bool) -> Result<Outcome,
 pub fn layout_at(alloc: Global, plan: &Plan, scale: &str) -> Result<Layout, Fail>
     ensures { IfOk result (λ layout. IsLayoutOf plan.now layout) }
 {
-    let scale = Scale::read(alloc, plan, scale.as_bytes())?;
+    let scale = Box::new(alloc, Scale::read(alloc, plan, scale.as_bytes())?)?;
     Ok(compile(alloc, plan, &scale)?)
 }
 
@@ -167,14 +168,14 @@ fn run_scaled<R: AllocGlobal + RandomSource + Threads + Wait + Clock + Sync, G: 
     rt: &R,
     plan: &Plan,
     input: &Input,
-    start: Start,
+    start: Box<Start>,
     scale: &Scale,
     stop: Stop,
     threads: OnThreads<'_, G>,
 ) -> Result<Result<Finish, LegFault>, Fail>
     requires belongs { BelongsTo plan.now input.now }
     requires scale { IsScale plan.now scale.now }
-    requires starts { IsStartIn plan.now input.now start }
+    requires starts { IsStartIn plan.now input.now start.value }
 {
     let keys = HashKeys::random(rt)?;
     let OnThreads { gate, word } = threads;
@@ -185,7 +186,7 @@ fn run_scaled<R: AllocGlobal + RandomSource + Threads + Wait + Clock + Sync, G: 
         keys,
         plan,
         input,
-        start,
+        Box::into_inner(start),
         scale,
         &[],
         stop,
@@ -197,14 +198,17 @@ fn run_started<R: AllocGlobal + RandomSource + Threads + Wait + Clock + Sync, G:
     rt: &R,
     plan: &Plan,
     input: &Input,
-    start: Start,
+    start: Box<Start>,
     case: &Case<'_>,
     threads: OnThreads<'_, G>,
 ) -> Result<Result<Finish, LegFault>, Fail>
     requires belongs { BelongsTo plan.now input.now }
-    requires starts { IsStartIn plan.now input.now start }
+    requires starts { IsStartIn plan.now input.now start.value }
 {
-    let scale = Scale::read(rt.alloc(), plan, case.scale.as_bytes())?;
+    let scale = Box::new(
+        rt.alloc(),
+        Scale::read(rt.alloc(), plan, case.scale.as_bytes())?,
+    )?;
     let stop = stop_at(rt.alloc(), case.stop)?;
     run_scaled(rt, plan, input, start, &scale, stop, threads)
 }
@@ -217,7 +221,7 @@ fn start_of(alloc: Global, plan: &Plan, input: &Input, from: Option<&[u8]>) -> R
     let Some(bytes) = from else {
         return Ok(Start::empty(alloc, plan, input)?);
     };
-    let savepoint = decode(alloc, bytes)?;
+    let savepoint = Box::new(alloc, decode(alloc, bytes)?)?;
     Ok(check(alloc, plan, input, &savepoint)?)
 }
 
@@ -230,7 +234,7 @@ fn run_input<R: AllocGlobal + RandomSource + Threads + Wait + Clock + Sync, G: G
 ) -> Result<Result<Finish, LegFault>, Fail>
     requires { BelongsTo plan.now input.now }
 {
-    let start = start_of(rt.alloc(), plan, input, case.from)?;
+    let start = Box::new(rt.alloc(), start_of(rt.alloc(), plan, input, case.from)?)?;
     run_started(rt, plan, input, start, case, threads)
 }
 
@@ -240,7 +244,8 @@ fn run_plan<R: AllocGlobal + RandomSource + Threads + Wait + Clock + Sync, G: Ga
     case: &Case<'_>,
     threads: OnThreads<'_, G>,
 ) -> Result<Result<Finish, LegFault>, Fail> {
-    let input = Input::read(rt.alloc(), plan, case.input.as_bytes())?;
+    let alloc = rt.alloc();
+    let input = Box::new(alloc, Input::read(alloc, plan, case.input.as_bytes())?)?;
     run_input(rt, plan, &input, case, threads)
 }
 
@@ -249,7 +254,7 @@ fn run<R: AllocGlobal + RandomSource + Threads + Wait + Clock + Sync, G: Gate>(
     case: Case<'_>,
     threads: OnThreads<'_, G>,
 ) -> Result<Result<Finish, LegFault>, Fail> {
-    let plan = Plan::read(rt.alloc(), case.plan.as_bytes())?;
+    let plan = Box::new(rt.alloc(), Plan::read(rt.alloc(), case.plan.as_bytes())?)?;
     run_plan(rt, &plan, &case, threads)
 }
 

@@ -224,7 +224,7 @@ fn check_started<R: AllocGlobal + Abort + RandomSource + Threads + Wait + Clock 
     requires belongs { BelongsTo plan.now input.now }
     requires starts { IsStartIn plan.now input.now start.now }
 {
-    let layout = layout_at(rt.alloc(), plan, scale)?;
+    let layout = Box::new(rt.alloc(), layout_at(rt.alloc(), plan, scale)?)?;
     let given = Given {
         plan,
         input,
@@ -244,7 +244,7 @@ fn check_input<R: AllocGlobal + Abort + RandomSource + Threads + Wait + Clock + 
 ) -> Result<(), Fail>
     requires { BelongsTo plan.now input.now }
 {
-    let start = Start::empty(rt.alloc(), plan, input)?;
+    let start = Box::new(rt.alloc(), Start::empty(rt.alloc(), plan, input)?)?;
     check_started(rt, plan, input, &start, scale, trial)
 }
 
@@ -254,7 +254,8 @@ fn check_plan<R: AllocGlobal + Abort + RandomSource + Threads + Wait + Clock + S
     scale: &str,
     trial: Trial,
 ) -> Result<(), Fail> {
-    let input = Input::read(rt.alloc(), plan, THREE_AND_THREE.as_bytes())?;
+    let alloc = rt.alloc();
+    let input = Box::new(alloc, Input::read(alloc, plan, THREE_AND_THREE.as_bytes())?)?;
     check_input(rt, plan, &input, scale, trial)
 }
 
@@ -263,7 +264,7 @@ fn check<R: AllocGlobal + Abort + RandomSource + Threads + Wait + Clock + Sync>(
     scale: &str,
     trial: Trial,
 ) -> Result<(), Fail> {
-    let plan = Plan::read(rt.alloc(), USAGE.as_bytes())?;
+    let plan = Box::new(rt.alloc(), Plan::read(rt.alloc(), USAGE.as_bytes())?)?;
     check_plan(rt, &plan, scale, trial)
 }
 
