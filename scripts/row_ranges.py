@@ -97,6 +97,14 @@ def are_put(program, paths, folder, processors, target, base):
         return len(widths_at(text, [base + place for place in ranges])) == 1
 
 
+def sizes_of(paths):
+    """How many bytes each file has; none has any where one is not there, of which `rows` is to tell."""
+    try:
+        return {path: os.path.getsize(path) for path in paths}
+    except OSError:
+        return {}
+
+
 def is_place(out):
     """Whether a range can be written at its own place of a stream: of a file that is not written at its end alone."""
     return stat.S_ISREG(os.fstat(out.fileno()).st_mode) and not fcntl.fcntl(out.fileno(), fcntl.F_GETFL) & os.O_APPEND
@@ -106,8 +114,8 @@ def put_together(program, paths, out, folder, processors):
     """Writes what `rows` of the files prints to a stream that is a file, by so many processors, with files in a folder
     that is not there yet. Returns whether it did: nothing is written, and one `rows` is to be asked, where the stream
     is none, where there are few rows, and where they are not in order."""
-    paths = [path for path in paths if os.path.getsize(path)]
-    length = sum(map(os.path.getsize, paths))
+    sizes = sizes_of(paths)
+    length = sum(sizes.values())
     processors = min(processors, length // LEAST)
     if processors < 2 or not is_place(out):
         return False
@@ -116,7 +124,7 @@ def put_together(program, paths, out, folder, processors):
     base, size = os.lseek(number, 0, os.SEEK_CUR), os.fstat(number).st_size
     with contextlib.suppress(OSError, ValueError):
         folder.mkdir()
-        if are_put(program, paths, folder, processors, f"/proc/self/fd/{number}", base):
+        if are_put(program, [path for path in paths if sizes[path]], folder, processors, f"/proc/self/fd/{number}", base):
             os.lseek(number, base + length, os.SEEK_SET)
             return True
     os.ftruncate(number, size)
