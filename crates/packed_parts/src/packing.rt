@@ -139,6 +139,20 @@ impl Packing {
         Ok(())
     }
 
+    /// More parts, after those that are there: entries of their kinds.
+    ///
+    /// # Errors
+    ///
+    /// Only where memory runs out; then all is as it was.
+    pub fn append(&mut self, entries: &Entries) -> Result<(), AllocError>
+        requires { All (λ e. is_entry self.old.kinds e.total.count e.total.numbers ≡ true) entries.now.entries }
+        ensures ok { OnOk result (self.new ≡ record self.old { parts = self.old.parts ++ map (part_of self.old.kinds) entries.now.entries }) }
+        ensures err { OnErr result (self.new ≡ self.old) }
+    {
+        self.entries.append(entries)?;
+        Ok(())
+    }
+
     /// The same again.
     ///
     /// # Errors
@@ -147,12 +161,9 @@ impl Packing {
     pub fn copy(&self, alloc: Global) -> Result<Packing, AllocError>
         ensures { IfOk result (λ copied. copied ≡ self.now) }
     {
-        let kinds = Vec::from_slice(alloc, self.kinds.as_slice())?;
-        let mut copied = Packing::new(alloc, kinds);
-        copied.reserve(self.len())?;
-        for i in 0..self.len() {
-            copied.push(&self.part(i))?;
-        }
-        Ok(copied)
+        Ok(Packing {
+            kinds: Vec::from_slice(alloc, self.kinds.as_slice())?,
+            entries: self.entries.copy(alloc)?,
+        })
     }
 }

@@ -1,24 +1,19 @@
 //! A start dealt out to the tasks of a layout.
 
-ghost use Rattle.std.specs.Prelude.{◌≡◌, ◌<◌, true, map, ◌++◌, OnOk, IfOk};
-ghost use Rattle.std.specs.List.{All};
-ghost use Rattle.aggregates.specs.Kinds.{is_entry};
+ghost use Rattle.std.specs.Prelude.{◌≡◌, ◌<◌, map, IfOk};
 ghost use Rattle.layout_rules.specs.Layouts.{partition_counts};
 ghost use Rattle.layout_rules.specs.Stages as rule;
 ghost use Rattle.plan_compiler.specs.LayoutData.{IsLayoutOf};
 ghost use Rattle.plan_compiler.specs.Tables.{each_task};
-ghost use Rattle.packed_parts.specs.Packing as packing;
 ghost use Rattle.redistribute.specs.Parts as said;
 
 use crate::start::Start;
 use crate::task_start::{PartitionStart, TaskStart};
-use aggregates::Kind;
 use key_groups::GroupRange;
 use packed_parts::{PackedParts, Packing};
 use plain_data::Items;
 use plan_compiler::{Layout, Role};
 use plan_model::Plan;
-use savepoint_codec::Entries;
 use std::alloc::{AllocError, Global};
 
 /// Where a task begins to read a partition: at its first entry, where the start has no such partition.
@@ -59,18 +54,6 @@ fn partition_starts(
     Ok(Items::from_vec(starts))
 }
 
-/// The entries of a key group, put behind the parts that are there.
-fn push_parts(parts: &mut Packing, kinds: &[Kind], entries: &Entries) -> Result<(), AllocError>
-    requires entries { All (λ e. is_entry kinds.now e.total.count e.total.numbers ≡ true) entries.now.entries }
-    requires kinds { parts.old.kinds ≡ kinds.now }
-    ensures { OnOk result (parts.new ≡ record parts.old { parts = parts.old.parts ++ map (packing.part_of kinds.now) entries.now.entries }) }
-{
-    for i in 0..entries.len() {
-        parts.push_entry(entries.entry(i))?;
-    }
-    Ok(())
-}
-
 /// Whether a key group is one of a range.
 fn is_within(group: u16, range: GroupRange) -> bool
     ensures { result ≡ said.is_group_of range group }
@@ -99,7 +82,7 @@ fn parts_within(alloc: Global, start: &Start, range: GroupRange) -> Result<Packe
     found.reserve(count_within(start, range))?;
     for group in start.groups() {
         if is_within(group.group, range) {
-            push_parts(&mut found, kinds, &group.entries)?;
+            found.append(&group.entries)?;
         }
     }
     Ok(PackedParts::from_packing(found))

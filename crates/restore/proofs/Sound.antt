@@ -1,5 +1,5 @@
 -- The entries of a savepoint are such that accumulators can be made of them.
-use Rattle.std.proofs.Common.{◌≡◌, ℕ, suc, ◌^◌, ℤ, true, ◌&&◌, List, [], ◌∷◌, length, Option, refl, sym, ap, subst}
+use Rattle.std.proofs.Common.{◌≡◌, ℕ, ◌^◌, ℤ, true, ◌&&◌, List, [], ◌∷◌, length, Option, refl, sym, subst}
 use Rattle.std.proofs.lemmas.Bool.{eqb-true}
 use Rattle.std.specs.Prelude.{nat_lt, nat_le, ◌==◌}
 use Rattle.std.specs.List.{All, list_all}
@@ -65,16 +65,6 @@ groups_sound s h =
 -- as a start has them
 pub are_entries : (kinds : List Kind) (groups : List SavedGroup) → All (IsSoundGroup kinds) groups → AreEntries kinds groups
 are_entries kinds groups h = λ k d l. (h k d l).entries
-
--- an entry has a number for each kind
-all_numbers : (count : ℕ) (kinds : List Kind) (zs : List ℤ) → are_numbers count kinds zs ≡ true → length zs ≡ length kinds
-all_numbers count [] [] h = refl
-all_numbers count [] (z ∷ zs) h = absurd cc
-all_numbers count (k ∷ kinds) [] h = absurd cc
-all_numbers count (k ∷ kinds) (z ∷ zs) h = ap suc (all_numbers count kinds zs (both (is_number count k z) (are_numbers count kinds zs) h).1)
-
-pub each_number : (kinds : List Kind) (e : EntryData) → IsSoundEntry kinds e → length e.total.numbers ≡ length kinds
-each_number kinds e h = all_numbers e.total.count kinds e.total.numbers (both _ _ (both _ _ h).1).1
 
 pub sound_along : (ks ls : List Kind) (gs hs : List SavedGroup) → ks ≡ ls → gs ≡ hs → All (IsSoundGroup ls) hs → All (IsSoundGroup ks) gs
 sound_along ks ls gs hs p q h = subst (λ x. All (IsSoundGroup x) gs) (sym p) (subst (λ y. All (IsSoundGroup ls) y) (sym q) h)

@@ -145,6 +145,6 @@ pub fn check(
     let saved = saved_sources(alloc, plan.sources(), contents.sources.as_slice())?;
     meet_input(plan, input, saved.as_slice(), contents)?;
     let kinds = contents.kinds.copy(alloc)?;
-    let groups = copy_groups(alloc, kinds.as_slice(), contents.groups.as_slice())?;
+    let groups = copy_groups(alloc, contents.groups.as_slice())?;
     Ok(Start::from_saved(contents.number, saved, kinds, groups))
 }

@@ -1,6 +1,7 @@
 //! What stands in the panes of a key group, in little memory.
 
-ghost use Rattle.std.specs.Prelude.{◌≡◌, ◌<◌, ◌++◌, ◌∷◌, [], length, slice_get, Some, OnOk, OnErr};
+ghost use Rattle.std.specs.Prelude.{◌≡◌, ◌<◌, ◌++◌, ◌∷◌, [], length, slice_get, Some, OnOk, OnErr, IfOk};
+ghost use Rattle.std.specs.List.{All};
 
 use crate::numbers::{NumberList, Numbers};
 use plan_model::Pane;
@@ -23,12 +24,24 @@ pub struct Entry<'a> {
 }
 
 /// Entries in order, with as many numbers each. They take no more memory than their bytes in a savepoint.
-#[derive(Debug, Drop)]
+#[derive(Debug)]
 pub struct Entries {
     alloc: Global,
     width: usize,
     heads: Vec<Head>,
     numbers: NumberList,
+}
+
+// By hand, since a proof goes over a derived drop field by field.
+impl Drop for Entries {
+    fn drop(self) {
+        let Entries {
+            alloc: _,
+            width: _,
+            heads: _,
+            numbers: _,
+        } = self;
+    }
 }
 
 impl Model for Entries {
@@ -87,6 +100,34 @@ impl Entries {
             count: entry.count,
         });
         Ok(())
+    }
+
+    /// More entries, after those that are there.
+    ///
+    /// # Errors
+    ///
+    /// Only where memory runs out; then all is as it was.
+    pub fn append(&mut self, more: &Entries) -> Result<(), AllocError>
+        requires { All (λ e. length e.total.numbers ≡ self.old.width) more.now.entries }
+        ensures ok { OnOk result (self.new ≡ record self.old { entries = self.old.entries ++ more.now.entries }) }
+        ensures err { OnErr result (self.new ≡ self.old) }
+    {
+        self.heads.reserve(more.heads.len())?;
+        self.numbers.extend(self.alloc, more.numbers.all())?;
+        self.heads.extend_from_slice(&more.heads)
+    }
+
+    /// The same entries again.
+    ///
+    /// # Errors
+    ///
+    /// Only where memory runs out.
+    pub fn copy(&self, alloc: Global) -> Result<Entries, AllocError>
+        ensures { IfOk result (λ copied. copied ≡ self.now) }
+    {
+        let mut copied = Entries::new(alloc, self.width);
+        copied.append(self)?;
+        Ok(copied)
     }
 
     /// How many entries there are.

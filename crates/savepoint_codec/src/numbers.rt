@@ -98,6 +98,16 @@ impl NumberList {
         }
     }
 
+    /// All of them.
+    pub(crate) fn all(&self) -> Numbers<'_>
+        ensures { numbers_of result ≡ list_of self.now }
+    {
+        match self {
+            NumberList::Narrow(numbers) => Numbers::Narrow(numbers.as_slice()),
+            NumberList::Wide(numbers) => Numbers::Wide(numbers.as_slice()),
+        }
+    }
+
     /// So many numbers from a place on.
     pub(crate) fn part(&self, from: usize, width: usize) -> Numbers<'_>
         requires { from + width ≤ length (list_of self.now) }

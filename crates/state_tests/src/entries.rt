@@ -1,6 +1,7 @@
 //! Entries give the numbers that they were given, whether each fits in 64 bits or one does not.
 
-ghost use Rattle.std.specs.Prelude.{◌≡◌, length, IfOk};
+ghost use Rattle.std.specs.Prelude.{◌≡◌, length, IfOk, OnOk};
+ghost use Rattle.std.specs.List.{All};
 ghost use Rattle.savepoint_codec.specs.Numbers.{numbers_of};
 
 use plan_model::Pane;
@@ -21,20 +22,24 @@ const BEYOND: [i128; 4] = [MOST + 1, LEAST - 1, i128::MAX, i128::MIN];
 
 /// One more entry, with these numbers.
 fn push(entries: &mut Entries, numbers: Numbers<'_>) -> Result<(), AllocError>
-    requires { length (numbers_of numbers) ≡ entries.old.width }
-    ensures { entries.new.width ≡ entries.old.width }
+    requires two { length (numbers_of numbers) ≡ 2 }
+    requires width { entries.old.width ≡ 2 }
+    ensures width { OnOk result (entries.new.width ≡ 2) }
+    ensures each { OnOk result (All (λ e. length e.total.numbers ≡ 2) entries.old.entries → All (λ e. length e.total.numbers ≡ 2) entries.new.entries) }
 {
     let pane = Pane { start: 10, key: 1 };
     entries.push(Entry {
         pane,
         count: 2,
         numbers,
-    })
+    })?;
+    Ok(())
 }
 
 /// Entries with these numbers.
 fn made(alloc: Global, pairs: &[[i128; 2]]) -> Result<Entries, AllocError>
-    ensures { IfOk result (λ entries. entries.width ≡ 2) }
+    ensures width { IfOk result (λ entries. entries.width ≡ 2) }
+    ensures each { IfOk result (λ entries. All (λ e. length e.total.numbers ≡ 2) entries.entries) }
 {
     let mut entries = Entries::new(alloc, 2);
     entries.reserve(pairs.len())?;
@@ -42,19 +47,6 @@ fn made(alloc: Global, pairs: &[[i128; 2]]) -> Result<Entries, AllocError>
         push(&mut entries, Numbers::Wide(pair))?;
     }
     Ok(entries)
-}
-
-/// Puts entries behind others, if they have two numbers each as those have.
-fn append(entries: &mut Entries, more: &Entries) -> Result<(), AllocError>
-    requires { entries.old.width ≡ 2 }
-{
-    for i in 0..more.len() {
-        let numbers = more.entry(i).numbers;
-        if numbers.len() == 2 {
-            push(entries, numbers)?;
-        }
-    }
-    Ok(())
 }
 
 /// The numbers of an entry, if it is there and has two.
@@ -125,7 +117,7 @@ fn all_numbers_come_back_around_one_beyond(rt: HostRuntime) -> Result<(), Fail> 
 fn are_joined(alloc: Global, front: &[[i128; 2]], back: &[[i128; 2]]) -> Result<bool, AllocError> {
     let mut entries = Box::new(alloc, made(alloc, front)?)?;
     let more = Box::new(alloc, made(alloc, back)?)?;
-    append(&mut entries, &more)?;
+    entries.append(&more)?;
     let mut pairs = Vec::from_slice(alloc, front)?;
     pairs.extend_from_slice(back)?;
     Ok(entries.len() == pairs.len() && first_other(&entries, &pairs) == None)
@@ -134,12 +126,38 @@ fn are_joined(alloc: Global, front: &[[i128; 2]], back: &[[i128; 2]]) -> Result<
 #[test]
 fn entries_go_behind_others(rt: HostRuntime) -> Result<(), Fail> {
     let alloc = rt.alloc();
+    assert!(rt; are_joined(alloc, &[], &NARROW)?);
+    assert!(rt; are_joined(alloc, &NARROW, &[])?);
     assert!(rt; are_joined(alloc, &NARROW, &NARROW)?);
     for beyond in BEYOND {
         let wide = with_one_beyond(alloc, beyond)?;
         assert!(rt; are_joined(alloc, &NARROW, &wide)?, "{beyond}");
         assert!(rt; are_joined(alloc, &wide, &NARROW)?, "{beyond}");
         assert!(rt; are_joined(alloc, &wide, &wide)?, "{beyond}");
+    }
+    Ok(())
+}
+
+/// Whether entries that are copied give the same numbers, and what is behind them does not go there as well.
+fn are_copied(alloc: Global, pairs: &[[i128; 2]]) -> Result<bool, AllocError> {
+    let mut entries = Box::new(alloc, made(alloc, pairs)?)?;
+    let copied = Box::new(alloc, entries.copy(alloc)?)?;
+    entries.append(&copied)?;
+    Ok(
+        copied.len() == pairs.len()
+            && first_other(&copied, pairs) == None
+            && entries.len() == 2 * pairs.len(),
+    )
+}
+
+#[test]
+fn entries_are_copied(rt: HostRuntime) -> Result<(), Fail> {
+    let alloc = rt.alloc();
+    assert!(rt; are_copied(alloc, &[])?);
+    assert!(rt; are_copied(alloc, &NARROW)?);
+    for beyond in BEYOND {
+        let wide = with_one_beyond(alloc, beyond)?;
+        assert!(rt; are_copied(alloc, &wide)?, "{beyond}");
     }
     Ok(())
 }

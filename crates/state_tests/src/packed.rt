@@ -101,6 +101,19 @@ fn parts_beyond_64_bits_are_entries(rt: HostRuntime) -> Result<(), Fail> {
 }
 
 #[test]
+fn parts_are_copied(rt: HostRuntime) -> Result<(), Fail> {
+    let alloc = rt.alloc();
+    for numbers in [NARROW, WIDE] {
+        let parts = Box::new(alloc, packed(alloc, &numbers)?)?;
+        let copied = Box::new(alloc, parts.copy(alloc)?)?;
+        assert_eq!(rt; copied.len(), numbers.len());
+        assert_eq!(rt; first_other(&copied, &numbers), None);
+        assert_eq!(rt; is_narrow(&copied), is_narrow(&parts));
+    }
+    Ok(())
+}
+
+#[test]
 fn parts_of_all_kinds_fit(rt: HostRuntime) -> Result<(), Fail> {
     let alloc = rt.alloc();
     let kinds = [Kind::Sum; MOST_AGGREGATES];

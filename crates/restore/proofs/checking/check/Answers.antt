@@ -40,15 +40,10 @@ returns-in_err-meet_input-clause-reads c =
     gives_fault _ f _ c.from_residual-in_err-meet_input.ensures.1
     (second_unmet_is (plan_requirements p) (input_requirements p i) (start_of p) s f (subst Q c.contents-contents.ensures.says c.in_ok-meet_plan.ensures) (subst P c.contents-contents.ensures.says c.in_err-meet_input.ensures))
 
-pub copy_groups-requires : goal.copy_groups-requires
-copy_groups-requires c =
-    let says = c.contents-contents.ensures.says in
-    sound_along _ _ _ _ (c.as_slice-3.ensures ∙ c.in_ok-kinds.ensures ∙ ap (λ z. z.kinds) says) (c.as_slice-4.ensures ∙ ap (λ z. z.groups) says) (groups_sound c.args.savepoint.now c.contents-contents.ensures.sound)
-
 pub from_saved-requires : goal.from_saved-requires
 from_saved-requires c =
     let says = c.contents-contents.ensures.says in
-    are_entries _ _ (sound_along _ _ _ _ (c.in_ok-kinds.ensures ∙ ap (λ z. z.kinds) says) (c.in_ok-groups.ensures ∙ c.as_slice-4.ensures ∙ ap (λ z. z.groups) says) (groups_sound c.args.savepoint.now c.contents-contents.ensures.sound))
+    are_entries _ _ (sound_along _ _ _ _ (c.in_ok-kinds.ensures ∙ ap (λ z. z.kinds) says) (c.in_ok-groups.ensures ∙ c.as_slice-3.ensures ∙ ap (λ z. z.groups) says) (groups_sound c.args.savepoint.now c.contents-contents.ensures.sound))
 
 pub returns-clause-reads : goal.returns-clause-reads
 returns-clause-reads c =
@@ -61,7 +56,7 @@ returns-clause-reads c =
     let listed = c.as_slice.ensures ∙ ap (λ z. z.sources) says in
     let sources = c.in_ok-saved.ensures ∙ (λ i. map (λ x. saved_under x.uid (listed i)) (c.sources.ensures.says i)) in
     let kinds = c.in_ok-kinds.ensures ∙ ap (λ z. z.kinds) says in
-    let groups = c.in_ok-groups.ensures ∙ c.as_slice-4.ensures ∙ ap (λ z. z.groups) says in
+    let groups = c.in_ok-groups.ensures ∙ c.as_slice-3.ensures ∙ ap (λ z. z.groups) says in
     let made = sym (c.from_saved.ensures ∙ (λ i. record { number = (says i).number; sources = sources i; kinds = kinds i; groups = groups i })) in
     both_met (plan_requirements p) (input_requirements p i) (start_of p) s (subst P c.contents-contents.ensures.says c.in_ok-meet_plan.ensures) (subst Q c.contents-contents.ensures.says c.in_ok-meet_input.ensures)
     ∙ ap (λ x. Ok x) made
@@ -88,6 +83,6 @@ returns-clause-in_input c =
     let listed = c.as_slice.ensures ∙ ap (λ z. z.sources) says in
     let sources = c.in_ok-saved.ensures ∙ (λ j. map (λ x. saved_under x.uid (listed j)) (c.sources.ensures.says j)) in
     let kinds = c.in_ok-kinds.ensures ∙ ap (λ z. z.kinds) says in
-    let groups = c.in_ok-groups.ensures ∙ c.as_slice-4.ensures ∙ ap (λ z. z.groups) says in
+    let groups = c.in_ok-groups.ensures ∙ c.as_slice-3.ensures ∙ ap (λ z. z.groups) says in
     let made = sym (c.from_saved.ensures ∙ (λ j. record { number = (says j).number; sources = sources j; kinds = kinds j; groups = groups j })) in
     λ belongs. subst (IsStartIn p i) made (is_start_in p i s c.sources.ensures.sound belongs (groups_sound s c.contents-contents.ensures.sound) (subst P says c.in_ok-meet_plan.ensures) (subst Q says c.in_ok-meet_input.ensures))

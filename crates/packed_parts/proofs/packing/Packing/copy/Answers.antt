@@ -1,15 +1,17 @@
-use Rattle.std.proofs.Common.{◌++◌, ◌∷◌, [], List, take, sym, ap, ◌∙◌}
-use Rattle.std.proofs.lemmas.List.{take_more}
-use Rattle.std.proofs.lemmas.Option.{get_or_from_slice_get, slice_get_within}
-use Rattle.packed_parts.specs.declared.part.Part.{Part}
-use Rattle.packed_parts.specs.Packing.{PackingData}
+use Rattle.std.proofs.Common.{◌≡◌, List, length, sym, ap, subst, ◌∙◌}
+use Rattle.std.specs.List.{All}
+use Rattle.aggregates.specs.declared.kind.Kind.{Kind}
+use Rattle.aggregates.specs.Kinds.{IsAcc}
+use Rattle.savepoint_codec.specs.EntriesData.{EntriesData}
+use Rattle.packed_parts.specs.Packing.{part_of}
 use Rattle.packed_parts.proofs.packing.Packing.copy.Goals as goal
 
-pub loop-i-preserved : goal.loop-i-preserved
-loop-i-preserved c =
-    let all = c.args.self.now.parts in
-    let i = c.loop-i.i in
-    let x = c.part.result in
-    let more = take_more all i x (slice_get_within all i x c.part.ensures.is) ∙ ap (λ y. take i all ++ y ∷ []) (get_or_from_slice_get all i x x c.part.ensures.is) in
-    c.in_ok-push.ensures.ok ∙ ap (λ (v : PackingData). record v { parts = v.parts ++ x ∷ [] }) c.loop-i.invariant
-    ∙ ap (λ (ps : List Part). record { kinds = c.args.self.now.kinds; parts = ps }) (sym more)
+pub invariant_of-result : goal.invariant_of-result
+invariant_of-result c =
+    let kinds = c.in_ok-from_slice.ensures.items ∙ c.as_slice.ensures.value in
+    let entries = c.in_ok-copy.ensures in
+    let Sound : List Kind → EntriesData → Type 0 = λ ks v. All (λ e. IsAcc (part_of ks e).acc) v.entries in
+    record {
+      wide = ap (λ (v : EntriesData). v.width) entries ∙ c.self.invariant.wide ∙ ap length (sym kinds);
+      sound = subst (λ (ks : List Kind). Sound ks c.in_ok-copy.field-0) (sym kinds) (subst (Sound c.self.inside.kinds.items) (sym entries) c.self.invariant.sound);
+    }
