@@ -108,11 +108,21 @@ struct Beside<'w> {
 }
 
 /// The files for records that are no rows of the input, where words say paths for them.
-#[derive(Drop)]
 pub(crate) struct BesideFiles<'w> {
     late: Option<Beside<'w>>,
     twice: Option<Beside<'w>>,
     bad: Option<Beside<'w>>,
+}
+
+// By hand, since a proof goes over a derived drop field by field.
+impl Drop for BesideFiles<'_> {
+    fn drop(self) {
+        let BesideFiles {
+            late: _,
+            twice: _,
+            bad: _,
+        } = self;
+    }
 }
 
 fn file_at<'w, R: Files + RandomSource + AllocGlobal>(

@@ -38,7 +38,6 @@ pub struct LedgerWants {
 
 /// What an import keeps beside the input: the records that are no rows of it, what it is refused for where there is no
 /// place for them, and what is to be told of it.
-#[derive(Drop)]
 pub struct Ledger<L: Write + Drop> {
     alloc: Global,
     places: Places<L>,
@@ -46,6 +45,19 @@ pub struct Ledger<L: Write + Drop> {
     /// Where the first records of their kind stand, where a later one is refused with its place.
     firsts: Option<Firsts>,
     account: Option<Account>,
+}
+
+// By hand, since a proof goes over a derived drop field by field.
+impl<L: Write + Drop> Drop for Ledger<L> {
+    fn drop(self) {
+        let Ledger {
+            alloc: _,
+            places: _,
+            refusals: _,
+            firsts: _,
+            account: _,
+        } = self;
+    }
 }
 
 /// The fault that a record is told with where something else failed than the record.
@@ -250,9 +262,11 @@ impl<L: Write + Drop> Ledger<L> {
         new_names: u64,
     ) -> Result<(Places<L>, Option<ImportReport>), AllocError> {
         let Ledger {
+            alloc: _,
             places,
+            refusals: _,
+            firsts: _,
             account,
-            ..
         } = self;
         let report = match account {
             Some(account) => Some(account.report(columns, new_names)?),

@@ -6,10 +6,16 @@ use std::hash::RandomState;
 use std::marker::Model;
 
 /// Names, each once, in the order in which they came. The first has the number 1, and each further one the next number.
-#[derive(Drop)]
 pub struct NameTable {
     alloc: Global,
     names: IndexSet<String, RandomState>,
+}
+
+// By hand, since a proof goes over a derived drop field by field.
+impl Drop for NameTable {
+    fn drop(self) {
+        let NameTable { alloc: _, names: _ } = self;
+    }
 }
 
 impl Model for NameTable {

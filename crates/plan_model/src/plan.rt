@@ -6,7 +6,7 @@ use plain_data::Items;
 use std::marker::Model;
 
 /// A plan that meets every requirement of its format.
-#[derive(Debug, Drop)]
+#[derive(Debug)]
 pub struct Plan {
     columns: u32,
     max: u32,
@@ -14,6 +14,20 @@ pub struct Plan {
     filters: Items<FilterSpec>,
     window: WindowSpec,
     places: IndexSet<String>,
+}
+
+// By hand, since a proof goes over a derived drop field by field.
+impl Drop for Plan {
+    fn drop(self) {
+        let Plan {
+            columns: _,
+            max: _,
+            sources: _,
+            filters: _,
+            window: _,
+            places: _,
+        } = self;
+    }
 }
 
 impl Model for Plan {

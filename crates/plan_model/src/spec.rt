@@ -44,7 +44,7 @@ pub struct Having {
 
 /// The window operator. `time` and `key` are columns; `size`, `slide` and `offset` are in the unit of
 /// the times.
-#[derive(Debug, Drop)]
+#[derive(Debug)]
 pub struct WindowSpec {
     pub uid: Uid,
     pub time: u32,
@@ -54,6 +54,22 @@ pub struct WindowSpec {
     pub offset: i64,
     pub aggregates: Items<Aggregate>,
     pub having: Items<Having>,
+}
+
+// By hand, since a proof goes over a derived drop field by field.
+impl Drop for WindowSpec {
+    fn drop(self) {
+        let WindowSpec {
+            uid: _,
+            time: _,
+            key: _,
+            size: _,
+            slide: _,
+            offset: _,
+            aggregates: _,
+            having: _,
+        } = self;
+    }
 }
 
 impl WindowSpec {

@@ -9,7 +9,7 @@ pub returns-in-Ok-write_rows : goal.returns-in-Ok-write_rows
 returns-in-Ok-write_rows g c =
     let window = c.args.plan.now.window in
     let columns = c.deref.result.now in
-    let names = map string_bytes c.names-2.result.now in
+    let names = map string_bytes c.names.result.now in
     let before = g.W.Write.contents c.args.out in
     let after = g.W.Write.contents c.in-Ok-write_rows.out in
     let kinds : kinds_of c.in_ok-table.table ≡ kinds_shown window columns = c.in_ok-table.ensures.kinds in
