@@ -19,7 +19,7 @@ use plan_compiler::{Layout, compile};
 use plan_model::Plan;
 use plan_scale::ReadScale;
 use redistribute::Start;
-use std::alloc::{AllocError, Global};
+use std::alloc::Global;
 use std::process::Abort;
 use std::test::Fail;
 use stream_input::ReadInput;

@@ -1,4 +1,4 @@
-//! Layouts and stops, made of texts and numbers, and values on the heap.
+//! Layouts and stops, made of texts and numbers.
 
 ghost use Rattle.std.specs.Prelude.{IfOk};
 ghost use Rattle.task_setups.specs.Legs.{IsLayoutOf};
