@@ -125,13 +125,13 @@ impl Packing {
         push_part(&mut self.entries, part)
     }
 
-    /// One part more, after those that are there: an entry of their kinds.
+    /// One part more, after those that are there: an entry of their kinds, as it is packed.
     ///
     /// # Errors
     ///
     /// Only where memory runs out; then all is as it was.
     pub fn push_entry(&mut self, entry: Entry<'_>) -> Result<(), AllocError>
-        requires { let total = (entry_data entry).total in is_entry self.old.kinds total.count total.numbers ≡ true }
+        requires { IsAcc (part_of self.old.kinds (entry_data entry)).acc }
         ensures ok { OnOk result (self.new ≡ record self.old { parts = self.old.parts ++ part_of self.old.kinds (entry_data entry.entry) ∷ [] }) }
         ensures err { OnErr result (self.new ≡ self.old) }
     {

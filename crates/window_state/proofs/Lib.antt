@@ -1,4 +1,3 @@
-mod Numbers
 mod Spread
 mod Updates
 mod Slides
@@ -14,3 +13,6 @@ mod Openings
 mod Apart
 mod Removals
 mod SliceFits
+mod InOrder
+mod Joined
+mod Pushing

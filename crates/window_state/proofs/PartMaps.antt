@@ -1,6 +1,6 @@
 -- The parts of a map, and the map of parts.
-use Rattle.std.proofs.Common.{◌≡◌, ℕ, ℤ, ◌+◌, ◌<◌, Bool, true, false, cond, ◌||◌, List, [], ◌∷◌, length, take, get_or, None, ◌++◌, refl, sym, ap, subst, ◌∙◌, Option, Some}
-use Rattle.std.specs.Prelude.{int_lt, ◌<ℤ◌}
+use Rattle.std.proofs.Common.{◌≡◌, ℕ, ℤ, ◌+◌, ◌<◌, Bool, true, false, cond, ◌||◌, List, [], ◌∷◌, map, length, take, get_or, None, ◌++◌, refl, sym, ap, subst, ◌∙◌, Option, Some}
+use Rattle.std.specs.Prelude.{int_lt, slice_get, ◌<ℤ◌}
 use Rattle.std.specs.List.{All}
 use Rattle.std.specs.Map.{lookup}
 use Rattle.std.proofs.lemmas.List.Elements.{All-head, All-tail}
@@ -10,15 +10,19 @@ use Rattle.std.specs.Global.{Vec}
 use Rattle.std.specs.Ordering.{is_eq}
 use Rattle.std.specs.Option.{is_some, option_map}
 use Rattle.std.proofs.lemmas.List.{take_more, map-append}
+use Rattle.std.proofs.lemmas.Option.{slice_get-map, slice_get-get_or}
 use Rattle.plan_model.specs.declared.spec.Pane.{Pane}
+use Rattle.plan_model.specs.declared.spec.WindowSpec.{WindowSpec}
 use Rattle.plan_model.specs.Aggregates.{Aggregated}
 use Rattle.plan_model.specs.Rows.{pane_cmp}
 use Rattle.aggregates.specs.declared.kind.Kind.{Kind}
-use Rattle.aggregates.specs.Kinds.{AccData}
+use Rattle.aggregates.specs.Kinds.{AccData, kind_of}
+use Rattle.savepoint_codec.specs.EntriesData.{EntryData}
 use Rattle.packed_parts.specs.declared.part.Part.{Part}
+use Rattle.packed_parts.specs.Packing.{entry_of, part_of}
 use Rattle.window_state.specs.Windows.{acc_at, has_pane, is_pane}
 use Rattle.window_state.specs.Open.{has_open}
-use Rattle.window_state.specs.Parts.{parts_in, panes_in, accs_in, entries_of}
+use Rattle.window_state.specs.Parts.{parts_in, panes_in, accs_in, entries_of, IsPartOf}
 use Rattle.window_state.proofs.Entries.{tied}
 use Rattle.window_state.proofs.Sorted.{flips}
 use Rattle.window_state.proofs.Spread.{found-push, found-again}
@@ -102,3 +106,16 @@ parts_before from (p ∷ parts) h q some = by_case (is_pane q p.pane) refl (part
     by_case true here rest =
         subst (λ (x : Pane). int_lt x.start from ≡ true) (sym (pane_from_test q p.pane here)) (lt_true p.pane.start from (All-head (λ (x : Part). x.pane.start <ℤ from) p parts h))
     by_case false other rest = rest (ap is_some (sym (ap (λ b. cond b (Some p.acc) (acc_at (accs_in parts) q)) other)) ∙ some)
+
+-- an entry of parts, by the operator's kinds, is the part
+pub part_here : (w : WindowSpec) (parts : List Part) (i : ℕ) (e : EntryData) → i < length parts → All (IsPartOf w) parts → slice_get (map entry_of parts) i ≡ Some e
+    → part_of (map kind_of w.aggregates) e ≡ get_or parts i (part_of (map kind_of w.aggregates) e)
+part_here w parts i e low are is =
+    let kinds = map kind_of w.aggregates in
+    let d = part_of kinds e in
+    let p = get_or parts i d in
+    let same : entry_of p ≡ e = one (ap (option_map entry_of) (sym (slice_get-get_or parts i d low)) ∙ sym (slice_get-map entry_of parts i) ∙ is) in
+    sym ((λ t. record { pane = p.pane; acc = record { kinds = (are i d low).kinds t; total = p.acc.total } }) ∙ ap (part_of kinds) same)
+  where
+    one : {x y : EntryData} → Some x ≡ Some y → x ≡ y
+    one h = cc

@@ -19,8 +19,8 @@ use Rattle.aggregates.specs.Kinds.{AccData, IsAcc, kind_of, merge_all}
 use Rattle.aggregates.proofs.Accs.{one_numbers, merge_numbers-kinds}
 use Rattle.window_state.specs.Windows.{IsOperator, IsStart, acc_at, is_pane}
 use Rattle.window_state.specs.Places.{ArePlaces}
-use Rattle.window_state.specs.Words.{stride, word, count_of, acc_in, entries_in, IsWritten}
-use Rattle.window_state.proofs.Numbers.{width-few}
+use Rattle.place_words.specs.Words.{stride, word, count_of, acc_in, entries_in, IsWritten}
+use Rattle.place_words.proofs.Numbers.{width-few}
 use Rattle.window_state.proofs.Spread.{Stands, stands, writes_place, found-any, keys-entries, one_less}
 use Rattle.window_state.proofs.Entries.{windows_taken, sound_taken, none_there}
 use Rattle.window_state.proofs.Updates.{pane_from_test, Writes, windows_written, sound_written}

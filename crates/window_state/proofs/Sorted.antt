@@ -66,7 +66,7 @@ found_among f (p ∷ ps) q = by_case (is_pane q p) refl (found_among f ps q)
         skipped (f p) (entries_at f ps) other ∙ later
         ∙ sym (ap (λ b. if b || list_any (is_pane q) ps then f q else None) other)
 
-any_pane : (ps : List Pane) (q : Pane) → list_any (λ p. is_eq (pane_cmp q p)) ps ≡ list_any (is_pane q) ps
+pub any_pane : (ps : List Pane) (q : Pane) → list_any (λ p. is_eq (pane_cmp q p)) ps ≡ list_any (is_pane q) ps
 any_pane [] q = refl
 any_pane (p ∷ ps) q = λ i. tied q p i || any_pane ps q i
 

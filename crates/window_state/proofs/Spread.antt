@@ -17,8 +17,8 @@ use Rattle.plan_model.specs.declared.spec.Pane.{Pane}
 use Rattle.aggregates.specs.declared.kind.Kind.{Kind}
 use Rattle.aggregates.specs.Kinds.{AccData}
 use Rattle.window_state.specs.Windows.{is_pane, acc_at}
-use Rattle.window_state.specs.Words.{word, stride, acc_in, entries_in, IsWritten}
-use Rattle.window_state.proofs.Numbers.{IsSameFrom, acc-same}
+use Rattle.place_words.specs.Words.{word, stride, acc_in, entries_in, IsWritten}
+use Rattle.place_words.proofs.Numbers.{IsSameFrom, acc-same}
 use Rattle.window_state.proofs.Sorted.{flips}
 use Rattle.window_state.proofs.Updates.{pane_from_test, Writes}
 

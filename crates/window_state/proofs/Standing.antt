@@ -1,6 +1,6 @@
 -- What stands in the panes of a state, as a finite map.
 use Rattle.std.proofs.Common.{◌≡◌, ℤ, Bool, true, false, cond, ◌||◌, List, [], ◌∷◌, refl, sym, ap, subst, ◌∙◌, arith, Option, Some, None, FitsSigned, to_z, of_z}
-use Rattle.std.specs.Prelude.{int_lt, ◌<ℤ◌, IfSome}
+use Rattle.std.specs.Prelude.{int_lt, ◌<ℤ◌}
 use Rattle.std.specs.Int.{w64, w128}
 use Rattle.std.specs.Option.{is_some, option_map}
 use Rattle.std.specs.Global.{Vec}
@@ -12,14 +12,14 @@ use Rattle.plan_model.specs.Rows.{pane_cmp}
 use Rattle.window_slices.proofs.Facts.{widened}
 use Rattle.window_state.specs.declared.windows.Windows.TheInside.{Inside}
 use Rattle.window_state.specs.Open.{has_open, open_panes, panes_from, AreOpen}
-use Rattle.window_state.specs.Parts.{entries_at, IsPartOf}
+use Rattle.window_state.specs.Parts.{entries_at}
 use Rattle.window_state.specs.StateView.{standing, windows_view, IsWindowsInside}
 use Rattle.aggregates.specs.Kinds.{AccData}
 use Rattle.window_state.specs.State.{OpenWindows}
 use Rattle.std.proofs.lemmas.Int.{ints, to_z-of_z}
 use Rattle.std.proofs.lemmas.List.Elements.{All-nil}
 use Rattle.plan_model.specs.Windows.{is_start}
-use Rattle.window_slices.specs.KeySlices.{acc_with, IsSliceOf, IsCounted}
+use Rattle.window_slices.specs.KeySlices.{IsSliceOf, IsCounted}
 use Rattle.window_slices.specs.Spans.{AreInSpans, in_spans}
 use Rattle.window_state.specs.Windows.{acc_at, total_at, has_pane, is_pane, AreWhole, IsOperator}
 use Rattle.window_state.proofs.Entries.{get-entries, same_map_of, no_total}
@@ -159,15 +159,6 @@ seen_later s v q is view later = sym (standing_later s q later) ∙ sym (get-vie
 pub numbers_total : (o : Option AccData) → option_map (λ (a : AccData). a.total.numbers) o ≡ option_map (λ (a : Aggregated). a.numbers) (option_map (λ (a : AccData). a.total) o)
 numbers_total None = refl
 numbers_total (Some a) = refl
-
--- an accumulator with the operator's kinds is what its total gives
-pub acc_total : (w : WindowSpec) (p : Pane) (o : Option AccData) → IfSome o (λ a. IsPartOf w (record { pane = p; acc = a })) → o ≡ option_map (acc_with w) (option_map (λ (a : AccData). a.total) o)
-acc_total w p None is = refl
-acc_total w p (Some a) is = λ i. Some (record { kinds = is.kinds i; total = a.total })
-
-pub acc_of_place : (w : WindowSpec) (p : Pane) (o : Option AccData) (t : Option Aggregated) (d : Option AccData) → o ≡ d → IfSome o (λ a. IsPartOf w (record { pane = p; acc = a }))
-    → option_map (λ (a : AccData). a.total) d ≡ t → o ≡ option_map (acc_with w) t
-acc_of_place w p o t d is part total = acc_total w p o part ∙ ap (λ x. option_map (acc_with w) (option_map (λ (a : AccData). a.total) x)) is ∙ ap (option_map (acc_with w)) total
 
 -- ---- before any record has come
 

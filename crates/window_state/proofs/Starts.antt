@@ -193,39 +193,38 @@ has_both (p ∷ ps) more q = ap (λ t. is_eq (pane_cmp q p) || t) (has_both ps m
     or_assoc true b c = refl
     or_assoc false b c = refl
 
-or_three : (a b c : Bool) → ((a || b) || c) ≡ (a || (b || c))
-or_three true b c = refl
-or_three false b c = refl
-
--- the next start's panes come behind those so far
-pub next_start : (so_far now : List Pane) (e : ℤ × Vec ℤ) (left rest : List (ℤ × Vec ℤ)) (q : Pane) → now ≡ so_far ++ panes_from e.0 e.1.items → left ≡ e ∷ rest
-    → (has_pane now q || has_open rest q) ≡ (has_pane so_far q || has_open left q)
-next_start so_far now e left rest q is steps =
-    ap (λ l. has_pane l q || has_open rest q) is
-    ∙ ap (λ t. t || has_open rest q) (has_both so_far (panes_from e.0 e.1.items) q ∙ ap (λ t. has_pane so_far q || t) (panes_of_start e.0 e.1.items q))
-    ∙ or_three (has_pane so_far q) (int_eq q.start e.0 && has_key q.key e.1.items) (has_open rest q)
-    ∙ ap (λ l. has_pane so_far q || has_open l q) (sym steps)
-
--- then there are no more
-pub no_more : (panes : List Pane) (left : List (ℤ × Vec ℤ)) (q : Pane) → left ≡ [] → has_pane panes q ≡ (has_pane panes q || has_open left q)
-no_more panes left q end = sym (ap (λ l. has_pane panes q || has_open l q) end ∙ or_false (has_pane panes q))
-
 -- ---- the panes of windows that fire
 
--- where the next start fires, its panes come behind those so far
-pub next_due : (w : WindowSpec) (t : ℤ) (so_far now : List Pane) (e : ℤ × Vec ℤ) (left rest : List (ℤ × Vec ℤ)) (q : Pane) → now ≡ so_far ++ panes_from e.0 e.1.items → left ≡ e ∷ rest
-    → is_due w t e.0 ≡ true → (has_pane now q || (is_due w t q.start && has_open rest q)) ≡ (has_pane so_far q || (is_due w t q.start && has_open left q))
-next_due w t so_far now e left rest q is steps due =
-    ap (λ l. has_pane l q || (is_due w t q.start && has_open rest q)) is
-    ∙ ap (λ b. b || (is_due w t q.start && has_open rest q)) (has_both so_far (panes_from e.0 e.1.items) q ∙ ap (λ b. has_pane so_far q || b) (panes_of_start e.0 e.1.items q))
-    ∙ inside (has_pane so_far q) (int_eq q.start e.0) (has_key q.key e.1.items) (is_due w t q.start) (has_open rest q) (λ here. ap (is_due w t) (sym (same_start q.start e.0 here)) ∙ due)
-    ∙ ap (λ l. has_pane so_far q || (is_due w t q.start && has_open l q)) (sym steps)
+-- where the next start passes a test, its panes come behind those so far
+pub next_taken : (d : ℤ → Bool) (so_far now : List Pane) (e : ℤ × Vec ℤ) (left rest : List (ℤ × Vec ℤ)) (q : Pane) → now ≡ so_far ++ panes_from e.0 e.1.items → left ≡ e ∷ rest
+    → d e.0 ≡ true → (has_pane now q || (d q.start && has_open rest q)) ≡ (has_pane so_far q || (d q.start && has_open left q))
+next_taken d so_far now e left rest q is steps passes =
+    ap (λ l. has_pane l q || (d q.start && has_open rest q)) is
+    ∙ ap (λ b. b || (d q.start && has_open rest q)) (has_both so_far (panes_from e.0 e.1.items) q ∙ ap (λ b. has_pane so_far q || b) (panes_of_start e.0 e.1.items q))
+    ∙ inside (has_pane so_far q) (int_eq q.start e.0) (has_key q.key e.1.items) (d q.start) (has_open rest q) (λ here. ap d (sym (same_start q.start e.0 here)) ∙ passes)
+    ∙ ap (λ l. has_pane so_far q || (d q.start && has_open l q)) (sym steps)
   where
     inside : (x b k d r : Bool) → (b ≡ true → d ≡ true) → ((x || (b && k)) || (d && r)) ≡ (x || (d && ((b && k) || r)))
     inside true b k d r h = refl
     inside false false k d r h = refl
     inside false true k true r h = refl
     inside false true k false r h = absurd (let no = h refl in cc)
+
+-- and where it fails, they do not
+pub next_left : (d : ℤ → Bool) (so_far : List Pane) (e : ℤ × Vec ℤ) (left rest : List (ℤ × Vec ℤ)) (q : Pane) → left ≡ e ∷ rest → d e.0 ≡ false
+    → (has_pane so_far q || (d q.start && has_open rest q)) ≡ (has_pane so_far q || (d q.start && has_open left q))
+next_left d so_far e left rest q steps fails =
+    ap (λ b. has_pane so_far q || b) (outside (int_eq q.start e.0) (has_key q.key e.1.items) (d q.start) (has_open rest q) (λ here. ap d (sym (same_start q.start e.0 here)) ∙ fails))
+    ∙ ap (λ l. has_pane so_far q || (d q.start && has_open l q)) (sym steps)
+  where
+    outside : (b k d r : Bool) → (b ≡ true → d ≡ false) → (d && r) ≡ (d && ((b && k) || r))
+    outside b k false r h = refl
+    outside false k true r h = refl
+    outside true k true r h = absurd (let no = h refl in cc)
+
+-- then there are no more
+pub no_more : (d : ℤ → Bool) (panes : List Pane) (left : List (ℤ × Vec ℤ)) (q : Pane) → left ≡ [] → has_pane panes q ≡ (has_pane panes q || (d q.start && has_open left q))
+no_more d panes left q end = sym (ap (λ l. has_pane panes q || (d q.start && has_open l q)) end ∙ ap (λ b. has_pane panes q || b) (and_false (d q.start)) ∙ or_false (has_pane panes q))
 
 later_not : (a b size t : ℤ) → int_le (a +ℤ size -ℤ pos 1) t ≡ false → int_cmp a b ≡ Less → int_le (b +ℤ size -ℤ pos 1) t ≡ false
 later_not a b size t h less = grind (arith, ints)

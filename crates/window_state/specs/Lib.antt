@@ -5,6 +5,6 @@ pub mod Codes
 pub mod Firing
 pub mod Open
 pub mod Parts
-pub mod Words
 pub mod Places
 pub mod PlacesView
+pub mod Placing

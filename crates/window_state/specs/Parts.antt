@@ -1,12 +1,16 @@
 -- The panes of a state one by one.
-use Rattle.std.specs.Prelude.{◌≡◌, map, List, [], ◌∷◌, Option, Some, None}
+use Rattle.std.specs.Prelude.{◌≡◌, map, List, [], ◌∷◌, ◌++◌, Option, Some, None}
+use Rattle.std.specs.List.Sorted.{IsStrictlySortedBy}
+use Rattle.std.specs.Map.{keys_of, lookup}
 use Rattle.plan_model.specs.declared.spec.WindowSpec.{WindowSpec}
 use Rattle.plan_model.specs.declared.spec.Pane.{Pane}
 use Rattle.plan_model.specs.Aggregates.{Aggregated}
+use Rattle.plan_model.specs.Rows.{pane_cmp}
 use Rattle.aggregates.specs.declared.kind.Kind.{Kind}
 use Rattle.aggregates.specs.Kinds.{AccData, kind_of}
 use Rattle.packed_parts.specs.declared.part.Part.{Part}
-use Rattle.window_state.specs.Windows.{IsStart}
+use Rattle.packed_parts.specs.Packing.{PackingData}
+use Rattle.window_state.specs.Windows.{is_pane, IsStart}
 
 -- the part of what stands in a pane, by the operator's kinds
 abbrev pub part_of : List Kind → Pane × Aggregated → Part
@@ -40,3 +44,10 @@ entries_of parts = map (λ p. (p.pane, p.acc.total)) parts
 pub record IsPartOf (w : WindowSpec) (p : Part) : Type 0 where
   pub kinds : p.acc.kinds ≡ map kind_of w.aggregates
   pub start : IsStart p.pane.start
+
+-- a part for each pane where something stands is put behind others, in the order of the panes
+pub record PutsParts (kinds : List Kind) (f : Pane → Option Aggregated) (old new : PackingData) : Type 0 where
+  pub entries : List (Pane × Aggregated)
+  pub ordered : IsStrictlySortedBy pane_cmp (keys_of entries)
+  pub those : (q : Pane) → lookup (is_pane q) entries ≡ f q
+  pub is : new ≡ record old { parts = old.parts ++ parts_in kinds entries }

@@ -4,7 +4,7 @@ use Rattle.plan_model.specs.declared.spec.WindowSpec.{WindowSpec}
 use Rattle.plan_model.specs.declared.spec.Pane.{Pane}
 use Rattle.aggregates.specs.Kinds.{AccData, IsAcc, kind_of}
 use Rattle.window_state.specs.Windows.{IsOperator, AreWindows, acc_at}
-use Rattle.window_state.specs.Words.{stride, entries_in}
+use Rattle.place_words.specs.Words.{stride, entries_in}
 
 -- a window operator, and what stands in each pane that has a place
 pub record PlacesData : Type 0 where

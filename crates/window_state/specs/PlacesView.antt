@@ -3,7 +3,7 @@ use Rattle.std.specs.Prelude.{map, List}
 use Rattle.plan_model.specs.declared.spec.Pane.{Pane}
 use Rattle.aggregates.specs.Kinds.{AccData, kind_of}
 use Rattle.window_state.specs.declared.places.Places.TheInside.{Inside}
-use Rattle.window_state.specs.Words.{entries_in}
+use Rattle.place_words.specs.Words.{entries_in}
 use Rattle.window_state.specs.Places.{PlacesData, ArePlaces}
 
 abbrev pub entries_inside : Inside → List (Pane × AccData)

@@ -10,7 +10,6 @@ pub mod parts;
 mod places;
 mod state;
 mod windows;
-mod words;
 
 pub use fault::StateFault;
 pub use having::keep_rows;

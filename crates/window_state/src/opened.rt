@@ -1,6 +1,6 @@
 //! The panes of open windows, by the start of their window.
 
-ghost use Rattle.std.specs.Prelude.{◌≡◌, pos, int_lt, ◌-ℤ◌, ◌++◌, ◌&&◌, ◌||◌, ◌↔◌, ◌<◌, length, true, false, IfOk, IfSome, IfNone, OnOk, OnErr, if◌then◌else◌};
+ghost use Rattle.std.specs.Prelude.{◌≡◌, not, pos, int_lt, ◌-ℤ◌, ◌++◌, ◌&&◌, ◌||◌, ◌↔◌, ◌<◌, length, true, false, IfOk, IfSome, IfNone, OnOk, OnErr, if◌then◌else◌};
 ghost use Rattle.std.specs.List.{All};
 ghost use Rattle.std.specs.List.Sorted.{IsStrictlySortedBy};
 ghost use Rattle.std.specs.Ordering.{int_eq};
@@ -131,14 +131,20 @@ pub(crate) fn due_panes(
     Ok(panes)
 }
 
-/// All panes, in order.
-pub(crate) fn all_panes(alloc: Global, opened: &OpenPanes) -> Result<Vec<Pane>, AllocError>
+/// The panes of windows that begin at `from` or later, in order.
+pub(crate) fn later_panes(
+    alloc: Global,
+    opened: &OpenPanes,
+    from: i128,
+) -> Result<Vec<Pane>, AllocError>
     ensures ordered { IfOk result (λ panes. IsStrictlySortedBy pane_cmp panes.items) }
-    ensures those { IfOk result (λ panes. (q : PaneValue) → has_pane panes.items q ≡ has_open opened.now.entries q) }
+    ensures those { IfOk result (λ panes. (q : PaneValue) → has_pane panes.items q ≡ (not (int_lt q.start from) && has_open opened.now.entries q)) }
 {
     let mut panes = Vec::new(alloc);
     for (start, keys) in opened {
-        push_panes(&mut panes, *start, keys.as_slice())?;
+        if from <= *start as i128 {
+            push_panes(&mut panes, *start, keys.as_slice())?;
+        }
     }
     sort_panes(&mut panes);
     Ok(panes)

@@ -2,23 +2,36 @@
 
 ghost use Rattle.std.specs.Prelude.{◌≡◌, true, false, pos, ◌++◌, ◌∷◌, [], ◌^◌, ◌<◌, ◌≤◌, ◌*◌, ◌&&◌, length, map, replicate, slice_index_or, IfOk, IfSome, OnOk, OnErr, Some, None, is_some, if◌then◌else◌};
 ghost use Rattle.std.specs.List.{All, IsDistinct, list_any};
+ghost use Rattle.std.specs.List.Sorted.{IsStrictlySortedBy};
 ghost use Rattle.std.specs.Option.{option_map};
 ghost use Rattle.std.specs.Ordering.{int_eq};
 ghost use Rattle.plan_model.specs.declared.spec.Pane.{Pane as PaneValue};
 ghost use Rattle.plan_model.specs.Aggregates.{aggregate_of, merge};
-ghost use Rattle.aggregates.specs.Kinds.{AccData, kind_of};
-ghost use Rattle.window_state.specs.Windows.{acc_at, is_pane, total_at, CanAggregate, IsOperator, IsStart};
+ghost use Rattle.plan_model.specs.Rows.{pane_cmp};
+ghost use Rattle.aggregates.specs.Kinds.{AccData, IsAcc, kind_of};
+ghost use Rattle.savepoint_codec.specs.EntriesView.{entry_data};
+ghost use Rattle.packed_parts.specs.Packing.{part_of};
+ghost use Rattle.window_state.specs.Windows.{acc_at, has_pane, is_pane, total_at, CanAggregate, IsOperator, IsStart};
 ghost use Rattle.window_state.specs.Open.{has_key};
 ghost use Rattle.window_state.specs.Parts.{IsPartOf};
+ghost use Rattle.window_state.specs.Placing.{panes_placed, IsPlaceIn};
 
-use crate::words::{add_record, copy_numbers, row_numbers_at, stride_of, write_acc, write_first};
-use aggregates::{Acc, Kind};
 use columns::Batch;
 use indexmap::IndexSet;
+use packed_parts::Packing;
 use pane_hashes::HashKeys;
+use place_words::{add_record, copy_numbers, row_numbers_at, stride_of, write_entry, write_first};
 use plan_model::{MOST_AGGREGATES, Numbers, Pane, WindowSpec};
+use savepoint_codec::{Entry, Numbers as EntryNumbers};
 use std::alloc::{AllocError, Global};
 use std::marker::Model;
+
+/// A pane that has a place, and how many places come before that.
+#[derive(Clone, Copy)]
+pub(crate) struct Placed {
+    pub pane: Pane,
+    pub place: usize,
+}
 
 /// What stands in panes, in one list of words: a pane has a place, and a place has as many words as the
 /// operator's aggregates need. So a pane takes no more memory than its numbers do, and its index.
@@ -118,22 +131,40 @@ impl Places {
         Ok(Some(numbers))
     }
 
-    /// The accumulator of a pane, if it has a place.
-    pub fn acc(&self, kinds: &[Kind], pane: &Pane) -> Option<Acc>
-        requires { kinds.now ≡ map kind_of self.now.window.aggregates }
-        ensures acc { result ≡ acc_at self.now.entries pane.now }
-        ensures part { IfSome result (λ a. IsPartOf self.now.window (record { pane = pane.now; acc = a })) }
+    /// The panes that have a place, in order, each with its place.
+    pub fn in_order(&self, alloc: Global) -> Result<Vec<Placed>, AllocError>
+        ensures ordered { IfOk result (λ placed. IsStrictlySortedBy pane_cmp (panes_placed placed.items)) }
+        ensures those { IfOk result (λ placed. (q : PaneValue) → has_pane (panes_placed placed.items) q ≡ is_some (acc_at self.now.entries q)) }
+        ensures places { IfOk result (λ placed. All (IsPlaceIn self.now.entries) placed.items) }
     {
-        let Some(place) = self.panes.get_index_of(pane) else {
-            return None;
-        };
-        let at = place * self.stride;
+        let mut placed = Vec::with_capacity(alloc, self.panes.len())?;
+        for (place, pane) in self.panes.as_slice().iter().enumerate() {
+            placed.push(Placed { pane: *pane, place })?;
+        }
+        placed.sort_unstable_by_key(|it| it.pane);
+        Ok(placed)
+    }
+
+    /// Puts what stands in a place behind the parts.
+    pub fn push_part(&self, parts: &mut Packing, placed: Placed) -> Result<(), AllocError>
+        requires kinds { parts.old.kinds ≡ map kind_of self.now.window.aggregates }
+        requires place { IsPlaceIn self.now.entries placed }
+        ensures pushed { OnOk result ((a : AccData) → acc_at self.now.entries placed.pane ≡ Some a
+            → parts.new ≡ record parts.old { parts = parts.old.parts ++ record { pane = placed.pane; acc = a } ∷ [] }) }
+        ensures there { is_some (acc_at self.now.entries placed.pane) ≡ true }
+        ensures sound { (a : AccData) → acc_at self.now.entries placed.pane ≡ Some a → IsPartOf self.now.window (record { pane = placed.pane; acc = a }) }
+    {
+        let at = placed.place * self.stride;
         let count = self.words[at] as u64;
         let aggregates = self.window.aggregates.as_slice();
         let mut room = [0; MOST_AGGREGATES];
-        let numbers = &mut room[..kinds.len()];
+        let numbers = &mut room[..aggregates.len()];
         copy_numbers(self.words.as_slice(), at + 1, aggregates, count, numbers);
-        Some(Acc::of(kinds, count, numbers))
+        parts.push_entry(Entry {
+            pane: placed.pane,
+            count,
+            numbers: EntryNumbers::Wide(numbers),
+        })
     }
 
     /// Brings a record in, if the pane has a place, and says whether it has one.
@@ -176,17 +207,23 @@ impl Places {
         Ok(())
     }
 
-    /// Gives a pane a place, and puts an accumulator there.
-    pub fn push_acc(&mut self, pane: Pane, acc: &Acc) -> Result<(), AllocError>
-        requires part { IsPartOf self.old.window (record { pane = pane; acc = acc.now }) }
-        requires absent { acc_at self.old.entries pane ≡ None }
+    /// Gives the pane of an entry a place, and puts there what the entry says.
+    pub fn push_entry(&mut self, entry: Entry<'_>) -> Result<(), AllocError>
+        requires start { IsStart entry.pane.start }
+        requires sound { IsAcc (part_of (map kind_of self.old.window.aggregates) (entry_data entry)).acc }
+        requires absent { acc_at self.old.entries entry.pane ≡ None }
         ensures window_stays { self.new.window ≡ self.old.window }
-        ensures put { OnOk result ((q : PaneValue) → acc_at self.new.entries q ≡ (if is_pane pane q then Some acc.now else acc_at self.old.entries q)) }
+        ensures put { OnOk result ((q : PaneValue) → acc_at self.new.entries q
+            ≡ (if is_pane entry.entry.pane q then Some (part_of (map kind_of self.old.window.aggregates) (entry_data entry.entry)).acc else acc_at self.old.entries q)) }
         ensures err { OnErr result (self.new ≡ self.old) }
     {
-        let at = push_place(&mut self.panes, &mut self.words, self.stride, pane)?;
+        let at = push_place(&mut self.panes, &mut self.words, self.stride, entry.pane)?;
         let aggregates = self.window.aggregates.as_slice();
-        write_acc(self.words.as_mut_slice(), at, aggregates, acc);
+        let mut room = [0; MOST_AGGREGATES];
+        let numbers = &mut room[..aggregates.len()];
+        entry.numbers.copy_to(numbers);
+        let words = self.words.as_mut_slice();
+        write_entry(words, at, aggregates, entry.count, numbers);
         Ok(())
     }
 

@@ -9,7 +9,6 @@ ghost use Rattle.plain_data.specs.Record.{at};
 ghost use Rattle.plan_model.specs.declared.spec.Pane.{Pane as PaneValue};
 ghost use Rattle.plan_model.specs.Windows.{IsTime};
 ghost use Rattle.plan_model.specs.Aggregates.{Aggregated, aggregate_of};
-ghost use Rattle.aggregates.specs.Kinds.{kind_of};
 ghost use Rattle.window_state.specs.Open.{has_open};
 ghost use Rattle.window_slices.specs.KeySlices.{acc_with};
 ghost use Rattle.window_state.specs.State.{HasRoomFor, TakesInLater};
@@ -18,7 +17,7 @@ ghost use Rattle.window_state.specs.Parts.{accs_in, entries_of, panes_in, IsPart
 
 use crate::opened::{OpenPanes, open_new, open_pane};
 use crate::places::Places;
-use aggregates::{Acc, Kind};
+use aggregates::Acc;
 use columns::Batch;
 use packed_parts::PackedParts;
 use pane_hashes::HashKeys;
@@ -126,15 +125,12 @@ impl Windows {
         }
     }
 
-    /// The accumulator of a pane, if anything stands there.
-    pub fn acc(&self, kinds: &[Kind], pane: &Pane) -> Option<Acc>
-        requires { kinds.now ≡ map kind_of self.now.window.aggregates }
+    /// The accumulator of a pane of a window that begins at `from` or later, if anything stands there.
+    pub fn later_acc(&self, pane: &Pane) -> Option<Acc>
+        requires { int_lt pane.now.start self.now.from ≡ false }
         ensures acc { result ≡ option_map (acc_with self.now.window) (map_of.get self.now.totals pane.now) }
         ensures part { IfSome result (λ a. IsPartOf self.now.window (record { pane = pane.now; acc = a })) }
     {
-        if (pane.start as i128) < self.from {
-            return self.places.acc(kinds, pane);
-        }
         pane_total(&self.spans, self.places.window(), pane)
     }
 
@@ -275,9 +271,9 @@ fn places_of(
 {
     let mut places = Places::with_capacity(alloc, keys, window, parts.len())?;
     for i in 0..parts.len() {
-        let part = parts.part(i);
-        if !places.contains(&part.pane) {
-            places.push_acc(part.pane, &part.acc)?;
+        let entry = parts.entry(i);
+        if !places.contains(&entry.pane) {
+            places.push_entry(entry)?;
         }
     }
     Ok(places)

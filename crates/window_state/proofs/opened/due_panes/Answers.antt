@@ -9,7 +9,7 @@ use Rattle.std.proofs.lemmas.Int.{to_z-of_z}
 use Rattle.std.proofs.lemmas.List.Elements.{All-nil}
 use Rattle.plan_model.specs.Rows.{is_due}
 use Rattle.window_state.specs.Open.{has_open, panes_from}
-use Rattle.window_state.proofs.Starts.{next_due, none_from, all_so_far, starts_left}
+use Rattle.window_state.proofs.Starts.{next_taken, none_from, all_so_far, starts_left}
 use Rattle.window_state.proofs.opened.due_panes.Goals as goal
 use Rattle.window_state.proofs.opened.due_panes.Goals.{in-None, in-Some+then-not-is_due}
 
@@ -23,7 +23,7 @@ loop-start-preserved c =
     let due = ap (is_due w held) (sym (to_z-of_z w64 s fits)) ∙ sym c.if-not-is_due.ensures in
     record {
       those = λ q.
-          next_due w held c.loop-start.panes.items c.push_panes.new.panes.items e c.loop-start.start-iterator c.next.new.self q
+          next_taken (is_due w held) c.loop-start.panes.items c.push_panes.new.panes.items e c.loop-start.start-iterator c.next.new.self q
           (c.in_ok-push_panes.ensures ∙ (λ i. c.loop-start.panes.items ++ panes_from (to_z-of_z w64 s fits i) (c.as_slice.ensures.value i))) c.in-Some.ensures.steps due
           ∙ c.loop-start.invariant.those q;
       ordered = starts_left e c.loop-start.start-iterator c.next.new.self c.loop-start.invariant.ordered c.in-Some.ensures.steps;

@@ -6,7 +6,7 @@ use Rattle.plan_model.specs.declared.spec.Aggregate.{Aggregate}
 use Rattle.plan_model.specs.Aggregates.{Aggregated, aggregate_of, merge}
 use Rattle.aggregates.specs.Kinds.{AccData, IsAcc, kind_of}
 use Rattle.window_state.specs.Windows.{acc_at, total_at, is_pane}
-use Rattle.window_state.specs.Words.{stride, word, count_of, acc_in, entries_in, IsWritten}
+use Rattle.place_words.specs.Words.{stride, word, count_of, acc_in, entries_in, IsWritten}
 use Rattle.window_state.specs.Places.{PlacesData, ArePlaces}
 use Rattle.window_state.proofs.Entries.{total_cond}
 use Rattle.window_state.proofs.Updates.{written_there}

@@ -6,7 +6,7 @@ use Rattle.std.specs.List.{list_any}
 use Rattle.std.proofs.lemmas.List.{get_or_default}
 use Rattle.aggregates.specs.Kinds.{AccData, kind_of}
 use Rattle.window_state.specs.Windows.{acc_at, is_pane}
-use Rattle.window_state.specs.Words.{word, count_of, numbers_at, acc_in}
+use Rattle.place_words.specs.Words.{word, count_of, numbers_at, acc_in}
 use Rattle.window_state.specs.Places.{PlacesData}
 use Rattle.window_state.proofs.Placed.{kinds_of, its_place, no_place, cast_fits, cast_is}
 use Rattle.window_state.proofs.places.Places.numbers.Goals as goal

@@ -8,7 +8,7 @@ use Rattle.plan_model.specs.declared.spec.Aggregate.{Aggregate}
 use Rattle.plan_model.specs.Aggregates.{number_of, aggregate_of}
 use Rattle.aggregates.specs.Kinds.{AccData, IsAcc, kind_of}
 use Rattle.window_state.specs.Windows.{acc_at, total_at, is_pane}
-use Rattle.window_state.specs.Words.{stride, acc_in, entries_in, IsWritten}
+use Rattle.place_words.specs.Words.{stride, acc_in, entries_in, IsWritten}
 use Rattle.window_state.specs.Places.{PlacesData, ArePlaces}
 use Rattle.window_state.proofs.Entries.{total_cond}
 use Rattle.window_state.proofs.Spread.{found-any, pushes_place}

@@ -3,7 +3,7 @@ use Rattle.std.specs.List.{list_any, CopiedTo, SameBelow, SameFrom}
 use Rattle.std.specs.Option.{is_some}
 use Rattle.std.proofs.lemmas.List.{with_items_is}
 use Rattle.window_state.specs.Windows.{acc_at, is_pane}
-use Rattle.window_state.specs.Words.{entries_in}
+use Rattle.place_words.specs.Words.{entries_in}
 use Rattle.window_state.specs.Places.{PlacesData}
 use Rattle.window_state.proofs.Spread.{takes_place}
 use Rattle.window_state.proofs.Placed.{kinds_of, its_place, no_place, distinct_panes, kept_taken, none_taken}

@@ -1,0 +1,6 @@
+//! What stands in a pane, in as few words as the aggregates of its window operator need.
+#![tactic(auto)]
+
+mod words;
+
+pub use words::{add_record, copy_numbers, row_numbers_at, stride_of, write_entry, write_first};

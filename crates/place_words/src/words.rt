@@ -1,0 +1,241 @@
+//! The words of a place: its count, and then those of the number of each aggregate. A sum has two, and a
+//! `count` none, since it is the place's.
+
+ghost use Rattle.std.specs.Prelude.{◌≡◌, true, ℕ, ◌+ℤ◌, ◌+◌, ◌-◌, ◌*◌, ◌^◌, ◌<◌, ◌≤◌, [], map, length, slice_index_or, unsigned_abs, IfOk};
+ghost use Rattle.std.specs.List.{All};
+ghost use Rattle.byte_fields.specs.Fields as fields;
+ghost use Rattle.plan_model.specs.PlanData.{has_column};
+ghost use Rattle.plan_model.specs.Aggregates.{number_of};
+ghost use Rattle.plan_model.specs.declared.limits.TheConstants.{MOST_AGGREGATES};
+ghost use Rattle.aggregates.specs.Kinds.{is_number, are_numbers, kind_of, merge_by, merge_all, IsAcc};
+ghost use Rattle.place_words.specs.Words as words_of;
+ghost use Rattle.place_words.specs.Words.{acc_in, count_of, sum_of, width, word, IsWritten};
+
+use aggregates::number_of_one;
+use columns::Batch;
+use plan_model::{Aggregate, Numbers};
+use std::alloc::{AllocError, Global};
+
+/// How many words the number of an aggregate has.
+fn width_of(aggregate: Aggregate) -> usize
+    ensures { result ≡ words_of.width_of (kind_of aggregate) }
+{
+    match aggregate {
+        Aggregate::Count => 0,
+        Aggregate::Sum(_) => 2,
+        Aggregate::Least(_) => 1,
+        Aggregate::Greatest(_) => 1,
+    }
+}
+
+/// How many words a place has.
+pub fn stride_of(aggregates: &[Aggregate]) -> usize
+    requires { length aggregates.now ≤ MOST_AGGREGATES }
+    ensures { result ≡ words_of.stride (map kind_of aggregates.now) }
+{
+    let mut stride = 1;
+    for aggregate in aggregates {
+        stride += width_of(*aggregate);
+    }
+    stride
+}
+
+/// The sum that two words are.
+fn sum_at(words: &[i64], at: usize) -> i128
+    requires { at + 2 ≤ length words.now }
+    ensures { result ≡ sum_of (word words.now at) (word words.now (at + 1)) }
+{
+    words[at] as i128 * (1 << 63) + words[at + 1] as i128
+}
+
+/// Writes a sum in two words: how often it holds 2^63, and the rest.
+fn write_sum(words: &mut [i64], at: usize, sum: i128)
+    requires room { at + 2 ≤ length words.old }
+    requires small { unsigned_abs sum ≤ 2 ^ 104 }
+    ensures written { sum_of (word words.new at) (word words.new (at + 1)) ≡ sum }
+    ensures others { IsWritten at (at + 2) words.old words.new }
+{
+    words[at] = sum.div_euclid(1 << 63) as i64;
+    words[at + 1] = sum.rem_euclid(1 << 63) as i64;
+}
+
+/// The number of an aggregate, of so many records.
+fn number_at(words: &[i64], at: usize, aggregate: Aggregate, count: u64) -> i128
+    requires { at + words_of.width_of (kind_of aggregate) ≤ length words.now }
+    ensures { result ≡ words_of.number_at count (kind_of aggregate) words.now at }
+{
+    match aggregate {
+        Aggregate::Count => count as i128,
+        Aggregate::Sum(_) => sum_at(words, at),
+        Aggregate::Least(_) => words[at] as i128,
+        Aggregate::Greatest(_) => words[at] as i128,
+    }
+}
+
+/// The numbers of aggregates whose words begin at `at`, of so many records, put into places, one for each.
+pub fn copy_numbers(
+    words: &[i64],
+    at: usize,
+    aggregates: &[Aggregate],
+    count: u64,
+    numbers: &mut [i128],
+)
+    requires words { at + width (map kind_of aggregates.now) ≤ length words.now }
+    requires room { length numbers.old ≡ length aggregates.now }
+    ensures { numbers.new ≡ words_of.numbers_at count (map kind_of aggregates.now) words.now at }
+{
+    let mut at = at;
+    for (i, aggregate) in aggregates.iter().enumerate() {
+        numbers[i] = number_at(words, at, *aggregate, count);
+        at += width_of(*aggregate);
+    }
+}
+
+/// The same, as the numbers of a row.
+pub fn row_numbers_at(
+    alloc: Global,
+    words: &[i64],
+    at: usize,
+    aggregates: &[Aggregate],
+    count: u64,
+) -> Result<Numbers, AllocError>
+    requires { at + width (map kind_of aggregates.now) ≤ length words.now }
+    ensures { IfOk result (λ numbers. numbers ≡ words_of.numbers_at count (map kind_of aggregates.now) words.now at) }
+{
+    let mut numbers = Numbers::new();
+    let mut at = at;
+    for aggregate in aggregates {
+        numbers.push(alloc, number_at(words, at, *aggregate, count))?;
+        at += width_of(*aggregate);
+    }
+    Ok(numbers)
+}
+
+/// Writes the number of an aggregate.
+fn write_number(words: &mut [i64], at: usize, aggregate: Aggregate, number: i128)
+    requires room { at + words_of.width_of (kind_of aggregate) ≤ length words.old }
+    requires fit { (n : ℕ) × (n ≤ 2 ^ 41) × (is_number n (kind_of aggregate) number ≡ true) }
+    ensures written { (n : ℕ) → is_number n (kind_of aggregate) number ≡ true → words_of.number_at n (kind_of aggregate) words.new at ≡ number }
+    ensures others { IsWritten at (at + words_of.width_of (kind_of aggregate)) words.old words.new }
+{
+    match aggregate {
+        Aggregate::Count => {}
+        Aggregate::Sum(_) => write_sum(words, at, number),
+        Aggregate::Least(_) => words[at] = number as i64,
+        Aggregate::Greatest(_) => words[at] = number as i64,
+    }
+}
+
+/// Writes the numbers of aggregates, whose words begin at `at`.
+fn write_numbers(words: &mut [i64], at: usize, aggregates: &[Aggregate], numbers: &[i128])
+    requires room { at + width (map kind_of aggregates.now) ≤ length words.old }
+    requires fit { (n : ℕ) × (n ≤ 2 ^ 41) × (are_numbers n (map kind_of aggregates.now) numbers.now ≡ true) }
+    ensures written { (n : ℕ) → are_numbers n (map kind_of aggregates.now) numbers.now ≡ true
+        → words_of.numbers_at n (map kind_of aggregates.now) words.new at ≡ numbers.now }
+    ensures others { IsWritten at (at + width (map kind_of aggregates.now)) words.old words.new }
+{
+    let mut at = at;
+    for (i, aggregate) in aggregates.iter().enumerate() {
+        write_number(words, at, *aggregate, numbers[i]);
+        at += width_of(*aggregate);
+    }
+}
+
+/// Writes a count and a number for each aggregate in the place whose words begin at `at`.
+pub fn write_entry(
+    words: &mut [i64],
+    at: usize,
+    aggregates: &[Aggregate],
+    count: u64,
+    numbers: &[i128],
+)
+    requires room { at + words_of.stride (map kind_of aggregates.now) ≤ length words.old }
+    requires sound { IsAcc (record { kinds = map kind_of aggregates.now; total = record { count = count; numbers = numbers.now } }) }
+    ensures written { acc_in (map kind_of aggregates.now) words.new at ≡ record { kinds = map kind_of aggregates.now; total = record { count = count; numbers = numbers.now } } }
+    ensures others { IsWritten at (at + words_of.stride (map kind_of aggregates.now)) words.old words.new }
+{
+    words[at] = count as i64;
+    write_numbers(words, at + 1, aggregates, numbers);
+}
+
+/// Writes what one record comes to in the place whose words begin at `at`.
+pub fn write_first(
+    words: &mut [i64],
+    at: usize,
+    aggregates: &[Aggregate],
+    batch: &Batch,
+    row: usize,
+)
+    requires row_in { row < length batch.now.rows }
+    requires columns_in { All (has_column batch.now.width) aggregates.now }
+    requires room { at + words_of.stride (map kind_of aggregates.now) ≤ length words.old }
+    ensures fit { All (λ a. fields.is_i64 (number_of a (slice_index_or batch.now.rows row []) []) ≡ true) aggregates.now }
+    ensures written { acc_in (map kind_of aggregates.now) words.new at
+        ≡ record { kinds = map kind_of aggregates.now; total = record { count = 1; numbers = map (λ a. number_of a (slice_index_or batch.now.rows row []) []) aggregates.now } } }
+    ensures others { IsWritten at (at + words_of.stride (map kind_of aggregates.now)) words.old words.new }
+{
+    words[at] = 1;
+    let mut at = at + 1;
+    for aggregate in aggregates {
+        write_number(
+            words,
+            at,
+            *aggregate,
+            number_of_one(*aggregate, batch, row) as i128,
+        );
+        at += width_of(*aggregate);
+    }
+}
+
+/// Adds a number to the sum that two words are. Mostly the second can take it.
+fn add_to_sum(words: &mut [i64], at: usize, number: i64)
+    requires room { at + 2 ≤ length words.old }
+    requires small { unsigned_abs (sum_of (word words.old at) (word words.old (at + 1)) +ℤ number) ≤ 2 ^ 104 }
+    ensures added { sum_of (word words.new at) (word words.new (at + 1)) ≡ sum_of (word words.old at) (word words.old (at + 1)) +ℤ number }
+    ensures others { IsWritten at (at + 2) words.old words.new }
+{
+    match words[at + 1].checked_add(number) {
+        Some(rest) => words[at + 1] = rest,
+        None => write_sum(words, at, sum_at(words, at) + number as i128),
+    }
+}
+
+/// Brings the number of one record in.
+fn add_number(words: &mut [i64], at: usize, aggregate: Aggregate, batch: &Batch, row: usize)
+    requires row_in { row < length batch.now.rows }
+    requires column_in { has_column batch.now.width aggregate }
+    requires room { at + words_of.width_of (kind_of aggregate) ≤ length words.old }
+    requires few { (n : ℕ) × (n < 2 ^ 41) × (is_number n (kind_of aggregate) (words_of.number_at n (kind_of aggregate) words.old at) ≡ true) }
+    ensures fit { fields.is_i64 (number_of aggregate (slice_index_or batch.now.rows row []) []) ≡ true }
+    ensures added { (n : ℕ) → words_of.number_at (n + 1) (kind_of aggregate) words.new at
+        ≡ merge_by (kind_of aggregate) (words_of.number_at n (kind_of aggregate) words.old at) (number_of aggregate (slice_index_or batch.now.rows row []) []) }
+    ensures others { IsWritten at (at + words_of.width_of (kind_of aggregate)) words.old words.new }
+{
+    match aggregate {
+        Aggregate::Count => {}
+        Aggregate::Sum(c) => add_to_sum(words, at, batch.value(row, c as usize)),
+        Aggregate::Least(c) => words[at] = words[at].min(batch.value(row, c as usize)),
+        Aggregate::Greatest(c) => words[at] = words[at].max(batch.value(row, c as usize)),
+    }
+}
+
+/// Brings one record in, in the place whose words begin at `at`.
+pub fn add_record(words: &mut [i64], at: usize, aggregates: &[Aggregate], batch: &Batch, row: usize)
+    requires row_in { row < length batch.now.rows }
+    requires columns_in { All (has_column batch.now.width) aggregates.now }
+    requires room { at + words_of.stride (map kind_of aggregates.now) ≤ length words.old }
+    requires sound { IsAcc (acc_in (map kind_of aggregates.now) words.old at) }
+    requires few { count_of (word words.old at) < 2 ^ 41 }
+    ensures sound { IsAcc (acc_in (map kind_of aggregates.now) words.new at) }
+    ensures count { count_of (word words.new at) ≡ count_of (word words.old at) + 1 }
+    ensures added { (acc_in (map kind_of aggregates.now) words.new at).total.numbers
+        ≡ merge_all (map kind_of aggregates.now) (acc_in (map kind_of aggregates.now) words.old at).total.numbers (map (λ a. number_of a (slice_index_or batch.now.rows row []) []) aggregates.now) }
+    ensures others { IsWritten at (at + words_of.stride (map kind_of aggregates.now)) words.old words.new }
+{
+    words[at] += 1;
+    let mut at = at + 1;
+    for aggregate in aggregates {
+        add_number(words, at, *aggregate, batch, row);
+        at += width_of(*aggregate);
+    }
+}

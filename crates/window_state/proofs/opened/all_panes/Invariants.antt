@@ -1,8 +1,0 @@
-use Rattle.std.proofs.Common.{◌≡◌, ◌||◌}
-use Rattle.plan_model.specs.declared.spec.Pane.{Pane}
-use Rattle.window_state.specs.Open.{has_open}
-use Rattle.window_state.specs.Windows.{has_pane}
-use Rattle.window_state.proofs.opened.all_panes.Given as goal
-
-abbrev pub invariant-loop-start : goal.invariant-loop-start
-invariant-loop-start l = (q : Pane) → (has_pane l.panes.items q || has_open l.start-iterator q) ≡ has_open l.opened.entries q
