@@ -53,8 +53,37 @@ fn push_entry(
     buckets[group as usize].push(entry)
 }
 
+/// How many of the parts each key group has.
+fn counts_of(
+    alloc: Global,
+    max: MaxParallelism,
+    parts: &PackedParts,
+) -> Result<Vec<usize>, AllocError>
+    ensures { IfOk result (λ counts. length counts.items ≡ max) }
+{
+    let mut counts = Vec::new(alloc);
+    counts.resize(max.get() as usize, 0usize)?;
+    for i in 0..parts.len() {
+        let group = group_of(parts.entry(i).pane.key, max) as usize;
+        counts[group] = counts[group].saturating_add(1);
+    }
+    Ok(counts)
+}
+
+/// Makes room in each bucket for what a task has of its key group.
+fn reserve(buckets: &mut [Entries], counts: &[usize]) -> Result<(), AllocError>
+    requires { length counts.now ≡ length buckets.old }
+    ensures { buckets.new ≡ buckets.old }
+{
+    for (group, count) in counts.iter().enumerate() {
+        buckets[group].reserve(*count)?;
+    }
+    Ok(())
+}
+
 /// The panes of a task, put into the buckets of their key groups.
 fn push_parts(
+    alloc: Global,
     buckets: &mut [Entries],
     max: MaxParallelism,
     parts: &PackedParts,
@@ -65,6 +94,8 @@ fn push_parts(
     ensures widths { OnOk result ((n : ℕ) → HaveWidth n buckets.old → HaveWidth n buckets.new) }
     ensures typed { OnOk result (All IsTyped parts.now) }
 {
+    let counts = counts_of(alloc, max, parts)?;
+    reserve(buckets, counts.as_slice())?;
     for i in 0..parts.len() {
         push_entry(buckets, max, parts.entry(i))?;
     }
@@ -73,6 +104,7 @@ fn push_parts(
 
 /// The same of what a task leaves: it has panes, if it is a window's task.
 fn push_panes(
+    alloc: Global,
     buckets: &mut [Entries],
     max: MaxParallelism,
     part: &TaskStart,
@@ -84,7 +116,7 @@ fn push_panes(
     ensures typed { OnOk result (All IsTyped (panes_of part.now)) }
 {
     match part {
-        TaskStart::Window(panes) => push_parts(buckets, max, panes),
+        TaskStart::Window(panes) => push_parts(alloc, buckets, max, panes),
         _ => Ok(()),
     }
 }
@@ -104,7 +136,7 @@ fn all_buckets(
 {
     let mut buckets = empty_buckets(alloc, max, width)?;
     for part in parts {
-        push_panes(&mut buckets, max, part)?;
+        push_panes(alloc, &mut buckets, max, part)?;
     }
     Ok(buckets)
 }

@@ -3,4 +3,6 @@
 
 mod words;
 
-pub use words::{add_record, copy_numbers, row_numbers_at, stride_of, write_entry, write_first};
+pub use words::{
+    add_record, copy_narrow, copy_numbers, row_numbers_at, stride_of, write_entry, write_first,
+};

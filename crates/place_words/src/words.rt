@@ -8,12 +8,14 @@ ghost use Rattle.plan_model.specs.PlanData.{has_column};
 ghost use Rattle.plan_model.specs.Aggregates.{number_of};
 ghost use Rattle.plan_model.specs.declared.limits.TheConstants.{MOST_AGGREGATES};
 ghost use Rattle.aggregates.specs.Kinds.{is_number, are_numbers, kind_of, merge_by, merge_all, IsAcc};
+ghost use Rattle.savepoint_codec.specs.Numbers.{numbers_of};
 ghost use Rattle.place_words.specs.Words as words_of;
 ghost use Rattle.place_words.specs.Words.{acc_in, count_of, sum_of, width, word, IsWritten};
 
 use aggregates::number_of_one;
 use columns::Batch;
-use plan_model::{Aggregate, Numbers};
+use plan_model::{Aggregate, Numbers as RowNumbers};
+use savepoint_codec::Numbers;
 use std::alloc::{AllocError, Global};
 
 /// How many words the number of an aggregate has.
@@ -91,6 +93,29 @@ pub fn copy_numbers(
     }
 }
 
+/// The same of numbers that all fit in 64 bits, and whether they do. Where one does not, some places may be filled.
+pub fn copy_narrow(
+    words: &[i64],
+    at: usize,
+    aggregates: &[Aggregate],
+    count: u64,
+    numbers: &mut [i64],
+) -> bool
+    requires words { at + width (map kind_of aggregates.now) ≤ length words.now }
+    requires room { length numbers.old ≡ length aggregates.now }
+    ensures { result ≡ true → numbers.new ≡ words_of.numbers_at count (map kind_of aggregates.now) words.now at }
+{
+    let mut at = at;
+    for (i, aggregate) in aggregates.iter().enumerate() {
+        let Ok(number) = i64::try_from(number_at(words, at, *aggregate, count)) else {
+            return false;
+        };
+        numbers[i] = number;
+        at += width_of(*aggregate);
+    }
+    true
+}
+
 /// The same, as the numbers of a row.
 pub fn row_numbers_at(
     alloc: Global,
@@ -98,11 +123,11 @@ pub fn row_numbers_at(
     at: usize,
     aggregates: &[Aggregate],
     count: u64,
-) -> Result<Numbers, AllocError>
+) -> Result<RowNumbers, AllocError>
     requires { at + width (map kind_of aggregates.now) ≤ length words.now }
     ensures { IfOk result (λ numbers. numbers ≡ words_of.numbers_at count (map kind_of aggregates.now) words.now at) }
 {
-    let mut numbers = Numbers::new();
+    let mut numbers = RowNumbers::new();
     let mut at = at;
     for aggregate in aggregates {
         numbers.push(alloc, number_at(words, at, *aggregate, count))?;
@@ -141,21 +166,39 @@ fn write_numbers(words: &mut [i64], at: usize, aggregates: &[Aggregate], numbers
     }
 }
 
+/// The same of numbers of 64 bits.
+fn write_narrow_numbers(words: &mut [i64], at: usize, aggregates: &[Aggregate], numbers: &[i64])
+    requires room { at + width (map kind_of aggregates.now) ≤ length words.old }
+    requires fit { (n : ℕ) × (n ≤ 2 ^ 41) × (are_numbers n (map kind_of aggregates.now) numbers.now ≡ true) }
+    ensures written { (n : ℕ) → are_numbers n (map kind_of aggregates.now) numbers.now ≡ true
+        → words_of.numbers_at n (map kind_of aggregates.now) words.new at ≡ numbers.now }
+    ensures others { IsWritten at (at + width (map kind_of aggregates.now)) words.old words.new }
+{
+    let mut at = at;
+    for (i, aggregate) in aggregates.iter().enumerate() {
+        write_number(words, at, *aggregate, numbers[i] as i128);
+        at += width_of(*aggregate);
+    }
+}
+
 /// Writes a count and a number for each aggregate in the place whose words begin at `at`.
 pub fn write_entry(
     words: &mut [i64],
     at: usize,
     aggregates: &[Aggregate],
     count: u64,
-    numbers: &[i128],
+    numbers: Numbers<'_>,
 )
     requires room { at + words_of.stride (map kind_of aggregates.now) ≤ length words.old }
-    requires sound { IsAcc (record { kinds = map kind_of aggregates.now; total = record { count = count; numbers = numbers.now } }) }
-    ensures written { acc_in (map kind_of aggregates.now) words.new at ≡ record { kinds = map kind_of aggregates.now; total = record { count = count; numbers = numbers.now } } }
+    requires sound { IsAcc (record { kinds = map kind_of aggregates.now; total = record { count = count; numbers = numbers_of numbers } }) }
+    ensures written { acc_in (map kind_of aggregates.now) words.new at ≡ record { kinds = map kind_of aggregates.now; total = record { count = count; numbers = numbers_of numbers.entry } } }
     ensures others { IsWritten at (at + words_of.stride (map kind_of aggregates.now)) words.old words.new }
 {
     words[at] = count as i64;
-    write_numbers(words, at + 1, aggregates, numbers);
+    match numbers {
+        Numbers::Narrow(numbers) => write_narrow_numbers(words, at + 1, aggregates, numbers),
+        Numbers::Wide(numbers) => write_numbers(words, at + 1, aggregates, numbers),
+    }
 }
 
 /// Writes what one record comes to in the place whose words begin at `at`.

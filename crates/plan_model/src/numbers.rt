@@ -57,6 +57,7 @@ impl Numbers {
     ///
     /// Only where memory runs out for a ninth number, or for one of more than 64 bits, or for those behind
     /// it. The numbers are then as they were.
+    #[inline(always)]
     pub fn push(&mut self, alloc: Global, number: i128) -> Result<(), AllocError>
         ensures pushed { OnOk result (self.new ≡ self.old ++ number ∷ []) }
         ensures narrow { are_narrow (self.old ++ number ∷ []) ≡ true → IsOk result }

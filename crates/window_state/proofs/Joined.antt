@@ -7,8 +7,6 @@ use Rattle.std.specs.List.Sorted.{IsStrictlySortedBy}
 use Rattle.std.specs.Map.{keys_of, lookup}
 use Rattle.std.specs.Option.{is_some}
 use Rattle.std.specs.Ordering.{is_eq}
-use Rattle.std.specs.declared.cmp.Ordering.TheVariants.{Less}
-use Rattle.std.proofs.lemmas.Int.{ints}
 use Rattle.std.proofs.lemmas.List.{map-append}
 use Rattle.plan_model.specs.declared.spec.Pane.{Pane}
 use Rattle.plan_model.specs.Aggregates.{Aggregated}
@@ -25,6 +23,7 @@ use Rattle.window_state.specs.Windows.{acc_at, has_pane, is_pane, total_at}
 use Rattle.window_state.proofs.Entries.{entries-sorted, get-entries, same_map_of, tied}
 use Rattle.window_state.proofs.PartMaps.{totals-parts}
 use Rattle.window_state.proofs.InOrder.{itself}
+use Rattle.window_state.proofs.Rising.{joined_strict}
 use Rattle.window_state.proofs.Standing.{seen_before, seen_later, some_total, standing_later}
 
 -- what holds of each key that is found holds of each
@@ -35,24 +34,6 @@ of_keys P (e ∷ es) h = (h e.0 (ap (λ b. is_some (cond b (Some e.1) (lookup (i
     behind : (b : Bool) (o : Option Aggregated) → is_some o ≡ true → is_some (cond b (Some e.1) o) ≡ true
     behind true o h = refl
     behind false o h = h
-
-less_by_start : (p q : Pane) (from : ℤ) → int_lt p.start from ≡ true → int_lt q.start from ≡ false → pane_cmp p q ≡ Less
-less_by_start p q from before later = grind (arith, ints)
-
-joined_all : (P : Pane → Type 0) (xs ys : List Pane) → AllByRecursion P xs → AllByRecursion P ys → AllByRecursion P (xs ++ ys)
-joined_all P [] ys h k = k
-joined_all P (x ∷ xs) ys h k = (h.0, joined_all P xs ys h.1 k)
-
-all_later : (p : Pane) (from : ℤ) (ys : List Pane) → int_lt p.start from ≡ true → AllByRecursion (λ q. int_lt q.start from ≡ false) ys → AllByRecursion (λ q. pane_cmp p q ≡ Less) ys
-all_later p from [] before h = tt
-all_later p from (y ∷ ys) before h = (less_by_start p y from before h.0, all_later p from ys before h.1)
-
-joined_strict : (xs ys : List Pane) (from : ℤ) → IsStrictlySortedBy pane_cmp xs → IsStrictlySortedBy pane_cmp ys → AllByRecursion (λ q. int_lt q.start from ≡ true) xs
-    → AllByRecursion (λ q. int_lt q.start from ≡ false) ys → IsStrictlySortedBy pane_cmp (xs ++ ys)
-unfolding IsStrictlySortedBy
-joined_strict [] ys from h k before later = k
-joined_strict (x ∷ xs) ys from h k before later =
-    (joined_all (λ q. pane_cmp x q ≡ Less) xs ys h.0 (all_later x from ys before.0 later), joined_strict xs ys from h.1 k before.1 later)
 
 keys_joined : (es fs : List (Pane × Aggregated)) → keys_of (es ++ fs) ≡ keys_of es ++ keys_of fs
 keys_joined [] fs = refl

@@ -16,3 +16,4 @@ mod SliceFits
 mod InOrder
 mod Joined
 mod Pushing
+mod Rising

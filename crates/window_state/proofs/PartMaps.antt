@@ -8,7 +8,7 @@ use Rattle.window_state.proofs.Updates.{pane_from_test}
 use Rattle.window_state.proofs.Standing.{lt_true}
 use Rattle.std.specs.Global.{Vec}
 use Rattle.std.specs.Ordering.{is_eq}
-use Rattle.std.specs.Option.{is_some, option_map}
+use Rattle.std.specs.Option.{is_some, option_map, option_or}
 use Rattle.std.proofs.lemmas.List.{take_more, map-append}
 use Rattle.std.proofs.lemmas.Option.{slice_get-map, slice_get-get_or}
 use Rattle.plan_model.specs.declared.spec.Pane.{Pane}
@@ -25,7 +25,6 @@ use Rattle.window_state.specs.Open.{has_open}
 use Rattle.window_state.specs.Parts.{parts_in, panes_in, accs_in, entries_of, IsPartOf}
 use Rattle.window_state.proofs.Entries.{tied}
 use Rattle.window_state.proofs.Sorted.{flips}
-use Rattle.window_state.proofs.Spread.{found-push, found-again}
 
 pub totals-parts : (kinds : List Kind) (es : List (Pane × Aggregated)) → entries_of (parts_in kinds es) ≡ es
 totals-parts kinds [] = refl
@@ -40,6 +39,15 @@ first_total (p ∷ parts) q = ap (cond (is_pane q p.pane) (Some p.acc.total)) (f
     through true = refl
     through false = refl
 
+-- what is found where an entry more stands behind others
+found_behind : (es : List (Pane × AccData)) (p q : Pane) (a : AccData) → acc_at (es ++ (p, a) ∷ []) q ≡ option_or (acc_at es q) (cond (is_pane p q) (Some a) None)
+found_behind [] p q a = ap (λ b. cond b (Some a) None) (flips q p)
+found_behind (e ∷ es) p q a = ap (cond (is_pane q e.0) (Some e.1)) (found_behind es p q a) ∙ through (is_pane q e.0)
+  where
+    through : (b : Bool) → cond b (Some e.1) (option_or (acc_at es q) (cond (is_pane p q) (Some a) None)) ≡ option_or (cond b (Some e.1) (acc_at es q)) (cond (is_pane p q) (Some a) None)
+    through true = refl
+    through false = refl
+
 -- entries that have in each pane what the first part there has
 abbrev pub HasFirst : List Part → List (Pane × AccData) → Type 0
 HasFirst parts es = (q : Pane) → acc_at es q ≡ acc_at (accs_in parts) q
@@ -49,20 +57,12 @@ accs_more parts i p low is =
     ap accs_in (take_more parts i p low ∙ (λ t. take i parts ++ sym is t ∷ []))
     ∙ map-append (λ (x : Part). (x.pane, x.acc)) (take i parts) (p ∷ [])
 
--- one part more, in a pane that has none
-pub part_put : (parts : List Part) (i : ℕ) (p : Part) (m n : List (Pane × AccData)) → i < length parts → p ≡ get_or parts i p → HasFirst (take i parts) m → acc_at m p.pane ≡ None
-    → ((q : Pane) → acc_at n q ≡ cond (is_pane p.pane q) (Some p.acc) (acc_at m q)) → HasFirst (take (i + 1) parts) n
-part_put parts i p m n low is before none put q =
-    put q ∙ ap (cond (is_pane p.pane q) (Some p.acc)) (before q)
-    ∙ sym (found-push (accs_in (take i parts)) p.pane q p.acc (sym (before p.pane) ∙ none))
-    ∙ ap (λ l. acc_at l q) (sym (accs_more parts i p low is))
-
--- or in one that has one
-pub part_again : (parts : List Part) (i : ℕ) (p : Part) (m : List (Pane × AccData)) → i < length parts → p ≡ get_or parts i p → HasFirst (take i parts) m → is_some (acc_at m p.pane) ≡ true
-    → HasFirst (take (i + 1) parts) m
-part_again parts i p m low is before some q =
-    before q
-    ∙ sym (found-again (accs_in (take i parts)) p.pane q p.acc (sym (ap is_some (before p.pane)) ∙ some))
+-- one part more, which counts where its pane has none
+pub part_put : (parts : List Part) (i : ℕ) (p : Part) (m n : List (Pane × AccData)) → i < length parts → p ≡ get_or parts i p → HasFirst (take i parts) m
+    → ((q : Pane) → acc_at n q ≡ option_or (acc_at m q) (cond (is_pane p.pane q) (Some p.acc) None)) → HasFirst (take (i + 1) parts) n
+part_put parts i p m n low is before put q =
+    put q ∙ ap (λ o. option_or o (cond (is_pane p.pane q) (Some p.acc) None)) (before q)
+    ∙ sym (found_behind (accs_in (take i parts)) p.pane q p.acc)
     ∙ ap (λ l. acc_at l q) (sym (accs_more parts i p low is))
 
 panes_found : (parts : List Part) (q : Pane) → has_pane (panes_in parts) q ≡ is_some (acc_at (accs_in parts) q)

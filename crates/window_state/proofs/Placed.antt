@@ -19,7 +19,8 @@ use Rattle.aggregates.specs.Kinds.{AccData, IsAcc, kind_of, merge_all}
 use Rattle.aggregates.proofs.Accs.{one_numbers, merge_numbers-kinds}
 use Rattle.window_state.specs.Windows.{IsOperator, IsStart, acc_at, is_pane}
 use Rattle.window_state.specs.Places.{ArePlaces}
-use Rattle.place_words.specs.Words.{stride, word, count_of, acc_in, entries_in, IsWritten}
+use Rattle.place_words.specs.Words.{stride, word, count_of, numbers_at, acc_in, entries_in, IsWritten}
+use Rattle.window_state.specs.declared.places.Places.TheInside.{Inside}
 use Rattle.place_words.proofs.Numbers.{width-few}
 use Rattle.window_state.proofs.Spread.{Stands, stands, writes_place, found-any, keys-entries, one_less}
 use Rattle.window_state.proofs.Entries.{windows_taken, sound_taken, none_there}
@@ -137,6 +138,15 @@ cast_fits (negsuc n) h some = absurd (omega (arith, some))
 pub cast_is : (z : ℤ) → FitsSigned w64 z → 1 ≤ count_of z → nat_abs (to_z w64 (of_z w64 z)) ≡ count_of z
 cast_is (pos n) h some = ap nat_abs (to_z-of_z w64 (pos n) h)
 cast_is (negsuc n) h some = absurd (omega (arith, some))
+
+-- what is read is what stands in the place
+pub read_acc : (s : Inside) (at : ℕ) (z : ℤ) (kinds : List Kind) (numbers : List ℤ) → kinds ≡ kinds_of s.window → z ≡ word s.words.items at → FitsSigned w64 z → 1 ≤ count_of (word s.words.items at)
+    → numbers ≡ numbers_at (nat_abs (to_z w64 (of_z w64 z))) (kinds_of s.window) s.words.items (at + 1)
+    → acc_in (kinds_of s.window) s.words.items at ≡ record { kinds = kinds; total = record { count = nat_abs (to_z w64 (of_z w64 z)); numbers = numbers } }
+read_acc s at z kinds numbers same here fits counted all =
+    let count : nat_abs (to_z w64 (of_z w64 z)) ≡ count_of (word s.words.items at) =
+    ap (λ y. nat_abs (to_z w64 (of_z w64 y))) here ∙ cast_is (word s.words.items at) (subst (FitsSigned w64) here fits) counted in
+    sym (λ t. record { kinds = same t; total = record { count = count t; numbers = (all ∙ ap (λ n. numbers_at n (kinds_of s.window) s.words.items (at + 1)) count) t } })
 
 pub on_err : {A B X : Type 0} (r : Result A B) → X → OnErr r X
 on_err (Ok a) x = tt

@@ -1,6 +1,6 @@
 -- The entries of the windows in the order of their panes.
 use Rattle.std.proofs.Common.{◌≡◌, ℤ, Bool, true, false, cond, ◌&&◌, ◌||◌, List, [], ◌∷◌, refl, sym, ap, ◌∙◌, arith, Option, Some, None, if◌then◌else◌}
-use Rattle.std.specs.List.{AllByRecursion, list_any, dedup, dedup_from}
+use Rattle.std.specs.List.{AllByRecursion, list_any}
 use Rattle.std.specs.Option.{is_some}
 use Rattle.std.specs.List.Sorted.{IsStrictlySortedBy}
 use Rattle.std.specs.Map.{keys_of, lookup}
@@ -80,28 +80,3 @@ found_at f ps q those = found_among f ps q ∙ by_case (f q) refl
     by_case : (o : Option Aggregated) → f q ≡ o → (if list_any (is_pane q) ps then f q else None) ≡ f q
     by_case None e = ap (λ o. if list_any (is_pane q) ps then o else None) e ∙ either_none (list_any (is_pane q) ps) ∙ sym e
     by_case (Some a) e = ap (λ b. if b then f q else None) (sym (any_pane ps q) ∙ those (ap is_some e))
-
--- ---- panes each once
-
-twice : (a b : Bool) → (a || b) ≡ (a || (a || b))
-twice true b = refl
-twice false b = refl
-
--- what is left of panes where each that is alike the one before it goes has the panes that there were
-pub has_once : (E : Pane → Pane → Bool) → ((x y : Pane) → E x y ≡ is_pane x y) → (ps : List Pane) (q : Pane) → has_pane (dedup E ps) q ≡ has_pane ps q
-has_once E is [] q = refl
-has_once E is (p ∷ ps) q = from p ps
-  where
-    at : Pane → Bool
-    at p = is_eq (pane_cmp q p)
-
-    from : (p : Pane) (ps : List Pane) → has_pane (dedup_from E p ps) q ≡ (at p || has_pane ps q)
-    from p [] = refl
-    from p (x ∷ ps) = by_case (E x p) refl (from p ps) (from x ps)
-      where
-        by_case : (b : Bool) → E x p ≡ b → has_pane (dedup_from E p ps) q ≡ (at p || has_pane ps q) → has_pane (dedup_from E x ps) q ≡ (at x || has_pane ps q)
-            → has_pane (cond b (dedup_from E p ps) (p ∷ dedup_from E x ps)) q ≡ (at p || (at x || has_pane ps q))
-        by_case true same gone kept =
-            let one : x ≡ p = pane_from_test x p (sym (is x p) ∙ same) in
-            gone ∙ twice (at p) (has_pane ps q) ∙ ap (λ y. at p || (at y || has_pane ps q)) (sym one)
-        by_case false other gone kept = ap (λ b. at p || b) kept

@@ -147,28 +147,6 @@ found-push (e ∷ es) p q a h =
     let no = absent-next p e (acc_at es p) h in
     ap (cond (is_pane q e.0) (Some e.1)) (found-push es p q a no.1) ∙ either p e.0 q (Some a) (Some e.1) (acc_at es q) (flips e.0 p ∙ no.0)
 
--- no other pane sees it
-found-other : (es : List (Pane × AccData)) (p q : Pane) (a : AccData) → is_pane q p ≡ false → acc_at (es ++ (p, a) ∷ []) q ≡ acc_at es q
-found-other [] p q a h = ap (λ b. cond b (Some a) None) h
-found-other (e ∷ es) p q a h = ap (cond (is_pane q e.0) (Some e.1)) (found-other es p q a h)
-
-found-before : (es : List (Pane × AccData)) (e : Pane × AccData) (q : Pane) → is_some (acc_at es q) ≡ true → acc_at (es ++ e ∷ []) q ≡ acc_at es q
-found-before [] e q h = absurd (let clash : false ≡ true = h in cc)
-found-before (x ∷ es) e q h = by_case (is_pane q x.0) (λ some. found-before es e q some) h
-  where
-    by_case : (b : Bool) → (is_some (acc_at es q) ≡ true → acc_at (es ++ e ∷ []) q ≡ acc_at es q) → is_some (cond b (Some x.1) (acc_at es q)) ≡ true
-        → cond b (Some x.1) (acc_at (es ++ e ∷ []) q) ≡ cond b (Some x.1) (acc_at es q)
-    by_case true later some = refl
-    by_case false later some = later some
-
--- nor does it itself, where it has one
-pub found-again : (es : List (Pane × AccData)) (p q : Pane) (a : AccData) → is_some (acc_at es p) ≡ true → acc_at (es ++ (p, a) ∷ []) q ≡ acc_at es q
-found-again es p q a h = by_case (is_pane q p) refl
-  where
-    by_case : (b : Bool) → is_pane q p ≡ b → acc_at (es ++ (p, a) ∷ []) q ≡ acc_at es q
-    by_case true e = found-before es (p, a) q (subst (λ x. is_some (acc_at es x) ≡ true) (sym (pane_from_test q p e)) h)
-    by_case false e = found-other es p q a e
-
 -- ---- the places of a state
 
 pub mul_room : (i n w : ℕ) → i < n → i * w + w ≤ n * w

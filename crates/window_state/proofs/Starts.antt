@@ -196,11 +196,13 @@ has_both (p ∷ ps) more q = ap (λ t. is_eq (pane_cmp q p) || t) (has_both ps m
 -- ---- the panes of windows that fire
 
 -- where the next start passes a test, its panes come behind those so far
-pub next_taken : (d : ℤ → Bool) (so_far now : List Pane) (e : ℤ × Vec ℤ) (left rest : List (ℤ × Vec ℤ)) (q : Pane) → now ≡ so_far ++ panes_from e.0 e.1.items → left ≡ e ∷ rest
+pub next_taken : (d : ℤ → Bool) (so_far now : List Pane) (e : ℤ × Vec ℤ) (ks : List ℤ) (left rest : List (ℤ × Vec ℤ)) (q : Pane) → now ≡ so_far ++ panes_from e.0 ks
+    → ((k : ℤ) → has_key k ks ≡ has_key k e.1.items) → left ≡ e ∷ rest
     → d e.0 ≡ true → (has_pane now q || (d q.start && has_open rest q)) ≡ (has_pane so_far q || (d q.start && has_open left q))
-next_taken d so_far now e left rest q is steps passes =
+next_taken d so_far now e ks left rest q is same steps passes =
     ap (λ l. has_pane l q || (d q.start && has_open rest q)) is
-    ∙ ap (λ b. b || (d q.start && has_open rest q)) (has_both so_far (panes_from e.0 e.1.items) q ∙ ap (λ b. has_pane so_far q || b) (panes_of_start e.0 e.1.items q))
+    ∙ ap (λ b. b || (d q.start && has_open rest q))
+    (has_both so_far (panes_from e.0 ks) q ∙ ap (λ b. has_pane so_far q || b) (panes_of_start e.0 ks q ∙ ap (λ b. int_eq q.start e.0 && b) (same q.key)))
     ∙ inside (has_pane so_far q) (int_eq q.start e.0) (has_key q.key e.1.items) (d q.start) (has_open rest q) (λ here. ap d (sym (same_start q.start e.0 here)) ∙ passes)
     ∙ ap (λ l. has_pane so_far q || (d q.start && has_open l q)) (sym steps)
   where

@@ -1,9 +1,9 @@
 //! The panes of open windows, by the start of their window.
 
-ghost use Rattle.std.specs.Prelude.{◌≡◌, not, pos, int_lt, ◌-ℤ◌, ◌++◌, ◌&&◌, ◌||◌, ◌↔◌, ◌<◌, length, true, false, IfOk, IfSome, IfNone, OnOk, OnErr, if◌then◌else◌};
+ghost use Rattle.std.specs.Prelude.{◌≡◌, ℤ, List, not, pos, int_lt, ◌-ℤ◌, ◌++◌, ◌&&◌, ◌||◌, ◌↔◌, ◌<◌, length, true, false, IfOk, IfSome, IfNone, OnOk, OnErr, if◌then◌else◌};
 ghost use Rattle.std.specs.List.{All};
 ghost use Rattle.std.specs.List.Sorted.{IsStrictlySortedBy};
-ghost use Rattle.std.specs.Ordering.{int_eq};
+ghost use Rattle.std.specs.Ordering.{int_cmp, int_eq};
 ghost use Rattle.plan_model.specs.declared.spec.Pane.{Pane as PaneValue};
 ghost use Rattle.std.specs.Int.{int_rem_euclid};
 ghost use Rattle.plan_model.specs.PlanData.{IsWindow};
@@ -91,23 +91,25 @@ pub(crate) fn open_new(
     Ok(())
 }
 
-/// Puts the panes of a start behind others.
-fn push_panes(panes: &mut Vec<Pane>, start: i64, keys: &[i64]) -> Result<(), AllocError>
-    ensures { OnOk result (panes.new.items ≡ panes.old.items ++ panes_from start keys.now) }
+/// Puts the panes of a start behind others, in the order of their keys, each once. `sorted` is where keys are put in
+/// order.
+fn push_panes(
+    panes: &mut Vec<Pane>,
+    start: i64,
+    keys: &[i64],
+    sorted: &mut Vec<i64>,
+) -> Result<(), AllocError>
+    ensures { OnOk result ((those : List ℤ) × IsStrictlySortedBy int_cmp those × ((k : ℤ) → has_key k those ≡ has_key k keys.now)
+        × (panes.new.items ≡ panes.old.items ++ panes_from start those)) }
 {
-    for key in keys {
+    sorted.clear();
+    sorted.extend_from_slice(keys)?;
+    sorted.sort_unstable();
+    sorted.dedup();
+    for key in sorted.as_slice() {
         panes.push(Pane { start, key: *key })?;
     }
     Ok(())
-}
-
-/// Puts panes in order, each once.
-fn sort_panes(panes: &mut Vec<Pane>)
-    ensures ordered { IsStrictlySortedBy pane_cmp panes.new.items }
-    ensures those { (q : PaneValue) → has_pane panes.new.items q ≡ has_pane panes.old.items q }
-{
-    panes.sort_unstable();
-    panes.dedup();
 }
 
 /// The panes whose windows fire by the watermark, in order.
@@ -121,13 +123,13 @@ pub(crate) fn due_panes(
     ensures those { IfOk result (λ panes. (q : PaneValue) → has_pane panes.items q ≡ (due w.now watermark q.start && has_open opened.now.entries q)) }
 {
     let mut panes = Vec::new(alloc);
+    let mut sorted = Vec::new(alloc);
     for (start, keys) in opened {
         if !is_due(w, watermark, *start) {
             break;
         }
-        push_panes(&mut panes, *start, keys.as_slice())?;
+        push_panes(&mut panes, *start, keys.as_slice(), &mut sorted)?;
     }
-    sort_panes(&mut panes);
     Ok(panes)
 }
 
@@ -141,12 +143,12 @@ pub(crate) fn later_panes(
     ensures those { IfOk result (λ panes. (q : PaneValue) → has_pane panes.items q ≡ (not (int_lt q.start from) && has_open opened.now.entries q)) }
 {
     let mut panes = Vec::new(alloc);
+    let mut sorted = Vec::new(alloc);
     for (start, keys) in opened {
         if from <= *start as i128 {
-            push_panes(&mut panes, *start, keys.as_slice())?;
+            push_panes(&mut panes, *start, keys.as_slice(), &mut sorted)?;
         }
     }
-    sort_panes(&mut panes);
     Ok(panes)
 }
 

@@ -1,9 +1,9 @@
 //! The places of panes.
 
-ghost use Rattle.std.specs.Prelude.{◌≡◌, true, false, pos, ◌++◌, ◌∷◌, [], ◌^◌, ◌<◌, ◌≤◌, ◌*◌, ◌&&◌, length, map, replicate, slice_index_or, IfOk, IfSome, OnOk, OnErr, Some, None, is_some, if◌then◌else◌};
+ghost use Rattle.std.specs.Prelude.{◌≡◌, true, false, pos, ◌++◌, ◌∷◌, [], ◌^◌, ◌<◌, ◌≤◌, ◌*◌, ◌&&◌, length, map, replicate, slice_index_or, IfOk, IfSome, IfNone, not, OnOk, OnErr, Some, None, is_some, if◌then◌else◌};
 ghost use Rattle.std.specs.List.{All, IsDistinct, list_any};
 ghost use Rattle.std.specs.List.Sorted.{IsStrictlySortedBy};
-ghost use Rattle.std.specs.Option.{option_map};
+ghost use Rattle.std.specs.Option.{option_map, option_or};
 ghost use Rattle.std.specs.Ordering.{int_eq};
 ghost use Rattle.plan_model.specs.declared.spec.Pane.{Pane as PaneValue};
 ghost use Rattle.plan_model.specs.Aggregates.{aggregate_of, merge};
@@ -20,7 +20,9 @@ use columns::Batch;
 use indexmap::IndexSet;
 use packed_parts::Packing;
 use pane_hashes::HashKeys;
-use place_words::{add_record, copy_numbers, row_numbers_at, stride_of, write_entry, write_first};
+use place_words::{
+    add_record, copy_narrow, copy_numbers, row_numbers_at, stride_of, write_entry, write_first,
+};
 use plan_model::{MOST_AGGREGATES, Numbers, Pane, WindowSpec};
 use savepoint_codec::{Entry, Numbers as EntryNumbers};
 use std::alloc::{AllocError, Global};
@@ -108,13 +110,6 @@ impl Places {
         self.panes.capacity()
     }
 
-    /// Whether a pane has a place.
-    pub fn contains(&self, pane: &Pane) -> bool
-        ensures { result ≡ is_some (acc_at self.now.entries pane.now) }
-    {
-        self.panes.contains(pane)
-    }
-
     /// The number of each aggregate in a pane, if it has a place.
     pub fn numbers(&self, alloc: Global, pane: &Pane) -> Result<Option<Numbers>, AllocError>
         ensures numbers { IfOk result (λ found. found ≡ option_map (λ (a : AccData). a.total.numbers) (acc_at self.now.entries pane.now)) }
@@ -151,6 +146,7 @@ impl Places {
         requires place { IsPlaceIn self.now.entries placed }
         ensures pushed { OnOk result ((a : AccData) → acc_at self.now.entries placed.pane ≡ Some a
             → parts.new ≡ record parts.old { parts = parts.old.parts ++ record { pane = placed.pane; acc = a } ∷ [] }) }
+        ensures err { OnErr result (parts.new ≡ parts.old) }
         ensures there { is_some (acc_at self.now.entries placed.pane) ≡ true }
         ensures sound { (a : AccData) → acc_at self.now.entries placed.pane ≡ Some a → IsPartOf self.now.window (record { pane = placed.pane; acc = a }) }
     {
@@ -159,7 +155,32 @@ impl Places {
         let aggregates = self.window.aggregates.as_slice();
         let mut room = [0; MOST_AGGREGATES];
         let numbers = &mut room[..aggregates.len()];
-        copy_numbers(self.words.as_slice(), at + 1, aggregates, count, numbers);
+        if copy_narrow(self.words.as_slice(), at + 1, aggregates, count, numbers) {
+            return parts.push_entry(Entry {
+                pane: placed.pane,
+                count,
+                numbers: EntryNumbers::Narrow(numbers),
+            });
+        }
+        self.push_wide(parts, placed)
+    }
+
+    /// The same of numbers of which one does not fit in 64 bits, or of any.
+    fn push_wide(&self, parts: &mut Packing, placed: Placed) -> Result<(), AllocError>
+        requires kinds { parts.old.kinds ≡ map kind_of self.now.window.aggregates }
+        requires place { IsPlaceIn self.now.entries placed }
+        ensures pushed { OnOk result ((a : AccData) → acc_at self.now.entries placed.pane ≡ Some a
+            → parts.new ≡ record parts.old { parts = parts.old.parts ++ record { pane = placed.pane; acc = a } ∷ [] }) }
+        ensures err { OnErr result (parts.new ≡ parts.old) }
+        ensures there { is_some (acc_at self.now.entries placed.pane) ≡ true }
+        ensures sound { (a : AccData) → acc_at self.now.entries placed.pane ≡ Some a → IsPartOf self.now.window (record { pane = placed.pane; acc = a }) }
+    {
+        let first = placed.place * self.stride;
+        let count = self.words[first] as u64;
+        let aggregates = self.window.aggregates.as_slice();
+        let mut room = [0; MOST_AGGREGATES];
+        let numbers = &mut room[..aggregates.len()];
+        copy_numbers(self.words.as_slice(), first + 1, aggregates, count, numbers);
         parts.push_entry(Entry {
             pane: placed.pane,
             count,
@@ -207,23 +228,21 @@ impl Places {
         Ok(())
     }
 
-    /// Gives the pane of an entry a place, and puts there what the entry says.
-    pub fn push_entry(&mut self, entry: Entry<'_>) -> Result<(), AllocError>
+    /// Gives the pane of an entry a place, and puts there what the entry says. Where it has one, all stays as it is.
+    pub fn put_entry(&mut self, entry: Entry<'_>) -> Result<(), AllocError>
         requires start { IsStart entry.pane.start }
         requires sound { IsAcc (part_of (map kind_of self.old.window.aggregates) (entry_data entry)).acc }
-        requires absent { acc_at self.old.entries entry.pane ≡ None }
         ensures window_stays { self.new.window ≡ self.old.window }
         ensures put { OnOk result ((q : PaneValue) → acc_at self.new.entries q
-            ≡ (if is_pane entry.entry.pane q then Some (part_of (map kind_of self.old.window.aggregates) (entry_data entry.entry)).acc else acc_at self.old.entries q)) }
+            ≡ option_or (acc_at self.old.entries q) (if is_pane entry.entry.pane q then Some (part_of (map kind_of self.old.window.aggregates) (entry_data entry.entry)).acc else None)) }
         ensures err { OnErr result (self.new ≡ self.old) }
     {
-        let at = push_place(&mut self.panes, &mut self.words, self.stride, entry.pane)?;
+        let Some(at) = new_place(&mut self.panes, &mut self.words, self.stride, entry.pane)? else {
+            return Ok(());
+        };
         let aggregates = self.window.aggregates.as_slice();
-        let mut room = [0; MOST_AGGREGATES];
-        let numbers = &mut room[..aggregates.len()];
-        entry.numbers.copy_to(numbers);
         let words = self.words.as_mut_slice();
-        write_entry(words, at, aggregates, entry.count, numbers);
+        write_entry(words, at, aggregates, entry.count, entry.numbers);
         Ok(())
     }
 
@@ -283,5 +302,36 @@ fn push_place(
             words.truncate(at);
             Err(AllocError)
         }
+    }
+}
+
+/// The same, where it has no place yet. Where it has one nothing changes.
+fn new_place(
+    panes: &mut IndexSet<Pane, HashKeys>,
+    words: &mut Vec<i64>,
+    stride: usize,
+    pane: Pane,
+) -> Result<Option<usize>, AllocError>
+    requires small { stride ≤ 17 }
+    ensures absent { IfOk result (λ new. is_some new ≡ not (list_any (is_pane pane) panes.old.keys)) }
+    ensures at { IfOk result (λ new. IfSome new (λ at. at ≡ length words.old.items)) }
+    ensures panes { IfOk result (λ new. IfSome new (λ at. panes.new.keys ≡ panes.old.keys ++ pane ∷ [])) }
+    ensures unique { IfOk result (λ new. IsDistinct is_pane panes.new.keys) }
+    ensures words { IfOk result (λ new. IfSome new (λ at. words.new.items ≡ words.old.items ++ replicate stride (pos 0))) }
+    ensures panes_stay { IfOk result (λ new. IfNone new (panes.new.keys ≡ panes.old.keys)) }
+    ensures words_stay { IfOk result (λ new. IfNone new (words.new.items ≡ words.old.items)) }
+    ensures panes_err { OnErr result (panes.new.keys ≡ panes.old.keys) }
+    ensures words_err { OnErr result (words.new.items ≡ words.old.items) }
+{
+    let end = words.as_slice().len();
+    words.resize(end + stride, 0)?;
+    let is_new = panes.insert(pane);
+    if !matches!(is_new, Ok(true)) {
+        words.truncate(end);
+    }
+    match is_new {
+        Ok(true) => Ok(Some(end)),
+        Ok(false) => Ok(None),
+        Err(_) => Err(AllocError),
     }
 }

@@ -271,10 +271,7 @@ fn places_of(
 {
     let mut places = Places::with_capacity(alloc, keys, window, parts.len())?;
     for i in 0..parts.len() {
-        let entry = parts.entry(i);
-        if !places.contains(&entry.pane) {
-            places.push_entry(entry)?;
-        }
+        places.put_entry(parts.entry(i))?;
     }
     Ok(places)
 }

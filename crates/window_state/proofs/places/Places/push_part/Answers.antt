@@ -1,16 +1,14 @@
-use Rattle.std.proofs.Common.{◌≡◌, ℕ, ℤ, ◌∙◌, ◌+◌, ◌*◌, ◌^◌, ◌<◌, ◌≤◌, ◌++◌, ◌∷◌, [], List, T, length, map, Some, pos, sym, ap, subst, arith, rules, nat_abs, Fits, FitsSigned, to_z, of_z}
+use Rattle.std.proofs.Common.{◌≡◌, ◌∙◌, ◌+◌, ◌*◌, ◌^◌, ◌<◌, ◌≤◌, ◌++◌, ◌∷◌, [], T, length, map, Some, pos, sym, ap, subst, arith, rules, nat_abs, Fits, FitsSigned, to_z, of_z}
 use lib.Signed.{non_neg}
 use Rattle.std.specs.Int.{w64}
 use Rattle.std.proofs.lemmas.List.{get_or_default}
 use Rattle.std.specs.Option.{is_some}
 use Rattle.std.proofs.lemmas.Int.{ints}
-use Rattle.aggregates.specs.declared.kind.Kind.{Kind}
 use Rattle.aggregates.specs.Kinds.{AccData, IsAcc, kind_of}
-use Rattle.place_words.specs.Words.{width, word, count_of, numbers_at, acc_in}
-use Rattle.window_state.specs.declared.places.Places.TheInside.{Inside}
+use Rattle.place_words.specs.Words.{width, word, numbers_at, acc_in}
 use Rattle.window_state.specs.Windows.{acc_at}
 use Rattle.window_state.specs.Places.{PlacesData}
-use Rattle.window_state.proofs.Placed.{kinds_of, cast_fits, cast_is, on_ok}
+use Rattle.window_state.proofs.Placed.{kinds_of, cast_fits, on_ok, read_acc}
 use Rattle.window_state.proofs.InOrder.{stands_in}
 use Rattle.window_state.proofs.places.Places.push_part.Goals as goal
 
@@ -44,22 +42,13 @@ overflow_add-at c =
     let few : length s.words.items < 2 ^ 63 = search rules in
     grind (arith, ints, st.room, few)
 
-pub copy_numbers-requires-clause-words : goal.copy_numbers-requires-clause-words
-copy_numbers-requires-clause-words c =
+pub copy_narrow-requires-clause-words : goal.copy_narrow-requires-clause-words
+copy_narrow-requires-clause-words c =
     let s = c.self.inside in
     let st = stands_in s c.args.self.now c.args.placed c.self.invariant c.self.view_is c.requires.place in
     let room : c.args.placed.place * s.stride + 1 + width (kinds_of s.window) ≤ length s.words.items = omega (arith, st.room) in
     subst (λ l. c.args.placed.place * s.stride + 1 + width (map kind_of l) ≤ length c.as_slice.result.now) (sym c.as_slice-aggregates.ensures)
     (subst (λ l. c.args.placed.place * s.stride + 1 + width (kinds_of s.window) ≤ length l) (sym c.as_slice.ensures.value) room)
-
--- what is read is what stands in the place
-read_acc : (s : Inside) (at : ℕ) (z : ℤ) (kinds : List Kind) (numbers : List ℤ) → kinds ≡ kinds_of s.window → z ≡ word s.words.items at → FitsSigned w64 z → 1 ≤ count_of (word s.words.items at)
-    → numbers ≡ numbers_at (nat_abs (to_z w64 (of_z w64 z))) (kinds_of s.window) s.words.items (at + 1)
-    → acc_in (kinds_of s.window) s.words.items at ≡ record { kinds = kinds; total = record { count = nat_abs (to_z w64 (of_z w64 z)); numbers = numbers } }
-read_acc s at z kinds numbers same here fits counted all =
-    let count : nat_abs (to_z w64 (of_z w64 z)) ≡ count_of (word s.words.items at) =
-    ap (λ y. nat_abs (to_z w64 (of_z w64 y))) here ∙ cast_is (word s.words.items at) (subst (FitsSigned w64) here fits) counted in
-    sym (λ t. record { kinds = same t; total = record { count = count t; numbers = (all ∙ ap (λ n. numbers_at n (kinds_of s.window) s.words.items (at + 1)) count) t } })
 
 pub push_entry-requires : goal.push_entry-requires
 push_entry-requires c =
@@ -70,11 +59,11 @@ push_entry-requires c =
     let read : FitsSigned w64 c.index.result.now = search rules in
     let sound = c.self.invariant.sound c.args.placed.pane (acc_in (kinds_of s.window) s.words.items at) st.here in
     let kinds = c.requires.kinds ∙ ap (λ (v : PlacesData). kinds_of v.window) (sym c.self.view_is) in
-    let all = c.copy_numbers.ensures ∙ (λ t. numbers_at (nat_abs (to_z w64 (of_z w64 c.index.result.now))) (map kind_of (c.as_slice-aggregates.ensures t)) (c.as_slice.ensures.value t) (at + 1)) in
+    let all = c.copy_narrow.ensures c.if-copy_narrow.true ∙ (λ t. numbers_at (nat_abs (to_z w64 (of_z w64 c.index.result.now))) (map kind_of (c.as_slice-aggregates.ensures t)) (c.as_slice.ensures.value t) (at + 1)) in
     subst IsAcc (read_acc s at c.index.result.now _ _ kinds here read sound.counted all) sound
 
-pub returns-clause-pushed : goal.returns-clause-pushed
-returns-clause-pushed c =
+pub returns-then-copy_narrow-clause-pushed : goal.returns-then-copy_narrow-clause-pushed
+returns-then-copy_narrow-clause-pushed c =
     let s = c.self.inside in
     let p = c.args.placed.pane in
     let at = c.args.placed.place * s.stride in
@@ -83,7 +72,7 @@ returns-clause-pushed c =
     let read : FitsSigned w64 c.index.result.now = search rules in
     let sound = c.self.invariant.sound p (acc_in (kinds_of s.window) s.words.items at) st.here in
     let kinds = c.requires.kinds ∙ ap (λ (v : PlacesData). kinds_of v.window) (sym c.self.view_is) in
-    let all = c.copy_numbers.ensures ∙ (λ t. numbers_at (nat_abs (to_z w64 (of_z w64 c.index.result.now))) (map kind_of (c.as_slice-aggregates.ensures t)) (c.as_slice.ensures.value t) (at + 1)) in
+    let all = c.copy_narrow.ensures c.if-copy_narrow.true ∙ (λ t. numbers_at (nat_abs (to_z w64 (of_z w64 c.index.result.now))) (map kind_of (c.as_slice-aggregates.ensures t)) (c.as_slice.ensures.value t) (at + 1)) in
     let is = read_acc s at c.index.result.now _ _ kinds here read sound.counted all in
     on_ok c.push_entry.result (λ ok a there. ok ∙ (λ t. record {
       kinds = c.args.parts.now.kinds;
@@ -93,14 +82,14 @@ returns-clause-pushed c =
     one : {x y : AccData} → Some x ≡ Some y → x ≡ y
     one h = cc
 
-pub returns-clause-there : goal.returns-clause-there
-returns-clause-there c =
+pub returns-then-copy_narrow-clause-there : goal.returns-then-copy_narrow-clause-there
+returns-then-copy_narrow-clause-there c =
     let s = c.self.inside in
     let st = stands_in s c.args.self.now c.args.placed c.self.invariant c.self.view_is c.requires.place in
     ap (λ (v : PlacesData). is_some (acc_at v.entries c.args.placed.pane)) (sym c.self.view_is) ∙ ap is_some st.here
 
-pub returns-clause-sound : goal.returns-clause-sound
-returns-clause-sound c a there =
+pub returns-then-copy_narrow-clause-sound : goal.returns-then-copy_narrow-clause-sound
+returns-then-copy_narrow-clause-sound c a there =
     let s = c.self.inside in
     let window = ap (λ (v : PlacesData). v.window) c.self.view_is in
     let here = ap (λ (v : PlacesData). acc_at v.entries c.args.placed.pane) c.self.view_is ∙ there in record {
