@@ -1,7 +1,7 @@
 //! The words of the command line.
 
 ghost use Rattle.std.specs.Prelude.{◌≡◌, IfOk};
-ghost use Rattle.clap.specs.Words.{app_of, new_rule};
+ghost use Rattle.clap.specs.Words.{App, Shape, app_of, new_rule, with_subcommand};
 ghost use Rattle.clap.specs.Simple.{new_shape};
 ghost use Rattle.command_line.specs.Words.{AddsRule, IsCommand};
 ghost use Rattle.command_line.specs.Words as shapes;
@@ -641,45 +641,53 @@ fn program_words<'a>(alloc: Global) -> Command<'a>
     named(alloc, "streamjob", about, PROGRAM).subcommand_required(true)
 }
 
-/// The program's words with the commands that run a job.
+/// A command with another below it, where both could be made.
+// Here alone is a command dropped where the other could not be made: to check that takes long, where several stand.
+fn with<'a>(
+    command: Result<Command<'a>, AllocError>,
+    below: Result<Command<'a>, AllocError>,
+) -> Result<Command<'a>, AllocError>
+    ensures { (app : App) (shape : Shape) → IfOk command.entry (λ c. app_of c ≡ app) → IfOk below.entry (λ c. IsCommand shape c)
+        → IfOk result (λ c. app_of c ≡ with_subcommand app shape) }
+{
+    command?.subcommand(below?)
+}
+
+/// The program with the commands that run a job.
 fn with_jobs<'a>(alloc: Global) -> Result<Command<'a>, AllocError>
     ensures { IfOk result (λ c. app_of c ≡ shapes.jobs) }
 {
-    program_words(alloc)
-        .subcommand(run_words(alloc)?)?
-        .subcommand(simulate_words(alloc)?)?
-        .subcommand(leg_words(alloc)?)
+    let command = with(Ok(program_words(alloc)), run_words(alloc));
+    let command = with(command, simulate_words(alloc));
+    with(command, leg_words(alloc))
 }
 
 /// The same with the commands on plans and inputs.
 fn with_texts<'a>(alloc: Global) -> Result<Command<'a>, AllocError>
     ensures { IfOk result (λ c. app_of c ≡ shapes.texts) }
 {
-    with_jobs(alloc)?
-        .subcommand(import_words(alloc)?)?
-        .subcommand(split_words(alloc)?)?
-        .subcommand(cuts_words(alloc)?)?
-        .subcommand(layout_words(alloc)?)?
-        .subcommand(check_words(alloc)?)
+    let command = with(with_jobs(alloc), import_words(alloc));
+    let command = with(command, split_words(alloc));
+    let command = with(command, cuts_words(alloc));
+    let command = with(command, layout_words(alloc));
+    with(command, check_words(alloc))
 }
 
 /// The same with the commands on texts of rows.
 fn with_tables<'a>(alloc: Global) -> Result<Command<'a>, AllocError>
     ensures { IfOk result (λ c. app_of c ≡ shapes.tables) }
 {
-    with_texts(alloc)?
-        .subcommand(export_words(alloc)?)?
-        .subcommand(diff_words(alloc)?)?
-        .subcommand(rows_words(alloc)?)
+    let command = with(with_texts(alloc), export_words(alloc));
+    let command = with(command, diff_words(alloc));
+    with(command, rows_words(alloc))
 }
 
 /// The same with those that show a savepoint and a key's group.
 fn with_views<'a>(alloc: Global) -> Result<Command<'a>, AllocError>
     ensures { IfOk result (λ c. app_of c ≡ shapes.views) }
 {
-    with_tables(alloc)?
-        .subcommand(show_words(alloc)?)?
-        .subcommand(group_words(alloc)?)
+    let command = with(with_tables(alloc), show_words(alloc));
+    with(command, group_words(alloc))
 }
 
 /// The command and its subcommands.

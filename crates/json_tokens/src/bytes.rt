@@ -4,7 +4,7 @@ ghost use Rattle.std.specs.List.{prefix_len};
 ghost use Rattle.json.specs.Word.{head, is_space};
 ghost use Rattle.json.specs.Lex.{between, lex};
 ghost use Rattle.json.specs.Run.{is_plain};
-ghost use Rattle.json_tokens.specs.Lexemes.{ends_number, BeginsDigits, BeginsName};
+ghost use Rattle.json_tokens.specs.Lexemes.{ends_number, mark, BeginsDigits, BeginsName};
 
 use core::dec2flt::read_digits;
 use digit_words::few_digits;
@@ -95,6 +95,24 @@ pub fn short_digits(text: &[u8]) -> Option<(u64, &[u8])>
         return None;
     }
     Some((value, &text[count..]))
+}
+
+/// The same of digits with a comma right behind them, or the bracket that closes a list, whether it is that, and what
+/// follows it.
+#[inline(always)]
+pub fn short_item(text: &[u8]) -> Option<(u64, bool, &[u8])>
+    ensures { IfSome result (λ found. BeginsDigits text.now found.0 (mark found.1 ∷ found.2.now)) }
+{
+    let (count, value) = few_digits(text)?;
+    let is_last = match text[count] {
+        b',' => false,
+        b']' => true,
+        _ => return None,
+    };
+    if count == 0 || (text[0] == b'0' && count != 1) {
+        return None;
+    }
+    Some((value, is_last, &text[count + 1..]))
 }
 
 /// How many bytes come before the first that ends the text of a string, or begins an escape in it.

@@ -3,9 +3,9 @@ ghost use Rattle.std.specs.Prelude.{FitsSigned, ◌≡◌, ◌<◌, ◌≤◌, �
 ghost use Rattle.std.specs.Int.{w64};
 ghost use Rattle.serde_json.specs.Data.{unsigned as positive};
 ghost use Rattle.serde_json.specs.Find.{as_i64};
-ghost use Rattle.json_tokens.specs.Lexemes.{BeginsWhole};
+ghost use Rattle.json_tokens.specs.Lexemes.{BeginsItem, BeginsWhole};
 
-use crate::bytes::{behind, behind_spaces, digits, short_digits};
+use crate::bytes::{behind, behind_mark, behind_spaces, digits, short_digits, short_item};
 
 #[inline(always)]
 fn small(n: u64) -> Option<i64>
@@ -33,7 +33,8 @@ fn negated(size: u64) -> Option<i64>
 }
 
 /// The whole number of 64 bits that comes first in a text, with or without a sign, and what follows it.
-#[inline(always)]
+// In line it took registers from the numbers with few digits.
+#[inline(never)]
 fn signed_at(text: &[u8]) -> Option<(i64, &[u8])>
     ensures said { IfSome result (λ found. BeginsWhole text.now found.0 found.1.now) }
     ensures fits { IfSome result (λ found. FitsSigned w64 found.0) }
@@ -48,8 +49,20 @@ fn signed_at(text: &[u8]) -> Option<(i64, &[u8])>
     Some((number, rest))
 }
 
-/// The whole number of 64 bits that comes first in a text or behind white space, and what follows it. Most have no
-/// sign and few digits.
+/// The same of a number below zero whose digits are found at once, if it is one.
+#[inline(always)]
+fn short_below_zero(text: &[u8]) -> Option<(i64, &[u8])>
+    ensures said { IfSome result (λ found. BeginsWhole text.now found.0 found.1.now) }
+    ensures fits { IfSome result (λ found. FitsSigned w64 found.0) }
+{
+    let unsigned = behind(text, b'-')?;
+    let (size, rest) = short_digits(unsigned)?;
+    let number = negated(size)?;
+    Some((number, rest))
+}
+
+/// The whole number of 64 bits that comes first in a text or behind white space, and what follows it. Most have few
+/// digits.
 #[inline(always)]
 pub fn whole_at(text: &[u8]) -> Option<(i64, &[u8])>
     ensures said { IfSome result (λ found. BeginsWhole text.now found.0 found.1.now) }
@@ -59,5 +72,70 @@ pub fn whole_at(text: &[u8]) -> Option<(i64, &[u8])>
         let number = small(size)?;
         return Some((number, rest));
     }
+    if let Some(found) = short_below_zero(text) {
+        return Some(found);
+    }
     signed_at(behind_spaces(text))
+}
+
+/// A whole number of a list, whether it is the last, and what follows the mark behind it.
+#[derive(Clone, Copy)]
+pub struct Item<'a> {
+    pub number: i64,
+    pub is_last: bool,
+    pub rest: &'a [u8],
+}
+
+/// The item that comes first, where its digits are found at once and a mark stands right behind them.
+#[inline(always)]
+pub fn short_item_at(text: &[u8]) -> Option<Item<'_>>
+    ensures said { IfSome result (BeginsItem text.now) }
+    ensures fits { IfSome result (λ item. FitsSigned w64 item.number) }
+{
+    let (size, is_last, rest) = short_item(text)?;
+    let number = small(size)?;
+    Some(Item {
+        number,
+        is_last,
+        rest,
+    })
+}
+
+/// The same of a number below zero.
+#[inline(always)]
+pub fn short_item_below_zero(text: &[u8]) -> Option<Item<'_>>
+    ensures said { IfSome result (BeginsItem text.now) }
+    ensures fits { IfSome result (λ item. FitsSigned w64 item.number) }
+{
+    let unsigned = behind(text, b'-')?;
+    let (size, is_last, rest) = short_item(unsigned)?;
+    let number = negated(size)?;
+    Some(Item {
+        number,
+        is_last,
+        rest,
+    })
+}
+
+/// The same of any.
+// In line it took registers from the numbers with few digits.
+#[inline(never)]
+pub fn other_item_at(text: &[u8]) -> Option<Item<'_>>
+    ensures said { IfSome result (BeginsItem text.now) }
+    ensures fits { IfSome result (λ item. FitsSigned w64 item.number) }
+{
+    let (number, behind) = signed_at(behind_spaces(text))?;
+    if let Some(rest) = behind_mark(behind, b',') {
+        return Some(Item {
+            number,
+            is_last: false,
+            rest,
+        });
+    }
+    let rest = behind_mark(behind, b']')?;
+    Some(Item {
+        number,
+        is_last: true,
+        rest,
+    })
 }

@@ -9,7 +9,7 @@ ghost use Rattle.json_tokens.specs.Rows.{row_text, joined};
 
 use crate::bytes::behind_mark;
 use crate::miss::Miss;
-use crate::numbers::whole_at;
+use crate::numbers::{other_item_at, short_item_at, short_item_below_zero};
 use crate::scanner::Scanner;
 
 /// Reads one number or more up to the closing bracket, puts them behind what `cells` holds, which is to
@@ -27,22 +27,25 @@ fn cells_at<'a>(
     ensures fewer { IfOk result (λ rest. length (lex between rest.now) < length (lex between text.now)) }
     ensures within { OnOk result (length cells.new.items ≤ most) }
 {
-    let mut item = text;
+    let mut left = text;
     'cells: loop {
-        let Some((cell, rest)) = whole_at(item) else {
+        let item = if let Some(item) = short_item_at(left) {
+            item
+        } else if let Some(item) = short_item_below_zero(left) {
+            item
+        } else if let Some(item) = other_item_at(left) {
+            item
+        } else {
             return Err(Miss::Other);
         };
         if most <= cells.len() {
             return Err(Miss::Other);
         }
-        cells.push(cell)?;
-        let Some(next) = behind_mark(rest, b',') else {
-            let Some(over) = behind_mark(rest, b']') else {
-                return Err(Miss::Other);
-            };
-            return Ok(over);
-        };
-        item = next;
+        cells.push(item.number)?;
+        if item.is_last {
+            return Ok(item.rest);
+        }
+        left = item.rest;
     }
 }
 

@@ -2,7 +2,7 @@
 //! `count` none, since it is the place's.
 
 ghost use Rattle.std.specs.Prelude.{◌≡◌, true, ℕ, ◌+ℤ◌, ◌+◌, ◌-◌, ◌*◌, ◌^◌, ◌<◌, ◌≤◌, [], map, length, slice_index_or, unsigned_abs, IfOk};
-ghost use Rattle.std.specs.List.{All};
+ghost use Rattle.std.specs.List.{All, list_all};
 ghost use Rattle.byte_fields.specs.Fields as fields;
 ghost use Rattle.plan_model.specs.PlanData.{has_column};
 ghost use Rattle.plan_model.specs.Aggregates.{number_of};
@@ -103,7 +103,8 @@ pub fn copy_narrow(
 ) -> bool
     requires words { at + width (map kind_of aggregates.now) ≤ length words.now }
     requires room { length numbers.old ≡ length aggregates.now }
-    ensures { result ≡ true → numbers.new ≡ words_of.numbers_at count (map kind_of aggregates.now) words.now at }
+    ensures fits { result ≡ list_all fields.is_i64 (words_of.numbers_at count (map kind_of aggregates.now) words.now at) }
+    ensures copied { result ≡ true → numbers.new ≡ words_of.numbers_at count (map kind_of aggregates.now) words.now at }
 {
     let mut at = at;
     for (i, aggregate) in aggregates.iter().enumerate() {
@@ -136,18 +137,28 @@ pub fn row_numbers_at(
     Ok(numbers)
 }
 
-/// Writes the number of an aggregate.
-fn write_number(words: &mut [i64], at: usize, aggregate: Aggregate, number: i128)
+/// Writes the number of an aggregate, and says how many words it has.
+fn write_number(words: &mut [i64], at: usize, aggregate: Aggregate, number: i128) -> usize
     requires room { at + words_of.width_of (kind_of aggregate) ≤ length words.old }
     requires fit { (n : ℕ) × (n ≤ 2 ^ 41) × (is_number n (kind_of aggregate) number ≡ true) }
+    ensures width { result ≡ words_of.width_of (kind_of aggregate) }
     ensures written { (n : ℕ) → is_number n (kind_of aggregate) number ≡ true → words_of.number_at n (kind_of aggregate) words.new at ≡ number }
     ensures others { IsWritten at (at + words_of.width_of (kind_of aggregate)) words.old words.new }
 {
     match aggregate {
-        Aggregate::Count => {}
-        Aggregate::Sum(_) => write_sum(words, at, number),
-        Aggregate::Least(_) => words[at] = number as i64,
-        Aggregate::Greatest(_) => words[at] = number as i64,
+        Aggregate::Count => 0,
+        Aggregate::Sum(_) => {
+            write_sum(words, at, number);
+            2
+        }
+        Aggregate::Least(_) => {
+            words[at] = number as i64;
+            1
+        }
+        Aggregate::Greatest(_) => {
+            words[at] = number as i64;
+            1
+        }
     }
 }
 
@@ -161,8 +172,7 @@ fn write_numbers(words: &mut [i64], at: usize, aggregates: &[Aggregate], numbers
 {
     let mut at = at;
     for (i, aggregate) in aggregates.iter().enumerate() {
-        write_number(words, at, *aggregate, numbers[i]);
-        at += width_of(*aggregate);
+        at += write_number(words, at, *aggregate, numbers[i]);
     }
 }
 
@@ -176,8 +186,7 @@ fn write_narrow_numbers(words: &mut [i64], at: usize, aggregates: &[Aggregate], 
 {
     let mut at = at;
     for (i, aggregate) in aggregates.iter().enumerate() {
-        write_number(words, at, *aggregate, numbers[i] as i128);
-        at += width_of(*aggregate);
+        at += write_number(words, at, *aggregate, numbers[i] as i128);
     }
 }
 
@@ -220,13 +229,8 @@ pub fn write_first(
     words[at] = 1;
     let mut at = at + 1;
     for aggregate in aggregates {
-        write_number(
-            words,
-            at,
-            *aggregate,
-            number_of_one(*aggregate, batch, row) as i128,
-        );
-        at += width_of(*aggregate);
+        let number = number_of_one(*aggregate, batch, row) as i128;
+        at += write_number(words, at, *aggregate, number);
     }
 }
 
@@ -243,22 +247,38 @@ fn add_to_sum(words: &mut [i64], at: usize, number: i64)
     }
 }
 
-/// Brings the number of one record in.
-fn add_number(words: &mut [i64], at: usize, aggregate: Aggregate, batch: &Batch, row: usize)
+/// Brings the number of one record in, and says how many words it has.
+fn add_number(
+    words: &mut [i64],
+    at: usize,
+    aggregate: Aggregate,
+    batch: &Batch,
+    row: usize,
+) -> usize
     requires row_in { row < length batch.now.rows }
     requires column_in { has_column batch.now.width aggregate }
     requires room { at + words_of.width_of (kind_of aggregate) ≤ length words.old }
     requires few { (n : ℕ) × (n < 2 ^ 41) × (is_number n (kind_of aggregate) (words_of.number_at n (kind_of aggregate) words.old at) ≡ true) }
+    ensures width { result ≡ words_of.width_of (kind_of aggregate) }
     ensures fit { fields.is_i64 (number_of aggregate (slice_index_or batch.now.rows row []) []) ≡ true }
     ensures added { (n : ℕ) → words_of.number_at (n + 1) (kind_of aggregate) words.new at
         ≡ merge_by (kind_of aggregate) (words_of.number_at n (kind_of aggregate) words.old at) (number_of aggregate (slice_index_or batch.now.rows row []) []) }
     ensures others { IsWritten at (at + words_of.width_of (kind_of aggregate)) words.old words.new }
 {
     match aggregate {
-        Aggregate::Count => {}
-        Aggregate::Sum(c) => add_to_sum(words, at, batch.value(row, c as usize)),
-        Aggregate::Least(c) => words[at] = words[at].min(batch.value(row, c as usize)),
-        Aggregate::Greatest(c) => words[at] = words[at].max(batch.value(row, c as usize)),
+        Aggregate::Count => 0,
+        Aggregate::Sum(c) => {
+            add_to_sum(words, at, batch.value(row, c as usize));
+            2
+        }
+        Aggregate::Least(c) => {
+            words[at] = words[at].min(batch.value(row, c as usize));
+            1
+        }
+        Aggregate::Greatest(c) => {
+            words[at] = words[at].max(batch.value(row, c as usize));
+            1
+        }
     }
 }
 
@@ -278,7 +298,6 @@ pub fn add_record(words: &mut [i64], at: usize, aggregates: &[Aggregate], batch:
     words[at] += 1;
     let mut at = at + 1;
     for aggregate in aggregates {
-        add_number(words, at, *aggregate, batch, row);
-        at += width_of(*aggregate);
+        at += add_number(words, at, *aggregate, batch, row);
     }
 }

@@ -1,7 +1,8 @@
 -- A record brought in at a slice of its span: what the two spans of a window come to with it.
 use Rattle.std.proofs.Common.{◌≡◌, ℤ, pos, ◌+ℤ◌, ◌≤ℤ◌, Bool, true, false, true≢false, cond, ◌&&◌, List, refl, sym, ap, subst, ◌∙◌, arith, Option, Some, inl, inr}
 use Rattle.std.specs.Prelude.{not}
-use Rattle.std.specs.BTreeMap.{BTreeMap}
+use Rattle.indexmap.specs.IndexMap.{IndexMap}
+use Rattle.pane_hashes.specs.declared.hashing.HashKeys.{HashKeys}
 use Rattle.std.specs.Global.{Vec}
 use Rattle.std.specs.Map.{lookup}
 use Rattle.std.specs.Ordering.{int_eq}
@@ -50,13 +51,13 @@ once ks false false false x y one other = refl
 -- ---- the slices of a span that are others now
 
 abbrev Spanned : Type 0
-Spanned = List (ℤ × BTreeMap ℤ (Vec Slice))
+Spanned = List (ℤ × IndexMap ℤ (Vec Slice) HashKeys)
 
 -- new has m at the span, and what old has at the others
-abbrev HasAt : Spanned → Spanned → ℤ → BTreeMap ℤ (Vec Slice) → Type 0
+abbrev HasAt : Spanned → Spanned → ℤ → IndexMap ℤ (Vec Slice) HashKeys → Type 0
 HasAt old new span m = (b : ℤ) → keyed_at new b ≡ cond (int_eq span b) m.entries (keyed_at old b)
 
-pub has_at : (old new : Spanned) (span held : ℤ) (m : BTreeMap ℤ (Vec Slice)) → held ≡ span
+pub has_at : (old new : Spanned) (span held : ℤ) (m : IndexMap ℤ (Vec Slice) HashKeys) → held ≡ span
     → ((b : ℤ) → lookup (int_eq b) new ≡ cond (int_eq held b) (Some m) (lookup (int_eq b) old)) → HasAt old new span m
 has_at old new span held m same is b = ap keyed_in (is b ∙ ap (λ k. cond (int_eq k b) (Some m) (lookup (int_eq b) old)) same) ∙ within (int_eq span b)
   where
@@ -65,13 +66,13 @@ has_at old new span held m same is b = ap keyed_in (is b ∙ ap (λ k. cond (int
     within false = refl
 
 -- the same with the entries as an insertion holds them
-pub has_held : (old held new : Spanned) (span held_span : ℤ) (m : BTreeMap ℤ (Vec Slice)) → held ≡ old → held_span ≡ span
+pub has_held : (old held new : Spanned) (span held_span : ℤ) (m : IndexMap ℤ (Vec Slice) HashKeys) → held ≡ old → held_span ≡ span
     → ((b : ℤ) → lookup (int_eq b) new ≡ cond (int_eq held_span b) (Some m) (lookup (int_eq b) held)) → HasAt old new span m
 has_held old held new span held_span m entries same is =
     has_at old new span held_span m same (λ b. is b ∙ ap (λ l. cond (int_eq held_span b) (Some m) (lookup (int_eq b) l)) entries)
 
 -- where more is in the slices of the span, more is in the windows of the time that have the key
-pub in_spans_more : (w : WindowSpec) (old new : Spanned) (span key start : ℤ) (was : List (ℤ × Vec Slice)) (m : BTreeMap ℤ (Vec Slice)) (one : Option Aggregated)
+pub in_spans_more : (w : WindowSpec) (old new : Spanned) (span key start : ℤ) (was : List (ℤ × Vec Slice)) (m : IndexMap ℤ (Vec Slice) HashKeys) (one : Option Aggregated)
     → pos 1 ≤ℤ w.size → span ≡ span_start w start → was ≡ keyed_at old span → HasAt old new span m
     → ((q : Pane) → sliced w m.entries q ≡ cond (int_eq key q.key && is_window_of w start q.start) (merge w.aggregates (sliced w was q) one) (sliced w was q))
     → (q : Pane) → in_spans w new q ≡ cond (int_eq key q.key && is_window_of w start q.start) (merge w.aggregates (in_spans w old q) one) (in_spans w old q)
@@ -98,7 +99,7 @@ in_spans_more w old new span key start was m one sized is there has more q =
         let within : is_within w q.start start ≡ true = (and_parts (is_start w q.start) (is_within w q.start start) window).1 in
         subst (λ s. int_eq s (span_start w q.start +ℤ w.size) ≡ not (int_eq s (span_start w q.start))) (sym is) (one_span w q.start start sized within)
 
-pub in_spans_kinds : (w : WindowSpec) (old new : Spanned) (span : ℤ) (m : BTreeMap ℤ (Vec Slice)) → HasAt old new span m → AreSlices w m.entries → AreInSpans w old → AreInSpans w new
+pub in_spans_kinds : (w : WindowSpec) (old new : Spanned) (span : ℤ) (m : IndexMap ℤ (Vec Slice) HashKeys) → HasAt old new span m → AreSlices w m.entries → AreInSpans w old → AreInSpans w new
 in_spans_kinds w old new span m has kinds are b = subst (AreSlices w) (sym (has b)) (by_span (int_eq span b))
   where
     by_span : (x : Bool) → AreSlices w (cond x m.entries (keyed_at old b))
@@ -106,7 +107,7 @@ in_spans_kinds w old new span m has kinds are b = subst (AreSlices w) (sym (has 
     by_span false = are b
 
 -- where each key's slices in the span are those that it had, they are in all
-pub in_spans_same : (old new : Spanned) (span : ℤ) (was : List (ℤ × Vec Slice)) (m : BTreeMap ℤ (Vec Slice)) → was ≡ keyed_at old span → HasAt old new span m
+pub in_spans_same : (old new : Spanned) (span : ℤ) (was : List (ℤ × Vec Slice)) (m : IndexMap ℤ (Vec Slice) HashKeys) → was ≡ keyed_at old span → HasAt old new span m
     → ((k : ℤ) → slices_of m.entries k ≡ slices_of was k) → (b k : ℤ) → slices_of (keyed_at new b) k ≡ slices_of (keyed_at old b) k
 in_spans_same old new span was m there has are b k = ap (λ l. slices_of l k) (has b) ∙ by_span (int_eq span b) refl
   where

@@ -1,6 +1,7 @@
 -- The slices of a window lie in two spans: what those of one of them come to is a part of what stands in the pane.
 use Rattle.std.proofs.Common.{◌≡◌, ℤ, pos, ◌+ℤ◌, ◌-ℤ◌, ◌<ℤ◌, ◌≤ℤ◌, ◌≤◌, Bool, true, false, List, refl, sym, ap, ◌∙◌, ◌⊎◌, inl, inr, arith, Option, Some, None, is_some}
-use Rattle.std.specs.BTreeMap.{BTreeMap}
+use Rattle.indexmap.specs.IndexMap.{IndexMap}
+use Rattle.pane_hashes.specs.declared.hashing.HashKeys.{HashKeys}
 use Rattle.std.specs.Global.{Vec}
 use Rattle.std.specs.Int.{int_rem_euclid}
 use Rattle.std.specs.Int.RustNames.{int_lt}
@@ -87,7 +88,7 @@ other_some ks None y some = some
 other_some ks (Some a) None some = refl
 other_some ks (Some a) (Some b) some = refl
 
-module _ (w : WindowSpec) (spans : List (ℤ × BTreeMap ℤ (Vec Slice))) (q : Pane) (b : ℤ) (sized : pos 1 ≤ℤ w.size) (within : is_within w q.start b ≡ true) where
+module _ (w : WindowSpec) (spans : List (ℤ × IndexMap ℤ (Vec Slice) HashKeys)) (q : Pane) (b : ℤ) (sized : pos 1 ≤ℤ w.size) (within : is_within w q.start b ≡ true) where
   abbrev half : ℤ → Option Aggregated
   half x = sliced w (keyed_at spans x) q
 

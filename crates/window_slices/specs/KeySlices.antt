@@ -3,6 +3,7 @@ use Rattle.std.specs.Prelude.{◌≡◌, ℤ, ◌^◌, ◌≤◌, ◌<◌, ◌�
 use Rattle.std.specs.Global.{Vec}
 use Rattle.std.specs.List.{All, list_any}
 use Rattle.std.specs.Map.{lookup}
+use Rattle.std.specs.Option.{option_map}
 use Rattle.std.specs.Ordering.{int_eq}
 use Rattle.plan_model.specs.declared.spec.WindowSpec.{WindowSpec}
 use Rattle.plan_model.specs.declared.spec.Pane.{Pane}
@@ -15,6 +16,10 @@ use Rattle.window_slices.specs.declared.key_slices.Slice.{Slice}
 -- the accumulator of what records come to, with the operator's aggregates
 abbrev pub acc_with : WindowSpec → Aggregated → AccData
 acc_with w a = record { kinds = map kind_of w.aggregates; total = a }
+
+-- what stands in an accumulator, where there is one
+abbrev pub total_of : Option AccData → Option Aggregated
+total_of o = option_map (λ (a : AccData). a.total) o
 
 -- a slice of the window operator: it has the operator's aggregates
 abbrev pub IsSliceOf : WindowSpec → Slice → Type 0

@@ -1,20 +1,23 @@
 //! Slices of time: what the records of a key come to between two cuts. Time is cut where a window starts and where one
 //! ends.
 
-ghost use Rattle.std.specs.Prelude.{◌≡◌, ◌⊎◌, ℤ, pos, true, false, ◌<◌, ◌≤◌, ◌<ℤ◌, ◌≤ℤ◌, ◌-ℤ◌, [], length, slice_index_or, Some, OnOk, OnErr, IfSome, IfNone};
+ghost use Rattle.std.specs.Prelude.{◌≡◌, ◌⊎◌, ℤ, pos, true, false, ◌<◌, ◌≤◌, ◌<ℤ◌, ◌≤ℤ◌, ◌-ℤ◌, [], map, length, slice_index_or, Some, OnOk, OnErr, IfSome, IfNone};
 ghost use Rattle.std.specs.List.{All, HoldsAt};
 ghost use Rattle.std.specs.Int.{int_rem_euclid};
 ghost use Rattle.std.specs.Option.{option_map};
 ghost use Rattle.plan_model.specs.declared.limits.TheConstants.{MOST_AGGREGATES};
 ghost use Rattle.plan_model.specs.PlanData.{has_column};
 ghost use Rattle.plan_model.specs.Windows as times;
-ghost use Rattle.window_slices.specs.KeySlices.{IsSliceOf, AreSlices, CanTakeOne, IsCounted, IsUpTo, IsFrom, TakesOne, PanesTakeOne, acc_with, has_start, slices_of, slices_total, sliced};
+ghost use Rattle.plan_model.specs.Aggregates.{merge};
+ghost use Rattle.aggregates.specs.Kinds.{kind_of};
+ghost use Rattle.window_slices.specs.KeySlices.{IsSliceOf, AreSlices, CanTakeOne, IsCounted, IsUpTo, IsFrom, TakesOne, PanesTakeOne, acc_with, has_start, slices_of, slices_total, sliced, total_of};
 
 use aggregates::Acc;
 use columns::Batch;
+use indexmap::IndexMap;
+use pane_hashes::HashKeys;
 use plan_model::{Pane, WindowSpec};
 use std::alloc::{AllocError, Global};
-use std::collections::BTreeMap;
 
 /// What the records of one slice of time and one key come to.
 #[derive(Clone, Copy, Debug)]
@@ -25,8 +28,8 @@ pub struct Slice {
     pub acc: Acc,
 }
 
-/// The slices of each key, in the order in which they came.
-pub type Slices = BTreeMap<i64, Vec<Slice>>;
+/// The slices of each key, in the order in which they came. A key's hash is that of a pane with one number.
+pub type Slices = IndexMap<i64, Vec<Slice>, HashKeys>;
 
 /// Whether the window that begins at `start` has a time.
 fn is_within(w: &WindowSpec, start: i64, time: i64) -> bool
@@ -240,20 +243,19 @@ pub(crate) fn add_slice(
     }
 }
 
-/// What the slices in the window that begins at `start` come to.
-pub(crate) fn total_of(slices: &[Slice], w: &WindowSpec, start: i64) -> Option<Acc>
+/// Merges the slices in the window that begins at `start` with what stands in `total`.
+pub(crate) fn merge_slices(total: &mut Option<Acc>, slices: &[Slice], w: &WindowSpec, start: i64)
     requires kinds { All (IsSliceOf w.now) slices.now }
-    requires few { IsCounted (slices_total w.now start slices.now) }
-    ensures { result ≡ option_map (acc_with w.now) (slices_total w.now start slices.now) }
+    requires own { IfSome total.old (λ a. a.kinds ≡ map kind_of w.now.aggregates) }
+    requires few { IsCounted (merge w.now.aggregates (total_of total.old) (slices_total w.now start slices.now)) }
+    ensures { total.new ≡ option_map (acc_with w.now) (merge w.now.aggregates (total_of total.old) (slices_total w.now start slices.now)) }
 {
-    let mut total = None;
     for slice in slices {
         if is_within(w, start, slice.start) {
-            match &mut total {
+            match total {
                 Some(acc) => Acc::merge(acc, &slice.acc),
-                None => total = Some(slice.acc),
+                None => *total = Some(slice.acc),
             }
         }
     }
-    total
 }

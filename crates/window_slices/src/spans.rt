@@ -10,10 +10,12 @@ ghost use Rattle.window_slices.specs.KeySlices.{CanTakeOne, IsCounted, PanesTake
 ghost use Rattle.window_slices.specs.Spans.{AreInSpans, in_spans, keyed_at, span_start};
 
 use crate::key_slices::{
-    Slice, Slices, add_slice, add_to_known, is_start, rest_of, slices_of_key, total_of,
+    Slice, Slices, add_slice, add_to_known, is_start, merge_slices, rest_of, slices_of_key,
 };
 use aggregates::Acc;
 use columns::Batch;
+use indexmap::IndexMap;
+use pane_hashes::HashKeys;
 use plan_model::{Pane, WindowSpec};
 use std::alloc::{AllocError, Global};
 use std::collections::BTreeMap;
@@ -65,13 +67,15 @@ pub fn add_to_slice(
     }
 }
 
-/// Brings a record in at a slice: `slice` says where it starts and of which key it is.
+/// Brings a record in at a slice: `slice` says where it starts and of which key it is. A span that is new has its keys
+/// hashed by `keys`.
 ///
 /// # Errors
 ///
 /// Only where memory runs out. What the slices come to is then as it was.
 pub fn add_in_span(
     alloc: Global,
+    keys: HashKeys,
     spans: &mut Spans,
     w: &WindowSpec,
     slice: Pane,
@@ -93,7 +97,7 @@ pub fn add_in_span(
     if let Some(slices) = spans.get_mut(&span) {
         return add_slice(alloc, slices, w, slice, batch, row);
     }
-    let mut first = BTreeMap::new(alloc);
+    let mut first = IndexMap::with_hasher(alloc, keys);
     add_slice(alloc, &mut first, w, slice, batch, row)?;
     match spans.insert(span, first) {
         Ok(_) => Ok(()),
@@ -112,19 +116,11 @@ pub fn pane_total(spans: &Spans, w: &WindowSpec, pane: &Pane) -> Option<Acc>
         return None;
     }
     let span = span_of(w, pane.start);
-    let first = total_of(slices_in(spans, span, pane.key), w, pane.start);
-    let second = total_of(
-        slices_in(spans, span + w.size as i128, pane.key),
-        w,
-        pane.start,
-    );
-    let Some(mut both) = first else {
-        return second;
-    };
-    if let Some(second) = second {
-        both.merge(&second);
-    }
-    Some(both)
+    let next = span + w.size as i128;
+    let mut total = None;
+    merge_slices(&mut total, slices_in(spans, span, pane.key), w, pane.start);
+    merge_slices(&mut total, slices_in(spans, next, pane.key), w, pane.start);
+    total
 }
 
 /// Whether a span ends at `from` or before.

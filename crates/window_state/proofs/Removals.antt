@@ -92,7 +92,7 @@ whole_raised w mark before from r whole less = whole (by_case (int_lt from befor
 
 -- the same windows with another `from`
 abbrev pub with_from : ℤ → Inside → Inside
-with_from from s = record { alloc = s.alloc; from = from; places = s.places; spans = s.spans; opened = s.opened }
+with_from from s = record { alloc = s.alloc; keys = s.keys; from = from; places = s.places; spans = s.spans; opened = s.opened }
 
 -- no pane of a window that begins between the two has a place, so that no open pane is missed
 pub inside_raised : (s : Inside) (mark from : ℤ) → IsWindowsInside s → IsRaised s.places.window mark s.from from → IsWindowsInside (with_from from s)

@@ -1,7 +1,8 @@
 -- A record brought in at the slice of its time: its windows, the room in its slice, and the open windows after it.
 use Rattle.std.proofs.Common.{◌≡◌, ℕ, zero, suc, ℤ, pos, neg_ℤ, ◌+ℤ◌, ◌-ℤ◌, ◌<ℤ◌, ◌≤ℤ◌, ◌+◌, ◌^◌, ◌<◌, ◌≤◌, Bool, true, false, cond, ◌&&◌, ◌||◌, List, [], ◌∷◌, length, slice_index_or, refl, sym, ap, subst, ◌∙◌, inl, inr, arith, Option, Some, None, is_some, FitsSigned, to_z, of_z}
 use Rattle.std.specs.FinMap.{get, from_entries}
-use Rattle.std.specs.BTreeMap.{BTreeMap}
+use Rattle.indexmap.specs.IndexMap.{IndexMap}
+use Rattle.pane_hashes.specs.declared.hashing.HashKeys.{HashKeys}
 use Rattle.std.specs.Global.{Vec}
 use Rattle.std.specs.Int.{w64, w128, int_rem_euclid}
 use Rattle.std.specs.Int.RustNames.{int_lt, int_le}
@@ -306,7 +307,7 @@ count_both (Some a) None few room single =
 count_both (Some a) (Some b) few room single = room a b refl refl
 
 -- what stands in a pane hangs on the slices of its key alone
-same_spans : (w : WindowSpec) (new old : List (ℤ × BTreeMap ℤ (Vec Slice))) → ((b k : ℤ) → slices_of (keyed_at new b) k ≡ slices_of (keyed_at old b) k) → (q : Pane) → in_spans w new q ≡ in_spans w old q
+same_spans : (w : WindowSpec) (new old : List (ℤ × IndexMap ℤ (Vec Slice) HashKeys)) → ((b k : ℤ) → slices_of (keyed_at new b) k ≡ slices_of (keyed_at old b) k) → (q : Pane) → in_spans w new q ≡ in_spans w old q
 same_spans w new old same q = λ i. merge w.aggregates (half (span_start w q.start) i) (half (span_start w q.start +ℤ w.size) i)
   where
     half : (b : ℤ) → sliced w (keyed_at new b) q ≡ sliced w (keyed_at old b) q
@@ -330,7 +331,7 @@ inside_same s t is places from kinds slices still =
     }
 
 -- the slices of a key in the span of a time's slice
-abbrev pub slices_beside : WindowSpec → List (ℤ × BTreeMap ℤ (Vec Slice)) → ℤ → ℤ → List Slice
+abbrev pub slices_beside : WindowSpec → List (ℤ × IndexMap ℤ (Vec Slice) HashKeys) → ℤ → ℤ → List Slice
 slices_beside w spans t key = slices_of (keyed_at spans (span_start w (slice_start w t))) key
 
 -- the record in the slices
@@ -431,7 +432,7 @@ view_same s t places from opened slices =
     }
 
 -- where the slice is there, each of its windows has it
-pub slice_there : (w v : WindowSpec) (t start key k : ℤ) (opens : Pane → Bool) (spans : List (ℤ × BTreeMap ℤ (Vec Slice))) → pos 1 ≤ℤ w.slide → v ≡ w → start ≡ slice_start w t → key ≡ k
+pub slice_there : (w v : WindowSpec) (t start key k : ℤ) (opens : Pane → Bool) (spans : List (ℤ × IndexMap ℤ (Vec Slice) HashKeys)) → pos 1 ≤ℤ w.slide → v ≡ w → start ≡ slice_start w t → key ≡ k
     → has_start start (slices_of (keyed_at spans (span_start v start)) key) ≡ true
     → (q : Pane) → int_eq k q.key ≡ true → is_window_of w t q.start ≡ true → (opens q || has_slice w q.start (slices_beside w spans t q.key)) ≡ true
 slice_there w v t start key k opens spans slides same at_start at_key has q keyed window =
@@ -441,7 +442,7 @@ slice_there w v t start key k opens spans slides same at_start at_key has q keye
     or_right (opens q) (has_slice w q.start (slices_beside w spans t q.key)) (has_at w t q.start (slices_beside w spans t q.key) slides window there)
 
 -- the slices at hand
-pub beside : (w v : WindowSpec) (t start span key : ℤ) (at_hand : List Slice) (spans : List (ℤ × BTreeMap ℤ (Vec Slice))) → v ≡ w → start ≡ slice_start w t
+pub beside : (w v : WindowSpec) (t start span key : ℤ) (at_hand : List Slice) (spans : List (ℤ × IndexMap ℤ (Vec Slice) HashKeys)) → v ≡ w → start ≡ slice_start w t
     → span ≡ span_start v start → at_hand ≡ slices_of (keyed_at spans span) key → at_hand ≡ slices_beside w spans t key
 beside w v t start span key at_hand spans same at_start at_span is = is ∙ ap (λ b. slices_of (keyed_at spans b) key) (at_span ∙ (λ i. span_start (same i) (at_start i)))
 
@@ -456,7 +457,7 @@ opens_new w v t time k key from as_held opens xs held_slices same at_time at_key
     ∙ opened q own ((λ i. is_window_of (same i) (at_time i) q.start) ∙ window) (ap (int_lt q.start) at_from ∙ late)
 
 -- what `add_slice` adds
-pub adds_one : (w v : WindowSpec) (r : Record) (start key : ℤ) (old new : List (ℤ × BTreeMap ℤ (Vec Slice))) → pos 1 ≤ℤ w.slide → v ≡ w → start ≡ slice_start w (at w.time r) → key ≡ at w.key r
+pub adds_one : (w v : WindowSpec) (r : Record) (start key : ℤ) (old new : List (ℤ × IndexMap ℤ (Vec Slice) HashKeys)) → pos 1 ≤ℤ w.slide → v ≡ w → start ≡ slice_start w (at w.time r) → key ≡ at w.key r
     → ((q : Pane) → in_spans v new q ≡ cond (int_eq key q.key && is_window_of v start q.start) (merge v.aggregates (in_spans v old q) (aggregate_of v.aggregates (r ∷ []))) (in_spans v old q))
     → (q : Pane) → in_spans w new q ≡ merge w.aggregates (in_spans w old q) (aggregate_at w (r ∷ []) q)
 adds_one w v r start key old new slides same at_start at_key added q =

@@ -103,7 +103,9 @@ fn add_record(
 {
     let w = windows.window();
     let time = batch.value(row, w.time as usize);
-    let oldest = time - w.size + 1;
+    // Where windows may be made of slices the slide divides the size, so that the oldest window begins so far before
+    // the last.
+    let oldest = time - first as i64 - (w.size - w.slide);
     add_later(windows, batch, row, first)?;
     if (oldest as i128) < windows.from {
         add_from(windows, batch, row, first)?;

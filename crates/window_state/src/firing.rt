@@ -47,7 +47,7 @@ pub(crate) fn rows_of(
     ensures ordered { IfOk result (λ rows. IsSortedByKey pane_of pane_cmp rows.items) }
 {
     let panes = due_panes(alloc, &windows.opened, windows.window(), watermark)?;
-    let mut rows = Vec::new(alloc);
+    let mut rows = Vec::with_capacity(alloc, panes.len())?;
     for pane in &panes {
         if let Some(numbers) = windows.numbers(alloc, pane)? {
             rows.push(row_of(windows.window(), *pane, numbers))?;

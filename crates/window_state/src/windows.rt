@@ -36,13 +36,27 @@ const NOWHERE: i128 = 1 << 64;
 
 /// The open windows of a window operator, and the panes by their starts. What stands in the panes of windows that begin
 /// before `from` is in `places`, and of those that begin later it is what their slices come to.
-#[derive(Drop)]
 pub(crate) struct Windows {
     alloc: Global,
+    keys: HashKeys,
     pub from: i128,
     pub places: Places,
     pub spans: Spans,
     pub opened: OpenPanes,
+}
+
+// By hand, since a proof goes over a derived drop field by field.
+impl Drop for Windows {
+    fn drop(self) {
+        let Windows {
+            alloc: _,
+            keys: _,
+            from: _,
+            places: _,
+            spans: _,
+            opened: _,
+        } = self;
+    }
 }
 
 impl Model for Windows {
@@ -72,6 +86,7 @@ impl Windows {
         let from = earliest_from(&window);
         Windows {
             alloc,
+            keys,
             from,
             places: Places::new(alloc, keys, window),
             spans: BTreeMap::new(alloc),
@@ -96,6 +111,7 @@ impl Windows {
         let opened = open_of(alloc, parts)?;
         Ok(Windows {
             alloc,
+            keys,
             from,
             places,
             spans: BTreeMap::new(alloc),
@@ -183,6 +199,7 @@ impl Windows {
         )?;
         add_in_span(
             self.alloc,
+            self.keys,
             &mut self.spans,
             w,
             Pane { start, key },

@@ -1,11 +1,10 @@
 use Rattle.command_line.specs.Words.{import_shape, split_shape, cuts_shape, layout_shape, check_shape}
-use Rattle.command_line.proofs.Subcommands.{added, added_last}
 use Rattle.command_line.proofs.words.with_texts.Goals as goal
 
 pub returns : goal.returns
 returns c =
-    let first = added _ _ _ _ import_shape c.in_ok-subcommand.ensures c.in_ok-with_jobs.ensures c.in_ok-import_words.ensures in
-    let second = added _ _ _ _ split_shape c.in_ok-subcommand-2.ensures first c.in_ok-split_words.ensures in
-    let third = added _ _ _ _ cuts_shape c.in_ok-subcommand-3.ensures second c.in_ok-cuts_words.ensures in
-    let fourth = added _ _ _ _ layout_shape c.in_ok-subcommand-4.ensures third c.in_ok-layout_words.ensures in
-    added_last _ _ _ _ check_shape c.subcommand-5.ensures fourth c.in_ok-check_words.ensures
+    let first = c.with-command.ensures _ import_shape c.with_jobs.ensures c.import_words.ensures in
+    let second = c.with-command-2.ensures _ split_shape first c.split_words.ensures in
+    let third = c.with-command-3.ensures _ cuts_shape second c.cuts_words.ensures in
+    let fourth = c.with-command-4.ensures _ layout_shape third c.layout_words.ensures in
+    c.with.ensures _ check_shape fourth c.check_words.ensures

@@ -1,13 +1,26 @@
-use Rattle.std.proofs.Common.{◌≡◌, ◌<◌, ◌++◌, ◌∷◌, [], ℤ, true, false, length, w64, to_z-of_z, refl, sym, ap, ◌∙◌, arith, append-nil}
+use Rattle.std.proofs.Common.{◌≡◌, Bool, ◌<◌, ◌++◌, ◌∷◌, [], ℕ, ℤ, List, FitsSigned, true, false, length, w64, to_z-of_z, refl, sym, ap, subst, ◌∙◌, arith, append-nil}
 use Rattle.std.proofs.lemmas.List.{append_assoc}
 use Rattle.json.specs.Lex.{between, lex}
 use Rattle.json.proofs.Grammar.{after_end_array-shorter}
 use Rattle.json_parts.specs.Parts.{whole}
-use Rattle.json_tokens.specs.Lexemes.{tokens_from}
+use Rattle.json_tokens.specs.declared.numbers.Item.{Item}
+use Rattle.json_tokens.specs.Lexemes.{mark, tokens_from, BeginsItem}
 use Rattle.json_tokens.proofs.ItemTurns.{ItemsRead, items_begin, items_next, items_over}
 use Rattle.json_tokens.proofs.Passes.{whole_over, comma_over, bracket_over}
 use Rattle.json_tokens.proofs.Starts.{starts, starts_over_comma, list_ends, whole_said, whole_shorter}
 use Rattle.json_tokens.proofs.rows.cells_at.Goals as goal
+use Rattle.json_tokens.proofs.rows.cells_at.Goals.{in-Some, in_default+in-Some-short_item_below_zero, in_default+in_default-short_item_below_zero+in-Some-other_item_at}
+
+-- the item that the text begins with
+record Reads (text : List ℕ) (item : Item) : Type 0 where
+  pub said : BeginsItem text item
+  pub fits : FitsSigned w64 item.number
+
+reads : (text : List ℕ) (item found : Item) → item ≡ found → BeginsItem text found → FitsSigned w64 found.number → Reads text item
+reads text item found is said fits = subst (Reads text) (sym is) (record { said = said; fits = fits })
+
+marked : (text : List ℕ) (item : Item) (said : BeginsItem text item) → (b : Bool) → item.is_last ≡ b → lex between (mark b ∷ item.rest.now) ≡ lex between said.0
+marked text item said b is = ap (λ t. lex between (mark t ∷ item.rest.now)) (sym is) ∙ sym said.2
 
 pub cells-init : goal.cells-init
 cells-init c =
@@ -18,58 +31,99 @@ pub cells-preserved : goal.cells-preserved
 cells-preserved c =
     let l = c.cells in
     let i = l.invariant in
-    let n = c.in-Some.cell in
-    let r = c.in-Some.rest.now in
-    let w = c.in-Some.ensures.said in
-    let u = c.in-Some-behind_mark.next.now in
-    let comma = sym c.in-Some-behind_mark.ensures in
-    let pushed : c.push.new.self.items ≡ l.cells.items ++ n ∷ [] = c.in_ok-push.ensures.items ∙ ap (λ (z : ℤ). l.cells.items ++ z ∷ []) (to_z-of_z {w = w64} {z = n} c.in-Some.ensures.fits) in (
+    let item = c.match-short_item_at.item in
+    let n = item.number in
+    let read : Reads l.left.now item = elim c.match-short_item_at.branch [
+      | in-Some b ↦ reads l.left.now item b.in-Some.item b.item-is b.in-Some.ensures.said b.in-Some.ensures.fits
+      | in_default+in-Some-short_item_below_zero b ↦
+          reads l.left.now item b.in-Some-short_item_below_zero.item b.item-is b.in-Some-short_item_below_zero.ensures.said b.in-Some-short_item_below_zero.ensures.fits
+      | in_default+in_default-short_item_below_zero+in-Some-other_item_at b ↦
+          reads l.left.now item b.in-Some-other_item_at.item b.item-is b.in-Some-other_item_at.ensures.said b.in-Some-other_item_at.ensures.fits
+    ] in
+    let r = read.said.0 in
+    let w = read.said.1 in
+    let u = item.rest.now in
+    let comma = marked l.left.now item read.said false c.if-item.false in
+    let pushed : c.push.new.self.items ≡ l.cells.items ++ n ∷ [] = c.in_ok-push.ensures.items ∙ ap (λ (z : ℤ). l.cells.items ++ z ∷ []) (to_z-of_z {w = w64} {z = n} read.fits) in (
       tokens_from true r,
       i.1 ++ n ∷ [],
       starts_over_comma r (44 ∷ u) u u comma refl refl,
-      items_next whole c.args.depth (tokens_from false c.args.text.now) i.0 (tokens_from true r) i.1 n i.3 (whole_said i.0 l.item.now n r i.2 w c.args.depth) (whole_shorter i.0 l.item.now n r i.2 w),
+      items_next whole c.args.depth (tokens_from false c.args.text.now) i.0 (tokens_from true r) i.1 n i.3 (whole_said i.0 l.left.now n r i.2 w c.args.depth) (whole_shorter i.0 l.left.now n r i.2 w),
       pushed ∙ ap (λ xs. xs ++ n ∷ []) i.4 ∙ append_assoc c.args.cells.now.items i.1 (n ∷ []),
-      omega (arith, i.5, whole_over l.item.now n r w, comma_over r (44 ∷ u) u u comma refl refl),
+      omega (arith, i.5, whole_over l.left.now n r w, comma_over r (44 ∷ u) u u comma refl refl),
     )
 
 pub cells-smaller : goal.cells-smaller
 cells-smaller c =
-    let r = c.in-Some.rest.now in
-    let u = c.in-Some-behind_mark.next.now in
-    let less : length (lex between u) < length (lex between c.cells.item.now) =
-    omega (arith, whole_over c.cells.item.now c.in-Some.cell r c.in-Some.ensures.said, comma_over r (44 ∷ u) u u (sym c.in-Some-behind_mark.ensures) refl refl) in
+    let l = c.cells in
+    let item = c.match-short_item_at.item in
+    let read : Reads l.left.now item = elim c.match-short_item_at.branch [
+      | in-Some b ↦ reads l.left.now item b.in-Some.item b.item-is b.in-Some.ensures.said b.in-Some.ensures.fits
+      | in_default+in-Some-short_item_below_zero b ↦
+          reads l.left.now item b.in-Some-short_item_below_zero.item b.item-is b.in-Some-short_item_below_zero.ensures.said b.in-Some-short_item_below_zero.ensures.fits
+      | in_default+in_default-short_item_below_zero+in-Some-other_item_at b ↦
+          reads l.left.now item b.in-Some-other_item_at.item b.item-is b.in-Some-other_item_at.ensures.said b.in-Some-other_item_at.ensures.fits
+    ] in
+    let r = read.said.0 in
+    let u = item.rest.now in
+    let less : length (lex between u) < length (lex between l.left.now) =
+    omega (arith, whole_over l.left.now item.number r read.said.1, comma_over r (44 ∷ u) u u (marked l.left.now item read.said false c.if-item.false) refl refl) in
     less
 
-pub returns-in_default-behind_mark-clause-said : goal.returns-in_default-behind_mark-clause-said
-returns-in_default-behind_mark-clause-said c =
+pub returns-then-item-clause-said : goal.returns-then-item-clause-said
+returns-then-item-clause-said c =
     let l = c.cells in
     let i = l.invariant in
-    let n = c.in-Some.cell in
-    let r = c.in-Some.rest.now in
-    let w = c.in-Some.ensures.said in
+    let item = c.match-short_item_at.item in
+    let n = item.number in
+    let read : Reads l.left.now item = elim c.match-short_item_at.branch [
+      | in-Some b ↦ reads l.left.now item b.in-Some.item b.item-is b.in-Some.ensures.said b.in-Some.ensures.fits
+      | in_default+in-Some-short_item_below_zero b ↦
+          reads l.left.now item b.in-Some-short_item_below_zero.item b.item-is b.in-Some-short_item_below_zero.ensures.said b.in-Some-short_item_below_zero.ensures.fits
+      | in_default+in_default-short_item_below_zero+in-Some-other_item_at b ↦
+          reads l.left.now item b.in-Some-other_item_at.item b.item-is b.in-Some-other_item_at.ensures.said b.in-Some-other_item_at.ensures.fits
+    ] in
+    let r = read.said.0 in
+    let w = read.said.1 in
     let start = tokens_from false c.args.text.now in
-    let over = c.in-Some-behind_mark-2.over.now in
-    let pushed : c.push.new.self.items ≡ l.cells.items ++ n ∷ [] = c.in_ok-push.ensures.items ∙ ap (λ (z : ℤ). l.cells.items ++ z ∷ []) (to_z-of_z {w = w64} {z = n} c.in-Some.ensures.fits) in
-    let read : ItemsRead whole c.args.depth start (i.1 ++ n ∷ []) (tokens_from true r) =
-    items_next whole c.args.depth start i.0 (tokens_from true r) i.1 n i.3 (whole_said i.0 l.item.now n r i.2 w c.args.depth) (whole_shorter i.0 l.item.now n r i.2 w) in (
+    let over = item.rest.now in
+    let pushed : c.push.new.self.items ≡ l.cells.items ++ n ∷ [] = c.in_ok-push.ensures.items ∙ ap (λ (z : ℤ). l.cells.items ++ z ∷ []) (to_z-of_z {w = w64} {z = n} read.fits) in
+    let all : ItemsRead whole c.args.depth start (i.1 ++ n ∷ []) (tokens_from true r) =
+    items_next whole c.args.depth start i.0 (tokens_from true r) i.1 n i.3 (whole_said i.0 l.left.now n r i.2 w c.args.depth) (whole_shorter i.0 l.left.now n r i.2 w) in (
       i.1 ++ n ∷ [],
-      items_over whole c.args.depth start (tokens_from true r) (tokens_from true over) (i.1 ++ n ∷ []) read (list_ends true r (93 ∷ over) over (sym c.in-Some-behind_mark-2.ensures) refl),
+      items_over whole c.args.depth start (tokens_from true r) (tokens_from true over) (i.1 ++ n ∷ []) all (list_ends true r (93 ∷ over) over (marked l.left.now item read.said true c.if-item.true) refl),
       pushed ∙ ap (λ xs. xs ++ n ∷ []) i.4 ∙ append_assoc c.args.cells.now.items i.1 (n ∷ []),
     )
 
-pub returns-in_default-behind_mark-clause-shorter : goal.returns-in_default-behind_mark-clause-shorter
-returns-in_default-behind_mark-clause-shorter c =
+pub returns-then-item-clause-shorter : goal.returns-then-item-clause-shorter
+returns-then-item-clause-shorter c =
     let l = c.cells in
     let i = l.invariant in
-    let r = c.in-Some.rest.now in
-    let over = c.in-Some-behind_mark-2.over.now in
-    let closes = list_ends true r (93 ∷ over) over (sym c.in-Some-behind_mark-2.ensures) refl in
-    omega (arith, i.3.shorter, whole_shorter i.0 l.item.now c.in-Some.cell r i.2 c.in-Some.ensures.said, after_end_array-shorter (tokens_from true r) (tokens_from true over) closes)
+    let item = c.match-short_item_at.item in
+    let read : Reads l.left.now item = elim c.match-short_item_at.branch [
+      | in-Some b ↦ reads l.left.now item b.in-Some.item b.item-is b.in-Some.ensures.said b.in-Some.ensures.fits
+      | in_default+in-Some-short_item_below_zero b ↦
+          reads l.left.now item b.in-Some-short_item_below_zero.item b.item-is b.in-Some-short_item_below_zero.ensures.said b.in-Some-short_item_below_zero.ensures.fits
+      | in_default+in_default-short_item_below_zero+in-Some-other_item_at b ↦
+          reads l.left.now item b.in-Some-other_item_at.item b.item-is b.in-Some-other_item_at.ensures.said b.in-Some-other_item_at.ensures.fits
+    ] in
+    let r = read.said.0 in
+    let over = item.rest.now in
+    let closes = list_ends true r (93 ∷ over) over (marked l.left.now item read.said true c.if-item.true) refl in
+    omega (arith, i.3.shorter, whole_shorter i.0 l.left.now item.number r i.2 read.said.1, after_end_array-shorter (tokens_from true r) (tokens_from true over) closes)
 
-pub returns-in_default-behind_mark-clause-fewer : goal.returns-in_default-behind_mark-clause-fewer
-returns-in_default-behind_mark-clause-fewer c =
+pub returns-then-item-clause-fewer : goal.returns-then-item-clause-fewer
+returns-then-item-clause-fewer c =
     let l = c.cells in
     let i = l.invariant in
-    let r = c.in-Some.rest.now in
-    let over = c.in-Some-behind_mark-2.over.now in
-    omega (arith, i.5, whole_over l.item.now c.in-Some.cell r c.in-Some.ensures.said, bracket_over r (93 ∷ over) over (sym c.in-Some-behind_mark-2.ensures) refl)
+    let item = c.match-short_item_at.item in
+    let read : Reads l.left.now item = elim c.match-short_item_at.branch [
+      | in-Some b ↦ reads l.left.now item b.in-Some.item b.item-is b.in-Some.ensures.said b.in-Some.ensures.fits
+      | in_default+in-Some-short_item_below_zero b ↦
+          reads l.left.now item b.in-Some-short_item_below_zero.item b.item-is b.in-Some-short_item_below_zero.ensures.said b.in-Some-short_item_below_zero.ensures.fits
+      | in_default+in_default-short_item_below_zero+in-Some-other_item_at b ↦
+          reads l.left.now item b.in-Some-other_item_at.item b.item-is b.in-Some-other_item_at.ensures.said b.in-Some-other_item_at.ensures.fits
+    ] in
+    let r = read.said.0 in
+    let over = item.rest.now in
+    omega (arith, i.5, whole_over l.left.now item.number r read.said.1, bracket_over r (93 ∷ over) over (marked l.left.now item read.said true c.if-item.true) refl)

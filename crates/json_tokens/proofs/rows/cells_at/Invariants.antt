@@ -8,8 +8,8 @@ use Rattle.json_tokens.proofs.rows.cells_at.Given as goal
 
 abbrev pub invariant-cells : goal.invariant-cells
 invariant-cells l =
-    (ts : List Token) × (row : List ℤ) × Begins ts l.item × ItemsRead whole l.depth (tokens_from false l.text) row ts × (l.cells.items ≡ l.initial.cells.items ++ row)
-    × (length (lex between l.item) ≤ length (lex between l.text))
+    (ts : List Token) × (row : List ℤ) × Begins ts l.left × ItemsRead whole l.depth (tokens_from false l.text) row ts × (l.cells.items ≡ l.initial.cells.items ++ row)
+    × (length (lex between l.left) ≤ length (lex between l.text))
 
 abbrev pub decreases-cells : goal.decreases-cells
-decreases-cells l = length (lex between l.item)
+decreases-cells l = length (lex between l.left)

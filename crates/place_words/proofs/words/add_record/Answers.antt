@@ -14,8 +14,8 @@ use Rattle.place_words.specs.Words.{width_of, word, count_of, IsWritten}
 use Rattle.place_words.proofs.Numbers.{AgreeBelow, kind_at, kinds_from, rest_next, kinds_next, end_next, written_on, written_next, numbers_next, number-above, first_fits, set_written, count_more}
 use Rattle.place_words.proofs.words.add_record.Goals as goal
 
-pub add_number-requires-clause-few : goal.add_number-requires-clause-few
-add_number-requires-clause-few c =
+pub add_number-at-requires-clause-few : goal.add_number-at-requires-clause-few
+add_number-at-requires-clause-few c =
     let aggregates = c.args.aggregates.now in
     let i = c.loop-aggregate.aggregate-index in
     let at = c.loop-aggregate.at in
@@ -41,7 +41,7 @@ loop-aggregate-preserved c =
     let at = c.loop-aggregate.at in
     let old = c.args.words.now in
     let now = c.loop-aggregate.words in
-    let new = c.add_number.new.words in
+    let new = c.add_number-at.new.words in
     let n = count_of (word old c.args.at) in
     let k = kind_at aggregates i in
     let ks = kinds_from aggregates (i + 1) in
@@ -53,19 +53,19 @@ loop-aggregate-preserved c =
     let start : c.args.at + 1 ≤ at = c.loop-aggregate.invariant.start in
     let so_far : IsWritten c.args.at at old now =
     written_on c.args.at (c.args.at + 1) at old _ now (omega arith) start (set_written c.args.at _ old) c.loop-aggregate.invariant.others in
-    let width = c.width_of-at.ensures in
+    let width = c.add_number-at.ensures.width in
     let rest_few = (first_fits n k ks (words_of.number_at n k old at) (words_of.numbers_at n ks old (at + width_of k)) told).1 in
     record {
       start = omega (arith, start);
       end = end_next aggregates i at _ _ inside width c.loop-aggregate.invariant.end;
       fit = below_more _ _ c.loop-aggregate.invariant.fit
-          (λ d. subst (λ (b : Aggregate). is_i64 (f b) ≡ true) (get_or_default aggregates i aggregate.Count d inside) c.add_number.ensures.fit);
+          (λ d. subst (λ (b : Aggregate). is_i64 (f b) ≡ true) (get_or_default aggregates i aggregate.Count d inside) c.add_number-at.ensures.fit);
       few = ap (λ w. are_numbers n ks (words_of.numbers_at n ks old (at + w))) width ∙ rest_few;
-      others = written_next (c.args.at + 1) at _ (width_of k) _ now new start width c.loop-aggregate.invariant.others c.add_number.ensures.others;
+      others = written_next (c.args.at + 1) at _ (width_of k) _ now new start width c.loop-aggregate.invariant.others c.add_number-at.ensures.others;
       added = λ ws agree rest.
           let first : words_of.number_at (n + 1) k new at ≡ merge_by k (words_of.number_at n k old at) (f a) =
-          c.add_number.ensures.added n ∙ ap (λ z. merge_by k z (f a)) (number-above n k old now c.args.at at at so_far (omega arith)) in
-          c.loop-aggregate.invariant.added ws (λ j low. agree j (omega (arith, low)) ∙ c.add_number.ensures.others.below j low)
+          c.add_number-at.ensures.added n ∙ ap (λ z. merge_by k z (f a)) (number-above n k old now c.args.at at at so_far (omega arith)) in
+          c.loop-aggregate.invariant.added ws (λ j low. agree j (omega (arith, low)) ∙ c.add_number-at.ensures.others.below j low)
           ((λ t. words_of.numbers_at (n + 1) (kinds t) ws at)
           ∙ numbers_next (n + 1) k ks (merge_by k (words_of.number_at n k old at) (f a)) (merge_all ks (words_of.numbers_at n ks old (at + width_of k)) (map f (drop (i + 1) aggregates))) new ws at
           first (subst (λ w. AgreeBelow (at + w) new ws) width agree)

@@ -15,8 +15,8 @@ bounds-numbers-i c =
     let all = length-numbers c.requires.fit.0 (map kind_of aggregates) c.args.numbers.now c.requires.fit.2 in
     omega (arith, length-map aggregates kind_of, all)
 
-pub write_number-requires-clause-fit : goal.write_number-requires-clause-fit
-write_number-requires-clause-fit c =
+pub write_number-at-requires-clause-fit : goal.write_number-at-requires-clause-fit
+write_number-at-requires-clause-fit c =
     let aggregates = c.args.aggregates.now in
     let numbers = c.args.numbers.now in
     let i = c.loop-i.i in
@@ -46,18 +46,18 @@ loop-i-preserved c =
     let told = λ (n : ℕ) (are : are_numbers n (map kind_of aggregates) numbers ≡ true).
     first_fits n k ks z (drop (i + 1) numbers) ((λ t. are_numbers n (sym (kinds_next aggregates i inside) t) (sym next t)) ∙ c.loop-i.invariant.fit n are) in
     let same = to_z-of_z w128 z fits in
-    let wide = c.width_of-at.ensures in
+    let wide = c.write_number-at.ensures.width in
     let end = c.loop-i.invariant.end in
     let start : c.args.at ≤ at = c.loop-i.invariant.start in
-    let new = c.write_number.new.words in
+    let new = c.write_number-at.new.words in
     record {
       start = omega (arith, start);
       end = end_next aggregates i at _ _ inside wide end;
       fit = λ n are. (told n are).1;
-      others = written_next c.args.at at _ (width_of k) c.args.words.now c.loop-i.words new start wide c.loop-i.invariant.others c.write_number.ensures.others;
+      others = written_next c.args.at at _ (width_of k) c.args.words.now c.loop-i.words new start wide c.loop-i.invariant.others c.write_number-at.ensures.others;
       written = λ n ws are agree rest.
-          let first : words_of.number_at n k new at ≡ z = c.write_number.ensures.written n (ap (is_number n k) same ∙ (told n are).0) ∙ same in
-          c.loop-i.invariant.written n ws are (λ j low. agree j (omega (arith, low)) ∙ c.write_number.ensures.others.below j low)
+          let first : words_of.number_at n k new at ≡ z = c.write_number-at.ensures.written n (ap (is_number n k) same ∙ (told n are).0) ∙ same in
+          c.loop-i.invariant.written n ws are (λ j low. agree j (omega (arith, low)) ∙ c.write_number-at.ensures.others.below j low)
           ((λ t. words_of.numbers_at n (kinds_next aggregates i inside t) ws at)
           ∙ numbers_next n k ks z (drop (i + 1) numbers) new ws at first (subst (λ w. AgreeBelow (at + w) new ws) wide agree) (ap (λ w. words_of.numbers_at n ks ws (at + w)) (sym wide) ∙ rest) ∙ sym next);
     }

@@ -79,7 +79,7 @@ returns-in-Ok-clause-added c =
     let same = to_z-of_z w128 span span_fits in
     let one = aggregate_of w.aggregates (slice_index_or c.args.batch.now.rows c.args.row [] ∷ []) in
     let has = has_held old _ new span _ m (λ i. (c.get_mut.follows.holds-at-none i).entries) same c.in-Ok.ensures.updates.0 in
-    let none = c.new-first.ensures.empty ∙ ap keyed_in c.in_default.ensures.value ∙ ap (keyed_at old) same in
+    let none = c.with_hasher-first.ensures.empty ∙ ap keyed_in c.in_default.ensures.value ∙ ap (keyed_at old) same in
     in_spans_more w old new span c.args.slice.key start _ m one c.requires.window.sized is none has c.in_ok-add_slice.ensures.added
 
 pub returns-in-Ok-clause-kinds : goal.returns-in-Ok-clause-kinds

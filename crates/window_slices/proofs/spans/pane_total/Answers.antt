@@ -1,5 +1,6 @@
-use Rattle.std.proofs.Common.{◌≡◌, ℤ, ◌+ℤ◌, ◌≤ℤ◌, ◌<ℤ◌, pos, true, List, Option, Some, rules, arith, sym, ap, subst, ◌∙◌, FitsSigned, to_z, of_z}
-use Rattle.std.specs.BTreeMap.{BTreeMap}
+use Rattle.std.proofs.Common.{◌≡◌, ℤ, ◌+ℤ◌, ◌≤ℤ◌, ◌<ℤ◌, pos, true, List, Option, rules, arith, sym, ap, subst, ◌∙◌, FitsSigned, to_z, of_z}
+use Rattle.indexmap.specs.IndexMap.{IndexMap}
+use Rattle.pane_hashes.specs.declared.hashing.HashKeys.{HashKeys}
 use Rattle.std.specs.Global.{Vec}
 use Rattle.std.specs.Int.{w64, w128}
 use Rattle.std.specs.List.{All}
@@ -15,9 +16,8 @@ use Rattle.window_slices.specs.KeySlices.{IsCounted, IsSliceOf, acc_with, slices
 use Rattle.window_slices.specs.Spans.{in_spans, keyed_at, span_start}
 use Rattle.window_slices.proofs.SpanDrops.{IsInSpan, in_its_span}
 use Rattle.window_slices.proofs.Wide.{widened}
-use Rattle.window_slices.proofs.SpanTotals.{in_both, few_second, few_both, total_of, second_alone, first_alone, both_merged}
+use Rattle.window_slices.proofs.SpanTotals.{in_both, few_first, total_is, kinds_are}
 use Rattle.window_slices.proofs.spans.pane_total.Goals as goal
-use Rattle.window_slices.proofs.spans.pane_total.Goals.{in-Some-second, in_default-second}
 
 end_fits : (s size x : ℤ) → s ≤ℤ x → x <ℤ (s +ℤ size) → pos 1 ≤ℤ size → size ≤ℤ pos 1099511627776 → FitsSigned w64 x → FitsSigned w128 (s +ℤ size)
 end_fits s size x below above sized small fits = grind (arith, ints)
@@ -47,11 +47,11 @@ module _ (w : WindowSpec) (x s : ℤ) (window : IsWindow w) (fits : FitsSigned w
   second_is = to_z-of_z w128 (held_end s w.size) end_held ∙ end_is
 
 -- the slices ys of the second span, and what a and b of both come to
-record Halves (w : WindowSpec) (spans : List (ℤ × BTreeMap ℤ (Vec Slice))) (q : Pane) (ys : List Slice) (a b : Option Aggregated) : Type 0 where
+record Halves (w : WindowSpec) (spans : List (ℤ × IndexMap ℤ (Vec Slice) HashKeys)) (q : Pane) (ys : List Slice) (a b : Option Aggregated) : Type 0 where
   pub those : ys ≡ slices_of (keyed_at spans (span_start w q.start +ℤ w.size)) q.key
   pub all : in_spans w spans q ≡ merge w.aggregates a b
 
-halves : (w : WindowSpec) (spans : List (ℤ × BTreeMap ℤ (Vec Slice))) (q : Pane) (s : ℤ) (xs ys : List Slice) → IsWindow w → FitsSigned w64 q.start → FitsSigned w64 q.key → FitsSigned w128 s
+halves : (w : WindowSpec) (spans : List (ℤ × IndexMap ℤ (Vec Slice) HashKeys)) (q : Pane) (s : ℤ) (xs ys : List Slice) → IsWindow w → FitsSigned w64 q.start → FitsSigned w64 q.key → FitsSigned w128 s
     → s ≡ span_start w (to_z w64 (of_z w64 q.start)) → is_start w (to_z w64 (of_z w64 q.start)) ≡ true
     → xs ≡ slices_of (keyed_at spans (to_z w128 (of_z w128 s))) (to_z w64 (of_z w64 q.key))
     → ys ≡ slices_of (keyed_at spans (to_z w128 (of_z w128 (held_end s w.size)))) (to_z w64 (of_z w64 q.key))
@@ -66,11 +66,25 @@ halves w spans q s xs ys window fits key_fits s_fits is started first second =
       all = in_both w spans q (ap (is_start w) (sym start) ∙ started) ∙ (λ i. merge w.aggregates (slices_total w (sym start i) (sym these i)) (slices_total w (sym start i) (sym those i)));
     }
 
-pub overflow_add-span : goal.overflow_add-span
-overflow_add-span c = end_held c.args.w.now c.args.pane.now.start c.span_of-span.result c.requires.window (search rules) (search rules) c.span_of-span.ensures
+pub overflow_add-next : goal.overflow_add-next
+overflow_add-next c = end_held c.args.w.now c.args.pane.now.start c.span_of-span.result c.requires.window (search rules) (search rules) c.span_of-span.ensures
 
-pub total_of-second-requires-clause-kinds : goal.total_of-second-requires-clause-kinds
-total_of-second-requires-clause-kinds c =
+pub merge_slices-requires-clause-few : goal.merge_slices-requires-clause-few
+merge_slices-requires-clause-few c =
+    let w = c.args.w.now in
+    let q = c.args.pane.now in
+    let spans = c.args.spans.now.entries in
+    let start = to_z-of_z w64 q.start (search rules) in
+    let a = slices_total w (to_z w64 (of_z w64 q.start)) c.slices_in.result.now in
+    let b = slices_total w q.start (slices_of (keyed_at spans (span_start w q.start +ℤ w.size)) q.key) in
+    let first : a ≡ slices_total w q.start (slices_of (keyed_at spans (span_start w q.start)) q.key) =
+    ap (slices_total w (to_z w64 (of_z w64 q.start))) c.slices_in.ensures
+    ∙ (λ i. slices_total w (start i) (slices_of (keyed_at spans (first_is w q.start c.span_of-span.result c.requires.window (search rules) (search rules) c.span_of-span.ensures i)) (to_z-of_z w64 q.key (search rules) i))) in
+    let started : is_start w q.start ≡ true = ap (is_start w) (sym start) ∙ sym c.is_start.ensures ∙ c.if-not-is_start.false in
+    few_first w.aggregates a b (subst IsCounted (in_both w spans q started ∙ ap (λ t. merge w.aggregates t b) (sym first)) c.requires.few)
+
+pub merge_slices-requires-2-clause-kinds : goal.merge_slices-requires-2-clause-kinds
+merge_slices-requires-2-clause-kinds c =
     let w = c.args.w.now in
     let q = c.args.pane.now in
     let a = slices_total w (to_z w64 (of_z w64 q.start)) c.slices_in.result.now in
@@ -80,19 +94,13 @@ total_of-second-requires-clause-kinds c =
     c.span_of-span.ensures (sym c.is_start.ensures ∙ c.if-not-is_start.false) c.slices_in.ensures c.slices_in-2.ensures in
     subst (All (IsSliceOf w)) (sym both.those) (c.requires.kinds (span_start w q.start +ℤ w.size) q.key)
 
-pub total_of-second-requires-clause-few : goal.total_of-second-requires-clause-few
-total_of-second-requires-clause-few c =
+pub merge_slices-requires-2-clause-own : goal.merge_slices-requires-2-clause-own
+merge_slices-requires-2-clause-own c =
     let w = c.args.w.now in
-    let q = c.args.pane.now in
-    let a = slices_total w (to_z w64 (of_z w64 q.start)) c.slices_in.result.now in
-    let b = slices_total w (to_z w64 (of_z w64 q.start)) c.slices_in-2.result.now in
-    let both : Halves w c.args.spans.now.entries q c.slices_in-2.result.now a b =
-    halves w c.args.spans.now.entries q c.span_of-span.result c.slices_in.result.now c.slices_in-2.result.now c.requires.window (search rules) (search rules) (search rules)
-    c.span_of-span.ensures (sym c.is_start.ensures ∙ c.if-not-is_start.false) c.slices_in.ensures c.slices_in-2.ensures in
-    few_second w.aggregates a b (subst IsCounted both.all c.requires.few)
+    kinds_are w (slices_total w (to_z w64 (of_z w64 c.args.pane.now.start)) c.slices_in.result.now) c.merge_slices.new.total c.merge_slices.ensures
 
-pub returns-in_default : goal.returns-in_default
-returns-in_default c =
+pub merge_slices-requires-2-clause-few : goal.merge_slices-requires-2-clause-few
+merge_slices-requires-2-clause-few c =
     let w = c.args.w.now in
     let q = c.args.pane.now in
     let a = slices_total w (to_z w64 (of_z w64 q.start)) c.slices_in.result.now in
@@ -100,20 +108,7 @@ returns-in_default c =
     let both : Halves w c.args.spans.now.entries q c.slices_in-2.result.now a b =
     halves w c.args.spans.now.entries q c.span_of-span.result c.slices_in.result.now c.slices_in-2.result.now c.requires.window (search rules) (search rules) (search rules)
     c.span_of-span.ensures (sym c.is_start.ensures ∙ c.if-not-is_start.false) c.slices_in.ensures c.slices_in-2.ensures in
-    c.total_of-second.ensures ∙ second_alone w a b (sym c.in_default.is ∙ c.total_of-first.ensures) ∙ ap (option_map (acc_with w)) (sym both.all)
-
-pub merge-requires-clause-few : goal.merge-requires-clause-few
-merge-requires-clause-few c =
-    let w = c.args.w.now in
-    let q = c.args.pane.now in
-    let a = slices_total w (to_z w64 (of_z w64 q.start)) c.slices_in.result.now in
-    let b = slices_total w (to_z w64 (of_z w64 q.start)) c.slices_in-2.result.now in
-    let both : Halves w c.args.spans.now.entries q c.slices_in-2.result.now a b =
-    halves w c.args.spans.now.entries q c.span_of-span.result c.slices_in.result.now c.slices_in-2.result.now c.requires.window (search rules) (search rules) (search rules)
-    c.span_of-span.ensures (sym c.is_start.ensures ∙ c.if-not-is_start.false) c.slices_in.ensures c.slices_in-2.ensures in
-    let first = total_of w a c.in-Some.both (sym c.in-Some.is ∙ c.total_of-first.ensures) in
-    let second = total_of w b c.in-Some-second.second (sym c.in-Some-second.is ∙ c.total_of-second.ensures) in
-    few_both w.aggregates a b (subst IsCounted both.all c.requires.few) c.in-Some.both.total c.in-Some-second.second.total first second
+    subst IsCounted (both.all ∙ ap (λ t. merge w.aggregates t b) (sym (total_is w a c.merge_slices.new.total c.merge_slices.ensures))) c.requires.few
 
 pub returns : goal.returns
 returns c =
@@ -124,12 +119,4 @@ returns c =
     let both : Halves w c.args.spans.now.entries q c.slices_in-2.result.now a b =
     halves w c.args.spans.now.entries q c.span_of-span.result c.slices_in.result.now c.slices_in-2.result.now c.requires.window (search rules) (search rules) (search rules)
     c.span_of-span.ensures (sym c.is_start.ensures ∙ c.if-not-is_start.false) c.slices_in.ensures c.slices_in-2.ensures in
-    let first = sym c.in-Some.is ∙ c.total_of-first.ensures in
-    let all = ap (option_map (acc_with w)) (sym both.all) in
-    elim c.match-second.branch [
-      | in-Some-second v ↦
-          ap Some v.both-is
-          ∙ both_merged w a b c.in-Some.both v.in-Some-second.second v.merge.new.self first (sym v.in-Some-second.is ∙ c.total_of-second.ensures) v.merge.ensures.kinds v.merge.ensures.total
-          ∙ all
-      | in_default-second v ↦ ap Some v.both-is ∙ first ∙ first_alone w a b (sym v.in_default-second.is ∙ c.total_of-second.ensures) ∙ all
-    ]
+    c.merge_slices-2.ensures ∙ ap (λ t. option_map (acc_with w) (merge w.aggregates t b)) (total_is w a c.merge_slices.new.total c.merge_slices.ensures) ∙ ap (option_map (acc_with w)) (sym both.all)

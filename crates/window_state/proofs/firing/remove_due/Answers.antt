@@ -21,7 +21,7 @@ use Rattle.window_state.proofs.firing.remove_due.Goals.{then-start-from, else-st
 pub invariant_of-windows : goal.invariant_of-windows
 invariant_of-windows c =
     let now : Inside =
-    record { alloc = c.windows.inside.alloc; from = wide c.max-windows-inside.result; places = c.clear-then-are_all_due.new.self; spans = c.clear-then-are_all_due-2.new.self; opened = c.clear.new.self } in
+    record { alloc = c.windows.inside.alloc; keys = c.windows.inside.keys; from = wide c.max-windows-inside.result; places = c.clear-then-are_all_due.new.self; spans = c.clear-then-are_all_due-2.new.self; opened = c.clear.new.self } in
     let operator = subst (λ (v : WindowSpec). IsOperator v) (ap (λ (v : PlacesData). v.window) (sym c.clear-then-are_all_due.ensures)) c.windows.invariant.operator in
     let s = c.windows.inside in
     let held : ℤ = to_z w64 (of_z w64 c.args.watermark) in
@@ -44,7 +44,7 @@ loop-start-init c =
     let r =
     raised s.places.window c.window.result.now held s.from c.first_undue.result c.max-windows-inside.result c.window.ensures before_fits undue_fits most_fits c.max-windows-inside.ensures.value c.first_undue.ensures.due
     c.first_undue.ensures.starts in
-    let first : Inside = record { alloc = s.alloc; from = from; places = s.places; spans = c.drop_spans.new.spans; opened = s.opened } in
+    let first : Inside = record { alloc = s.alloc; keys = s.keys; from = from; places = s.places; spans = c.drop_spans.new.spans; opened = s.opened } in
     let dropped : IsDropped (with_from from s) first =
     spans_dropped (with_from from s) first c.window-2.result.now _ c.window-2.ensures (to_z-of_z w128 from (subst (FitsSigned w128) (sym (to_z-of_z w128 c.max-windows-inside.result most_fits)) most_fits))
     (record { window = refl; from = refl; places = refl }) refl c.drop_spans.ensures.later c.drop_spans.ensures.kinds c.windows.invariant.kinds in
@@ -70,7 +70,7 @@ loop-start-preserved c =
     let r =
     raised s.places.window c.window.result.now held s.from c.first_undue.result c.max-windows-inside.result c.window.ensures before_fits undue_fits most_fits c.max-windows-inside.ensures.value c.first_undue.ensures.due
     c.first_undue.ensures.starts in
-    let first : Inside = record { alloc = s.alloc; from = from; places = s.places; spans = c.drop_spans.new.spans; opened = s.opened } in
+    let first : Inside = record { alloc = s.alloc; keys = s.keys; from = from; places = s.places; spans = c.drop_spans.new.spans; opened = s.opened } in
     let dropped : IsDropped (with_from from s) first =
     spans_dropped (with_from from s) first c.window-2.result.now _ c.window-2.ensures (to_z-of_z w128 from (subst (FitsSigned w128) (sym (to_z-of_z w128 c.max-windows-inside.result most_fits)) most_fits))
     (record { window = refl; from = refl; places = refl }) refl c.drop_spans.ensures.later c.drop_spans.ensures.kinds c.windows.invariant.kinds in
@@ -83,14 +83,14 @@ loop-start-preserved c =
     elim c.if-start-from.branch [
       | then-start-from w ↦
           let keys = c.in-Some.keys.items in
-          let now : Inside = record { alloc = t.alloc; from = t.from; places = w.remove_keys.new.self; spans = t.spans; opened = c.pop_due.new.opened } in
+          let now : Inside = record { alloc = t.alloc; keys = t.keys; from = t.from; places = w.remove_keys.new.self; spans = t.spans; opened = c.pop_due.new.opened } in
           let taken : (q : Pane) → acc_at w.remove_keys.new.self.entries q ≡ cond (int_eq q.start start && has_key q.key keys) None (acc_at t.places.entries q) =
           λ q. w.remove_keys.ensures.taken q ∙ (λ i. cond (int_eq q.start (to_z-of_z w64 start start_fits i) && has_key q.key (w.as_slice.ensures.value i)) None (acc_at t.places.entries q)) in
           subst (IsLeft held first) (sym w.windows-inside-is)
           (less_left held start first t now left
           (places_taken start keys t now left.inside (record { window = w.remove_keys.ensures.window_stays; from = refl; slices = refl }) (ap (int_lt start) left.from ∙ begins) c.in-Some.ensures.taken c.in-Some.ensures.those taken) due begins)
       | else-start-from w ↦
-          let now : Inside = record { alloc = t.alloc; from = t.from; places = t.places; spans = t.spans; opened = c.pop_due.new.opened } in
+          let now : Inside = record { alloc = t.alloc; keys = t.keys; from = t.from; places = t.places; spans = t.spans; opened = c.pop_due.new.opened } in
           let side : int_lt start s.from ≡ false = side_of start s.from false start_fits before_fits w.if-start-from.false in
           subst (IsLeft held first) (sym w.windows-inside-is)
           (less_left held start first t now left
@@ -102,7 +102,7 @@ loop-start-preserved c =
 pub invariant_of-windows-in_default : goal.invariant_of-windows-in_default
 invariant_of-windows-in_default c =
     let t = c.loop-start.windows-inside in
-    let now : Inside = record { alloc = t.alloc; from = t.from; places = t.places; spans = t.spans; opened = c.pop_due.new.opened } in
+    let now : Inside = record { alloc = t.alloc; keys = t.keys; from = t.from; places = t.places; spans = t.spans; opened = c.pop_due.new.opened } in
     opened_more t now c.loop-start.invariant.inside (record { window = refl; from = refl; slices = refl }) refl (λ q has. ap (λ es. has_open es q) c.in_default.ensures.same ∙ has)
 
 pub returns-then-are_all_due-clause-left : goal.returns-then-are_all_due-clause-left
@@ -111,7 +111,7 @@ returns-then-are_all_due-clause-left c =
     let mark = c.args.watermark in
     let mark_fits : FitsSigned w64 mark = c.ranges.watermark in
     let now : Inside =
-    record { alloc = s.alloc; from = wide c.max-windows-inside.result; places = c.clear-then-are_all_due.new.self; spans = c.clear-then-are_all_due-2.new.self; opened = c.clear.new.self } in
+    record { alloc = s.alloc; keys = s.keys; from = wide c.max-windows-inside.result; places = c.clear-then-are_all_due.new.self; spans = c.clear-then-are_all_due-2.new.self; opened = c.clear.new.self } in
     let places = ap (λ (v : PlacesData). v.entries) c.clear-then-are_all_due.ensures in
     let slices = c.clear-then-are_all_due-2.ensures.empty in
     let all = subst (λ (v : WindowSpec). All (λ e. is_due v mark e.0 ≡ true) s.opened.entries) c.window-then-is_filled.ensures
@@ -137,7 +137,7 @@ returns-in_default-clause-left c =
     let r =
     raised s.places.window c.window.result.now held s.from c.first_undue.result c.max-windows-inside.result c.window.ensures before_fits undue_fits most_fits c.max-windows-inside.ensures.value c.first_undue.ensures.due
     c.first_undue.ensures.starts in
-    let first : Inside = record { alloc = s.alloc; from = from; places = s.places; spans = c.drop_spans.new.spans; opened = s.opened } in
+    let first : Inside = record { alloc = s.alloc; keys = s.keys; from = from; places = s.places; spans = c.drop_spans.new.spans; opened = s.opened } in
     let dropped : IsDropped (with_from from s) first =
     spans_dropped (with_from from s) first c.window-2.result.now _ c.window-2.ensures (to_z-of_z w128 from (subst (FitsSigned w128) (sym (to_z-of_z w128 c.max-windows-inside.result most_fits)) most_fits))
     (record { window = refl; from = refl; places = refl }) refl c.drop_spans.ensures.later c.drop_spans.ensures.kinds c.windows.invariant.kinds in
@@ -146,7 +146,7 @@ returns-in_default-clause-left c =
     let t = c.loop-start.windows-inside in
     let left : IsLeft held (with_from from s) t = left_dropped held (with_from from s) first t dropped c.loop-start.invariant in
     let none = subst (λ (v : WindowSpec). All (λ e. is_due v held e.0 ≡ false) t.opened.entries) (c.window-in-loop-start.ensures ∙ left.window) c.in_default.ensures.none in
-    let now : Inside = record { alloc = t.alloc; from = t.from; places = t.places; spans = t.spans; opened = c.pop_due.new.opened } in
+    let now : Inside = record { alloc = t.alloc; keys = t.keys; from = t.from; places = t.places; spans = t.spans; opened = c.pop_due.new.opened } in
     let inside : IsWindowsInside now = opened_more t now left.inside (record { window = refl; from = refl; slices = refl }) refl (λ q has. ap (λ es. has_open es q) c.in_default.ensures.same ∙ has) in
     totals_left s now c.args.windows.now held c.windows.invariant inside c.windows.view_is (left_standing s t held from c.windows.invariant r left none)
     ∙ ap (λ z. retain_keys c.args.windows.now.totals (λ q. not (is_due c.args.windows.now.window z q.start))) (to_z-of_z w64 mark mark_fits)

@@ -36,7 +36,7 @@ loop-pane-init c =
     let due = each_pane (λ (p : Pane). is_due w t p.start ≡ true) ps (λ q has. both_first (is_due w t q.start) (has_open opened q) (has_pane ps q) (c.in_ok-panes.ensures.those q ∙ (λ i. is_due (c.window.ensures i) t q.start && has_open opened q)) has) in
     let gives : c.deref-pane-items.result.now ≡ ps = search rules in
     record {
-      rows = ap (λ l. l ++ rows_due w t (entries_at (get v.totals) c.deref-pane-items.result.now)) c.new-rows.ensures.items;
+      rows = ap (λ l. l ++ rows_due w t (entries_at (get v.totals) c.deref-pane-items.result.now)) c.in_ok-rows.ensures.items;
       due = subst (AllDue w t) (sym gives) due;
     }
 
@@ -53,7 +53,7 @@ loop-pane-preserved c =
     let next : left ≡ p ∷ rest = drop_more items c.loop-pane.pane-index _ c.loop-pane-test.true in
     let all = subst (AllDue w t) next c.loop-pane.invariant.due in
     let later = All-tail (λ (x : Pane). is_due w t x.start ≡ true) p rest all in
-    elim c.match-branch-3.branch [
+    elim c.match-branch-4.branch [
       | in-Some+in_ok-push b ↦
           let there = with_numbers (f p) b.in-Some.numbers (sym b.in-Some.is ∙ c.in_ok-numbers.ensures.numbers) in
           let a = there.0 in

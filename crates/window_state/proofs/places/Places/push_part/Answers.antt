@@ -59,7 +59,7 @@ push_entry-requires c =
     let read : FitsSigned w64 c.index.result.now = search rules in
     let sound = c.self.invariant.sound c.args.placed.pane (acc_in (kinds_of s.window) s.words.items at) st.here in
     let kinds = c.requires.kinds ∙ ap (λ (v : PlacesData). kinds_of v.window) (sym c.self.view_is) in
-    let all = c.copy_narrow.ensures c.if-copy_narrow.true ∙ (λ t. numbers_at (nat_abs (to_z w64 (of_z w64 c.index.result.now))) (map kind_of (c.as_slice-aggregates.ensures t)) (c.as_slice.ensures.value t) (at + 1)) in
+    let all = c.copy_narrow.ensures.copied c.if-copy_narrow.true ∙ (λ t. numbers_at (nat_abs (to_z w64 (of_z w64 c.index.result.now))) (map kind_of (c.as_slice-aggregates.ensures t)) (c.as_slice.ensures.value t) (at + 1)) in
     subst IsAcc (read_acc s at c.index.result.now _ _ kinds here read sound.counted all) sound
 
 pub returns-then-copy_narrow-clause-pushed : goal.returns-then-copy_narrow-clause-pushed
@@ -72,7 +72,7 @@ returns-then-copy_narrow-clause-pushed c =
     let read : FitsSigned w64 c.index.result.now = search rules in
     let sound = c.self.invariant.sound p (acc_in (kinds_of s.window) s.words.items at) st.here in
     let kinds = c.requires.kinds ∙ ap (λ (v : PlacesData). kinds_of v.window) (sym c.self.view_is) in
-    let all = c.copy_narrow.ensures c.if-copy_narrow.true ∙ (λ t. numbers_at (nat_abs (to_z w64 (of_z w64 c.index.result.now))) (map kind_of (c.as_slice-aggregates.ensures t)) (c.as_slice.ensures.value t) (at + 1)) in
+    let all = c.copy_narrow.ensures.copied c.if-copy_narrow.true ∙ (λ t. numbers_at (nat_abs (to_z w64 (of_z w64 c.index.result.now))) (map kind_of (c.as_slice-aggregates.ensures t)) (c.as_slice.ensures.value t) (at + 1)) in
     let is = read_acc s at c.index.result.now _ _ kinds here read sound.counted all in
     on_ok c.push_entry.result (λ ok a there. ok ∙ (λ t. record {
       kinds = c.args.parts.now.kinds;

@@ -20,7 +20,7 @@ use Rattle.window_state.proofs.windows.Windows.from_parts.Goals as goal
 abbrev inside : (c : goal.After-new) → (s : Inside) × (IsWindowsInside s)
 inside c =
     let from : ℤ = to_z w128 (of_z w128 c.first_from-from.result) in
-    let s : Inside = record { alloc = c.args.alloc; from = from; places = c.in_ok-places.places; spans = c.new.result; opened = c.in_ok-opened.opened } in
+    let s : Inside = record { alloc = c.args.alloc; keys = c.args.keys; from = from; places = c.in_ok-places.places; spans = c.new.result; opened = c.in_ok-opened.opened } in
     let fits : FitsSigned w128 c.first_from-from.result = search rules in
     let parts = c.args.parts.now in
     let before : All (λ (p : Part). p.pane.start <ℤ from) parts = subst (λ (f : ℤ). All (λ (p : Part). p.pane.start <ℤ f) parts) (sym (to_z-of_z w128 c.first_from-from.result fits)) c.first_from-from.ensures.parts in
