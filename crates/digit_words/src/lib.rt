@@ -3,4 +3,4 @@
 
 mod words;
 
-pub use words::few_digits;
+pub use words::{few_digits, more_digits};

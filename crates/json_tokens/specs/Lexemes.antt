@@ -1,5 +1,5 @@
 -- What the bytes of a text say of the tokens that are still to come.
-use Rattle.std.specs.Prelude.{◌≡◌, ℕ, ◌<◌, ℤ, Bool, true, false, ◌||◌, ◌==◌, List, ◌∷◌, take, drop, Some, option_and_then}
+use Rattle.std.specs.Prelude.{◌≡◌, ℕ, ◌<◌, ℤ, Bool, true, false, ◌||◌, ◌==◌, List, ◌∷◌, length, take, drop, Some, option_and_then}
 use Rattle.std.specs.List.{prefix_len}
 use Rattle.std.specs.Char.{is_ascii_digit}
 use Rattle.std.specs.Str.Parse.{digits_value}
@@ -35,6 +35,12 @@ pub record BeginsDigits (text : List ℕ) (value : ℕ) (rest : List ℕ) : Type
   pub over : rest ≡ drop count text
   pub ends : ends_number (head rest) ≡ true
   pub says : value ≡ digits_value 10 (take count text)
+
+-- so many digits come first in the text, and no more, and write that number
+pub record ComeFirst (text : List ℕ) (digits : ℕ × ℕ) : Type 0 where
+  pub more : digits.0 < length text
+  pub counted : digits.0 ≡ prefix_len is_ascii_digit text
+  pub says : digits.1 ≡ digits_value 10 (take digits.0 text)
 
 -- the text begins with a whole number
 abbrev pub BeginsWhole : List ℕ → ℤ → List ℕ → Type 0

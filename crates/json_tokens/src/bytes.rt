@@ -4,10 +4,10 @@ ghost use Rattle.std.specs.List.{prefix_len};
 ghost use Rattle.json.specs.Word.{head, is_space};
 ghost use Rattle.json.specs.Lex.{between, lex};
 ghost use Rattle.json.specs.Run.{is_plain};
-ghost use Rattle.json_tokens.specs.Lexemes.{ends_number, mark, BeginsDigits, BeginsName};
+ghost use Rattle.json_tokens.specs.Lexemes.{ends_number, mark, BeginsDigits, BeginsName, ComeFirst};
 
 use core::dec2flt::read_digits;
-use digit_words::few_digits;
+use digit_words::{few_digits, more_digits};
 
 /// The most digits whose number surely fits 64 bits.
 const MOST_DIGITS: usize = 19;
@@ -97,13 +97,14 @@ pub fn short_digits(text: &[u8]) -> Option<(u64, &[u8])>
     Some((value, &text[count..]))
 }
 
-/// The same of digits with a comma right behind them, or the bracket that closes a list, whether it is that, and what
-/// follows it.
+/// The number that so many digits at the front of a text write, with a comma right behind them or the bracket that
+/// closes a list, whether it is that, and what follows it.
 #[inline(always)]
-pub fn short_item(text: &[u8]) -> Option<(u64, bool, &[u8])>
+fn item_of(text: &[u8], digits: Option<(usize, u64)>) -> Option<(u64, bool, &[u8])>
+    requires digits { IfSome digits (ComeFirst text.now) }
     ensures { IfSome result (λ found. BeginsDigits text.now found.0 (mark found.1 ∷ found.2.now)) }
 {
-    let (count, value) = few_digits(text)?;
+    let (count, value) = digits?;
     let is_last = match text[count] {
         b',' => false,
         b']' => true,
@@ -113,6 +114,22 @@ pub fn short_item(text: &[u8]) -> Option<(u64, bool, &[u8])>
         return None;
     }
     Some((value, is_last, &text[count + 1..]))
+}
+
+/// The same of fewer than eight digits, which are found at once.
+#[inline(always)]
+pub fn short_item(text: &[u8]) -> Option<(u64, bool, &[u8])>
+    ensures { IfSome result (λ found. BeginsDigits text.now found.0 (mark found.1 ∷ found.2.now)) }
+{
+    item_of(text, few_digits(text))
+}
+
+/// The same of 8 to 15 digits, as times in milliseconds have them.
+#[inline(always)]
+pub fn long_item(text: &[u8]) -> Option<(u64, bool, &[u8])>
+    ensures { IfSome result (λ found. BeginsDigits text.now found.0 (mark found.1 ∷ found.2.now)) }
+{
+    item_of(text, more_digits(text))
 }
 
 /// How many bytes come before the first that ends the text of a string, or begins an escape in it.

@@ -5,7 +5,9 @@ ghost use Rattle.serde_json.specs.Data.{unsigned as positive};
 ghost use Rattle.serde_json.specs.Find.{as_i64};
 ghost use Rattle.json_tokens.specs.Lexemes.{BeginsItem, BeginsWhole};
 
-use crate::bytes::{behind, behind_mark, behind_spaces, digits, short_digits, short_item};
+use crate::bytes::{
+    behind, behind_mark, behind_spaces, digits, long_item, short_digits, short_item,
+};
 
 #[inline(always)]
 fn small(n: u64) -> Option<i64>
@@ -110,6 +112,22 @@ pub fn short_item_below_zero(text: &[u8]) -> Option<Item<'_>>
     let unsigned = behind(text, b'-')?;
     let (size, is_last, rest) = short_item(unsigned)?;
     let number = negated(size)?;
+    Some(Item {
+        number,
+        is_last,
+        rest,
+    })
+}
+
+/// The same of a number with 8 to 15 digits.
+// In line it took registers from the numbers with few digits.
+#[inline(never)]
+pub fn long_item_at(text: &[u8]) -> Option<Item<'_>>
+    ensures said { IfSome result (BeginsItem text.now) }
+    ensures fits { IfSome result (λ item. FitsSigned w64 item.number) }
+{
+    let (size, is_last, rest) = long_item(text)?;
+    let number = small(size)?;
     Some(Item {
         number,
         is_last,

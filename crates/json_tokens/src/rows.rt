@@ -9,7 +9,7 @@ ghost use Rattle.json_tokens.specs.Rows.{row_text, joined};
 
 use crate::bytes::behind_mark;
 use crate::miss::Miss;
-use crate::numbers::{other_item_at, short_item_at, short_item_below_zero};
+use crate::numbers::{long_item_at, other_item_at, short_item_at, short_item_below_zero};
 use crate::scanner::Scanner;
 
 /// Reads one number or more up to the closing bracket, puts them behind what `cells` holds, which is to
@@ -32,6 +32,8 @@ fn cells_at<'a>(
         let item = if let Some(item) = short_item_at(left) {
             item
         } else if let Some(item) = short_item_below_zero(left) {
+            item
+        } else if let Some(item) = long_item_at(left) {
             item
         } else if let Some(item) = other_item_at(left) {
             item

@@ -21,7 +21,7 @@ returns-clause-says c =
     let count = count_trailing_zeros 64 c.flags_from_ten-others.result / 8 in
     let few : count < 8 = first.1 in
     let s = shifted_is bs count _ eight (omega (arith, first.0)) (omega (arith, few)) (bytes_up _ count few ∙ rw (lanes_are bs _ eight is)) in
-    c.value_of_eight.ensures s.0 s.1 s.2 ∙ s.3
+    c.value_of_eight.ensures.value s.0 s.1 s.2 ∙ s.3
 
 pub returns-then-others-eq0-clause-none : goal.returns-then-others-eq0-clause-none
 returns-then-others-eq0-clause-none c =

@@ -9,7 +9,7 @@ use Rattle.json_tokens.proofs.ItemTurns.{ItemsRead, items_begin, items_next, ite
 use Rattle.json_tokens.proofs.Passes.{whole_over, comma_over, bracket_over}
 use Rattle.json_tokens.proofs.Starts.{starts, starts_over_comma, list_ends, whole_said, whole_shorter}
 use Rattle.json_tokens.proofs.rows.cells_at.Goals as goal
-use Rattle.json_tokens.proofs.rows.cells_at.Goals.{in-Some, in_default+in-Some-short_item_below_zero, in_default+in_default-short_item_below_zero+in-Some-other_item_at}
+use Rattle.json_tokens.proofs.rows.cells_at.Goals.{in-Some, in_default+in-Some-short_item_below_zero, in_default+in_default-short_item_below_zero+in-Some-long_item_at, in_default+in_default-short_item_below_zero+in_default-long_item_at+in-Some-other_item_at}
 
 -- the item that the text begins with
 record Reads (text : List ℕ) (item : Item) : Type 0 where
@@ -37,7 +37,9 @@ cells-preserved c =
       | in-Some b ↦ reads l.left.now item b.in-Some.item b.item-is b.in-Some.ensures.said b.in-Some.ensures.fits
       | in_default+in-Some-short_item_below_zero b ↦
           reads l.left.now item b.in-Some-short_item_below_zero.item b.item-is b.in-Some-short_item_below_zero.ensures.said b.in-Some-short_item_below_zero.ensures.fits
-      | in_default+in_default-short_item_below_zero+in-Some-other_item_at b ↦
+      | in_default+in_default-short_item_below_zero+in-Some-long_item_at b ↦
+          reads l.left.now item b.in-Some-long_item_at.item b.item-is b.in-Some-long_item_at.ensures.said b.in-Some-long_item_at.ensures.fits
+      | in_default+in_default-short_item_below_zero+in_default-long_item_at+in-Some-other_item_at b ↦
           reads l.left.now item b.in-Some-other_item_at.item b.item-is b.in-Some-other_item_at.ensures.said b.in-Some-other_item_at.ensures.fits
     ] in
     let r = read.said.0 in
@@ -61,7 +63,9 @@ cells-smaller c =
       | in-Some b ↦ reads l.left.now item b.in-Some.item b.item-is b.in-Some.ensures.said b.in-Some.ensures.fits
       | in_default+in-Some-short_item_below_zero b ↦
           reads l.left.now item b.in-Some-short_item_below_zero.item b.item-is b.in-Some-short_item_below_zero.ensures.said b.in-Some-short_item_below_zero.ensures.fits
-      | in_default+in_default-short_item_below_zero+in-Some-other_item_at b ↦
+      | in_default+in_default-short_item_below_zero+in-Some-long_item_at b ↦
+          reads l.left.now item b.in-Some-long_item_at.item b.item-is b.in-Some-long_item_at.ensures.said b.in-Some-long_item_at.ensures.fits
+      | in_default+in_default-short_item_below_zero+in_default-long_item_at+in-Some-other_item_at b ↦
           reads l.left.now item b.in-Some-other_item_at.item b.item-is b.in-Some-other_item_at.ensures.said b.in-Some-other_item_at.ensures.fits
     ] in
     let r = read.said.0 in
@@ -80,7 +84,9 @@ returns-then-item-clause-said c =
       | in-Some b ↦ reads l.left.now item b.in-Some.item b.item-is b.in-Some.ensures.said b.in-Some.ensures.fits
       | in_default+in-Some-short_item_below_zero b ↦
           reads l.left.now item b.in-Some-short_item_below_zero.item b.item-is b.in-Some-short_item_below_zero.ensures.said b.in-Some-short_item_below_zero.ensures.fits
-      | in_default+in_default-short_item_below_zero+in-Some-other_item_at b ↦
+      | in_default+in_default-short_item_below_zero+in-Some-long_item_at b ↦
+          reads l.left.now item b.in-Some-long_item_at.item b.item-is b.in-Some-long_item_at.ensures.said b.in-Some-long_item_at.ensures.fits
+      | in_default+in_default-short_item_below_zero+in_default-long_item_at+in-Some-other_item_at b ↦
           reads l.left.now item b.in-Some-other_item_at.item b.item-is b.in-Some-other_item_at.ensures.said b.in-Some-other_item_at.ensures.fits
     ] in
     let r = read.said.0 in
@@ -104,7 +110,9 @@ returns-then-item-clause-shorter c =
       | in-Some b ↦ reads l.left.now item b.in-Some.item b.item-is b.in-Some.ensures.said b.in-Some.ensures.fits
       | in_default+in-Some-short_item_below_zero b ↦
           reads l.left.now item b.in-Some-short_item_below_zero.item b.item-is b.in-Some-short_item_below_zero.ensures.said b.in-Some-short_item_below_zero.ensures.fits
-      | in_default+in_default-short_item_below_zero+in-Some-other_item_at b ↦
+      | in_default+in_default-short_item_below_zero+in-Some-long_item_at b ↦
+          reads l.left.now item b.in-Some-long_item_at.item b.item-is b.in-Some-long_item_at.ensures.said b.in-Some-long_item_at.ensures.fits
+      | in_default+in_default-short_item_below_zero+in_default-long_item_at+in-Some-other_item_at b ↦
           reads l.left.now item b.in-Some-other_item_at.item b.item-is b.in-Some-other_item_at.ensures.said b.in-Some-other_item_at.ensures.fits
     ] in
     let r = read.said.0 in
@@ -121,7 +129,9 @@ returns-then-item-clause-fewer c =
       | in-Some b ↦ reads l.left.now item b.in-Some.item b.item-is b.in-Some.ensures.said b.in-Some.ensures.fits
       | in_default+in-Some-short_item_below_zero b ↦
           reads l.left.now item b.in-Some-short_item_below_zero.item b.item-is b.in-Some-short_item_below_zero.ensures.said b.in-Some-short_item_below_zero.ensures.fits
-      | in_default+in_default-short_item_below_zero+in-Some-other_item_at b ↦
+      | in_default+in_default-short_item_below_zero+in-Some-long_item_at b ↦
+          reads l.left.now item b.in-Some-long_item_at.item b.item-is b.in-Some-long_item_at.ensures.said b.in-Some-long_item_at.ensures.fits
+      | in_default+in_default-short_item_below_zero+in_default-long_item_at+in-Some-other_item_at b ↦
           reads l.left.now item b.in-Some-other_item_at.item b.item-is b.in-Some-other_item_at.ensures.said b.in-Some-other_item_at.ensures.fits
     ] in
     let r = read.said.0 in
