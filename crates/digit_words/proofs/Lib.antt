@@ -1,1 +1,2 @@
 mod EightBytes
+mod FirstFlags

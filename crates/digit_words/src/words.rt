@@ -9,19 +9,21 @@ ghost use Rattle.core.specs.Slice.Scan.{digits_from, flag_word};
 ghost use Rattle.core.specs.Dec2flt.Digits.{IsEightDigits};
 ghost use Rattle.core.specs.Int.Digits.{number_from_digits};
 ghost use lib.Lanes.{number_l};
+ghost use Rattle.digit_words.specs.Flags.{IsFirstFlagOf};
 
 use core::dec2flt::ten_to;
 
 /// The digit zero in each byte.
 const ZEROS: u64 = 0x3030_3030_3030_3030;
 
-/// The high bit of each byte that is 10 or more. No sum carries into the next byte.
+/// The high bit of the first byte that is 10 or more, and no bit below it. What a sum carries gets to bytes behind that
+/// one alone, so that theirs say nothing.
 #[inline(always)]
 fn flags_from_ten(lanes: u64) -> u64
-    ensures { (byte : ℕ → ℕ) → ((k : ℕ) → byte k < 256) → lanes ≡ digits_from byte 0 8
-        → result ≡ flag_word (λ k. nat_le 10 (byte k)) }
+    ensures { (flags : ℕ) × ((byte : ℕ → ℕ) → ((k : ℕ) → byte k < 256) → lanes ≡ digits_from byte 0 8 → flags ≡ flag_word (λ k. nat_le 10 (byte k)))
+        × IsFirstFlagOf result flags }
 {
-    ((lanes & 0x7f7f_7f7f_7f7f_7f7f) + 0x7676_7676_7676_7676 | lanes) & 0x8080_8080_8080_8080
+    (lanes.wrapping_add(0x7676_7676_7676_7676) | lanes) & 0x8080_8080_8080_8080
 }
 
 /// The number that eight digits write.

@@ -18,7 +18,7 @@ use Rattle.json.specs.Lex.{token, other, class, between, in_word, lex_byte, lex}
 use Rattle.serde_json.specs.Data.{unsigned, negative}
 use Rattle.serde_json.specs.Read.{number_of, number_from}
 use Rattle.serde_json.specs.Find.{as_i64}
-use Rattle.json_tokens.specs.Lexemes.{ends_number, BeginsDigits, BeginsWhole}
+use Rattle.json_tokens.specs.Lexemes.{ends_number, BeginsDigits, BeginsItem, BeginsWhole}
 
 -- ---- the bytes behind a number
 
@@ -232,3 +232,10 @@ negative_whole t size rest d above fits = (
   between_other 45 t refl ∙ ap (λ w. token w ∷ lex in_word t) (signed_word t size rest d) ∙ ap (λ ls. token (number (45 ∷ take d.count t)) ∷ ls) (lexed t size rest d),
   ap (option_and_then as_i64) (negative_number (take d.count t) (digits_all t size rest d) (digits_some t size rest d) (subst (λ k. 0 < k) d.says above) (subst (λ k. k ≤ 2 ^ 63) d.says fits)) ∙ ap (λ k. Some (neg_ℤ (pos k))) (sym d.says),
 )
+
+-- ---- a space before a number
+
+pub item_behind_space : (t u : List ℕ) (mark : ℕ) (n : ℤ) (r : List ℕ) → t ≡ 32 ∷ u → BeginsItem u mark n r → BeginsItem t mark n r
+item_behind_space t u mark n r e item =
+    let over : lex between t ≡ lex between u = ap (lex between) e ∙ sym (space_over (32 ∷ u) 0 (omega arith) refl) in
+    (item.0, (item.1.0, over ∙ item.1.1, item.1.2), item.2)

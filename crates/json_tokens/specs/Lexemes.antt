@@ -8,7 +8,6 @@ use Rattle.json.specs.Word.{head, is_space}
 use Rattle.json.specs.Lex.{between, lex, token, colon, Place, fresh, after_value, may_begin, punctuate}
 use Rattle.serde_json.specs.Read.{number_of}
 use Rattle.serde_json.specs.Find.{as_i64}
-use Rattle.json_tokens.specs.declared.numbers.Item.{Item}
 
 abbrev pub place : Bool → Place
 place true = after_value
@@ -46,14 +45,9 @@ pub record ComeFirst (text : List ℕ) (digits : ℕ × ℕ) : Type 0 where
 abbrev pub BeginsWhole : List ℕ → ℤ → List ℕ → Type 0
 BeginsWhole text n rest = (s : List ℕ) × (lex between text ≡ token (number s) ∷ lex between rest) × (option_and_then as_i64 (number_of s) ≡ Some n)
 
--- the byte behind an item of a list: a comma, or the bracket that closes the list behind the last
-abbrev pub mark : Bool → ℕ
-mark true = 93
-mark false = 44
-
 -- the text begins with an item of a list, a whole number, and the mark behind it
-abbrev pub BeginsItem : List ℕ → Item → Type 0
-BeginsItem text item = (behind : List ℕ) × BeginsWhole text item.number behind × (lex between behind ≡ lex between (mark item.is_last ∷ item.rest.now))
+abbrev pub BeginsItem : List ℕ → ℕ → ℤ → List ℕ → Type 0
+BeginsItem text mark n rest = (behind : List ℕ) × BeginsWhole text n behind × (lex between behind ≡ lex between (mark ∷ rest))
 
 -- the text begins with a name and its colon
 abbrev pub BeginsName : List ℕ → List ℕ → List ℕ → Type 0

@@ -1,10 +1,10 @@
 //! Bytes at the front of a text.
-ghost use Rattle.std.specs.Prelude.{◌≡◌, ◌≤◌, ◌∷◌, length, IfSome};
+ghost use Rattle.std.specs.Prelude.{◌≡◌, ◌≤◌, ◌∷◌, true, length, IfSome};
 ghost use Rattle.std.specs.List.{prefix_len};
 ghost use Rattle.json.specs.Word.{head, is_space};
 ghost use Rattle.json.specs.Lex.{between, lex};
 ghost use Rattle.json.specs.Run.{is_plain};
-ghost use Rattle.json_tokens.specs.Lexemes.{ends_number, mark, BeginsDigits, BeginsName, ComeFirst};
+ghost use Rattle.json_tokens.specs.Lexemes.{ends_number, BeginsDigits, BeginsName, ComeFirst};
 
 use core::dec2flt::read_digits;
 use digit_words::{few_digits, more_digits};
@@ -97,39 +97,36 @@ pub fn short_digits(text: &[u8]) -> Option<(u64, &[u8])>
     Some((value, &text[count..]))
 }
 
-/// The number that so many digits at the front of a text write, with a comma right behind them or the bracket that
-/// closes a list, whether it is that, and what follows it.
+/// The number of the digits that come first, where the mark is right behind them, and what follows the mark.
 #[inline(always)]
-fn item_of(text: &[u8], digits: Option<(usize, u64)>) -> Option<(u64, bool, &[u8])>
+fn item_of(text: &[u8], mark: u8, digits: Option<(usize, u64)>) -> Option<(u64, &[u8])>
+    requires mark { ends_number mark ≡ true }
     requires digits { IfSome digits (ComeFirst text.now) }
-    ensures { IfSome result (λ found. BeginsDigits text.now found.0 (mark found.1 ∷ found.2.now)) }
+    ensures { IfSome result (λ found. BeginsDigits text.now found.0 (mark ∷ found.1.now)) }
 {
     let (count, value) = digits?;
-    let is_last = match text[count] {
-        b',' => false,
-        b']' => true,
-        _ => return None,
-    };
-    if count == 0 || (text[0] == b'0' && count != 1) {
+    if count == 0 || text[count] != mark || (text[0] == b'0' && count != 1) {
         return None;
     }
-    Some((value, is_last, &text[count + 1..]))
+    Some((value, &text[count + 1..]))
 }
 
 /// The same of fewer than eight digits, which are found at once.
 #[inline(always)]
-pub fn short_item(text: &[u8]) -> Option<(u64, bool, &[u8])>
-    ensures { IfSome result (λ found. BeginsDigits text.now found.0 (mark found.1 ∷ found.2.now)) }
+pub fn short_item(text: &[u8], mark: u8) -> Option<(u64, &[u8])>
+    requires mark { ends_number mark ≡ true }
+    ensures { IfSome result (λ found. BeginsDigits text.now found.0 (mark ∷ found.1.now)) }
 {
-    item_of(text, few_digits(text))
+    item_of(text, mark, few_digits(text))
 }
 
 /// The same of 8 to 15 digits, as times in milliseconds have them.
 #[inline(always)]
-pub fn long_item(text: &[u8]) -> Option<(u64, bool, &[u8])>
-    ensures { IfSome result (λ found. BeginsDigits text.now found.0 (mark found.1 ∷ found.2.now)) }
+pub fn long_item(text: &[u8], mark: u8) -> Option<(u64, &[u8])>
+    requires mark { ends_number mark ≡ true }
+    ensures { IfSome result (λ found. BeginsDigits text.now found.0 (mark ∷ found.1.now)) }
 {
-    item_of(text, more_digits(text))
+    item_of(text, mark, more_digits(text))
 }
 
 /// How many bytes come before the first that ends the text of a string, or begins an escape in it.

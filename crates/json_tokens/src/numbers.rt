@@ -1,9 +1,9 @@
 //! Whole numbers, as `as_i64` of `serde_json` gives them.
-ghost use Rattle.std.specs.Prelude.{FitsSigned, ◌≡◌, ◌<◌, ◌≤◌, ◌^◌, neg_ℤ, pos, IfSome};
+ghost use Rattle.std.specs.Prelude.{FitsSigned, ◌≡◌, ◌<◌, ◌≤◌, ◌^◌, true, neg_ℤ, pos, IfSome};
 ghost use Rattle.std.specs.Int.{w64};
 ghost use Rattle.serde_json.specs.Data.{unsigned as positive};
 ghost use Rattle.serde_json.specs.Find.{as_i64};
-ghost use Rattle.json_tokens.specs.Lexemes.{BeginsItem, BeginsWhole};
+ghost use Rattle.json_tokens.specs.Lexemes.{ends_number, BeginsItem, BeginsWhole};
 
 use crate::bytes::{
     behind, behind_mark, behind_spaces, digits, long_item, short_digits, short_item,
@@ -80,80 +80,76 @@ pub fn whole_at(text: &[u8]) -> Option<(i64, &[u8])>
     signed_at(behind_spaces(text))
 }
 
-/// A whole number of a list, whether it is the last, and what follows the mark behind it.
-#[derive(Clone, Copy)]
-pub struct Item<'a> {
-    pub number: i64,
-    pub is_last: bool,
-    pub rest: &'a [u8],
-}
-
-/// The item that comes first, where its digits are found at once and a mark stands right behind them.
+/// The whole number that comes first, where its digits are found at once and the mark is right behind them, and what
+/// follows the mark. In a list that is a comma, or the bracket behind the last.
 #[inline(always)]
-pub fn short_item_at(text: &[u8]) -> Option<Item<'_>>
-    ensures said { IfSome result (BeginsItem text.now) }
-    ensures fits { IfSome result (λ item. FitsSigned w64 item.number) }
+pub fn short_item_at(text: &[u8], mark: u8) -> Option<(i64, &[u8])>
+    requires mark { ends_number mark ≡ true }
+    ensures said { IfSome result (λ found. BeginsItem text.now mark found.0 found.1.now) }
+    ensures fits { IfSome result (λ found. FitsSigned w64 found.0) }
 {
-    let (size, is_last, rest) = short_item(text)?;
+    let (size, rest) = short_item(text, mark)?;
     let number = small(size)?;
-    Some(Item {
-        number,
-        is_last,
-        rest,
-    })
+    Some((number, rest))
 }
 
 /// The same of a number below zero.
 #[inline(always)]
-pub fn short_item_below_zero(text: &[u8]) -> Option<Item<'_>>
-    ensures said { IfSome result (BeginsItem text.now) }
-    ensures fits { IfSome result (λ item. FitsSigned w64 item.number) }
+pub fn short_item_below_zero(text: &[u8], mark: u8) -> Option<(i64, &[u8])>
+    requires mark { ends_number mark ≡ true }
+    ensures said { IfSome result (λ found. BeginsItem text.now mark found.0 found.1.now) }
+    ensures fits { IfSome result (λ found. FitsSigned w64 found.0) }
 {
     let unsigned = behind(text, b'-')?;
-    let (size, is_last, rest) = short_item(unsigned)?;
+    let (size, rest) = short_item(unsigned, mark)?;
     let number = negated(size)?;
-    Some(Item {
-        number,
-        is_last,
-        rest,
-    })
+    Some((number, rest))
 }
 
 /// The same of a number with 8 to 15 digits.
-// In line it took registers from the numbers with few digits.
-#[inline(never)]
-pub fn long_item_at(text: &[u8]) -> Option<Item<'_>>
-    ensures said { IfSome result (BeginsItem text.now) }
-    ensures fits { IfSome result (λ item. FitsSigned w64 item.number) }
+#[inline(always)]
+fn long_item_at(text: &[u8], mark: u8) -> Option<(i64, &[u8])>
+    requires mark { ends_number mark ≡ true }
+    ensures said { IfSome result (λ found. BeginsItem text.now mark found.0 found.1.now) }
+    ensures fits { IfSome result (λ found. FitsSigned w64 found.0) }
 {
-    let (size, is_last, rest) = long_item(text)?;
+    let (size, rest) = long_item(text, mark)?;
     let number = small(size)?;
-    Some(Item {
-        number,
-        is_last,
-        rest,
-    })
+    Some((number, rest))
 }
 
-/// The same of any.
+/// The same of a number with a space before it.
+#[inline(always)]
+pub fn short_item_behind_space(text: &[u8], mark: u8) -> Option<(i64, &[u8])>
+    requires mark { ends_number mark ≡ true }
+    ensures said { IfSome result (λ found. BeginsItem text.now mark found.0 found.1.now) }
+    ensures fits { IfSome result (λ found. FitsSigned w64 found.0) }
+{
+    short_item_at(behind(text, b' ')?, mark)
+}
+
+/// The same of any whole number of 64 bits, also with white space before it or before the mark.
 // In line it took registers from the numbers with few digits.
 #[inline(never)]
-pub fn other_item_at(text: &[u8]) -> Option<Item<'_>>
-    ensures said { IfSome result (BeginsItem text.now) }
-    ensures fits { IfSome result (λ item. FitsSigned w64 item.number) }
+pub fn other_item_at(text: &[u8], mark: u8) -> Option<(i64, &[u8])>
+    requires mark { ends_number mark ≡ true }
+    ensures said { IfSome result (λ found. BeginsItem text.now mark found.0 found.1.now) }
+    ensures fits { IfSome result (λ found. FitsSigned w64 found.0) }
 {
-    let (number, behind) = signed_at(behind_spaces(text))?;
-    if let Some(rest) = behind_mark(behind, b',') {
-        return Some(Item {
-            number,
-            is_last: false,
-            rest,
-        });
+    if let Some(found) = long_item_at(text, mark) {
+        return Some(found);
     }
-    let rest = behind_mark(behind, b']')?;
-    Some(Item {
-        number,
-        is_last: true,
-        rest,
-    })
+    let text = behind_spaces(text);
+    if let Some(found) = short_item_at(text, mark) {
+        return Some(found);
+    }
+    if let Some(found) = short_item_below_zero(text, mark) {
+        return Some(found);
+    }
+    if let Some(found) = long_item_at(text, mark) {
+        return Some(found);
+    }
+    let (number, behind) = signed_at(text)?;
+    let rest = behind_mark(behind, mark)?;
+    Some((number, rest))
 }

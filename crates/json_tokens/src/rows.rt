@@ -1,5 +1,5 @@
 //! Rows of whole numbers, one after another in one vector, by one pass over the bytes of a text.
-ghost use Rattle.std.specs.Prelude.{◌≡◌, ◌<◌, ◌≤◌, ◌++◌, ℤ, true, false, List, Some, IfOk, OnOk, length};
+ghost use Rattle.std.specs.Prelude.{◌≡◌, ◌<◌, ◌≤◌, ◌+◌, ◌++◌, ℤ, true, false, List, Some, IfOk, OnOk, length, vec_len, vec_capacity};
 ghost use Rattle.json.specs.Token.{Token as SpecToken};
 ghost use Rattle.json.specs.Lex.{between, lex};
 ghost use Rattle.json_parts.specs.Parts.{whole, list_text};
@@ -9,46 +9,57 @@ ghost use Rattle.json_tokens.specs.Rows.{row_text, joined};
 
 use crate::bytes::behind_mark;
 use crate::miss::Miss;
-use crate::numbers::{long_item_at, other_item_at, short_item_at, short_item_below_zero};
+use crate::numbers::{
+    other_item_at, short_item_at, short_item_behind_space, short_item_below_zero,
+};
 use crate::scanner::Scanner;
 
-/// Reads one number or more up to the closing bracket, puts them behind what `cells` holds, which is to
-/// be no more than `most`, and gives what follows the bracket.
+/// Reads so many numbers, a comma behind each but the last and the bracket that closes the list behind that, puts them
+/// behind what `cells` holds, and gives what follows the bracket.
 #[inline(always)]
 fn cells_at<'a>(
     text: &'a [u8],
     cells: &mut Vec<i64>,
-    most: usize,
+    width: usize,
     depth: usize,
 ) -> Result<&'a [u8], Miss>
+    requires some { 1 ≤ width }
+    requires room { vec_len cells.old + width ≤ vec_capacity cells.old }
     ensures said { IfOk result (λ rest. (row : List ℤ) × (parts whole depth (tokens_from false text.now) ≡ Some (row, tokens_from true rest.now))
-        × (cells.new.items ≡ cells.old.items ++ row)) }
+        × (cells.new.items ≡ cells.old.items ++ row) × (length row ≡ width)) }
+    ensures wide { OnOk result (vec_len cells.new ≡ vec_len cells.old + width) }
     ensures shorter { IfOk result (λ rest. length (tokens_from true rest.now) < length (tokens_from false text.now)) }
     ensures fewer { IfOk result (λ rest. length (lex between rest.now) < length (lex between text.now)) }
-    ensures within { OnOk result (length cells.new.items ≤ most) }
 {
     let mut left = text;
-    'cells: loop {
-        let item = if let Some(item) = short_item_at(left) {
-            item
-        } else if let Some(item) = short_item_below_zero(left) {
-            item
-        } else if let Some(item) = long_item_at(left) {
-            item
-        } else if let Some(item) = other_item_at(left) {
-            item
+    for _ in 1..width {
+        let (number, rest) = if let Some(found) = short_item_at(left, b',') {
+            found
+        } else if let Some(found) = short_item_below_zero(left, b',') {
+            found
+        } else if let Some(found) = short_item_behind_space(left, b',') {
+            found
+        } else if let Some(found) = other_item_at(left, b',') {
+            found
         } else {
             return Err(Miss::Other);
         };
-        if most <= cells.len() {
-            return Err(Miss::Other);
-        }
-        cells.push(item.number)?;
-        if item.is_last {
-            return Ok(item.rest);
-        }
-        left = item.rest;
+        cells.push_reserved(number);
+        left = rest;
     }
+    let (number, rest) = if let Some(found) = short_item_at(left, b']') {
+        found
+    } else if let Some(found) = short_item_below_zero(left, b']') {
+        found
+    } else if let Some(found) = short_item_behind_space(left, b']') {
+        found
+    } else if let Some(found) = other_item_at(left, b']') {
+        found
+    } else {
+        return Err(Miss::Other);
+    };
+    cells.push_reserved(number);
+    Ok(rest)
 }
 
 /// Reads a row of `width` numbers, puts them behind what `cells` holds, and gives what follows it.
@@ -66,19 +77,15 @@ fn row_at<'a>(
     ensures fewer { IfOk result (λ rest. length (lex between rest.now) < length (lex between text.now)) }
     ensures within { OnOk result (length cells.new.items ≤ most) }
 {
-    if depth == 0 {
-        return Err(Miss::Other);
-    }
     let Some(inner) = behind_mark(text, b'[') else {
         return Err(Miss::Other);
     };
-    let before = cells.len();
-    let rest = cells_at(inner, cells, most, depth - 1)?;
-    let after = cells.len();
-    if after < before || after - before != width {
+    let held = cells.len();
+    if depth == 0 || width == 0 || most < held || most - held < width {
         return Err(Miss::Other);
     }
-    Ok(rest)
+    cells.reserve(width)?;
+    cells_at(inner, cells, width, depth - 1)
 }
 
 /// Reads rows up to the closing bracket, and gives what follows it.

@@ -61,6 +61,8 @@ fn one_number_more_than_there_are_to_be(rt: HostRuntime) -> Result<(), Fail> {
         ("[[1],[2],[3],[4]]", 1, 3),
         ("[[1,2,3],[4,5,6]]", 3, 5),
         ("[[1]]", 1, 0),
+        ("[[1]]", 0, 3),
+        ("[[]]", 0, 3),
     ] {
         let refused = cells_of(&rt, text, width, most, 2).err();
         assert_eq!(rt; refused, Some(Miss::Other), "at {text}");
@@ -129,6 +131,42 @@ fn digits_within_eight_bytes_and_beyond(rt: HostRuntime) -> Result<(), Fail> {
         "[[1}],[1234567]]",
     ] {
         let refused = cells_of(&rt, text, 1, 2, 2).err();
+        assert_eq!(rt; refused, Some(Miss::Other), "at {text}");
+    }
+    Ok(())
+}
+
+/// A number of a row with a comma behind it, or the bracket behind the last, also with white space before them.
+#[test]
+fn marks_behind_numbers(rt: HostRuntime) -> Result<(), Fail> {
+    for (text, want) in [
+        ("[[7,12]]        ", [7, 12]),
+        ("[[ 7, 12]]        ", [7, 12]),
+        ("[[ 1234567, 12345678]]        ", [1_234_567, 12_345_678]),
+        ("[[-1234567, -1234567]]        ", [-1_234_567, -1_234_567]),
+        ("[[  0 , \t-12345678 ]]        ", [0, -12_345_678]),
+        (
+            "[[1700000000000, 1700000000001]]        ",
+            [1_700_000_000_000, 1_700_000_000_001],
+        ),
+    ] {
+        let cells = cells_of(&rt, text, 2, 2, 2)?;
+        assert_eq!(rt; cells.as_slice(), want.as_slice(), "at {text}");
+    }
+    for text in [
+        "[[1]]        ",
+        "[[1,2,3]]        ",
+        "[[1],2]        ",
+        "[[1;2]]        ",
+        "[[1,2;]]        ",
+        "[[01,2]]        ",
+        "[[1, 02]]        ",
+        "[[1, -0]]        ",
+        "[[1, ]]        ",
+        "[[, 1]]        ",
+        "[[1 2]]        ",
+    ] {
+        let refused = cells_of(&rt, text, 2, 3, 2).err();
         assert_eq!(rt; refused, Some(Miss::Other), "at {text}");
     }
     Ok(())

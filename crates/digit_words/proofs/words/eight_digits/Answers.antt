@@ -12,14 +12,16 @@ returns-clause-counted c =
     let bs = c.args.bytes.now in
     let eight : IsEightBytes bs = (c.told-bytes, bytes_of bs c.fits-bytes) in
     let is = c.from_le_bytes-lanes.ensures ∙ word_of_eight bs c.told-bytes in
-    all_digits bs _ eight is _ c.flags_from_ten.ensures (omega (arith, c.if-flags_from_ten-ne0.false))
+    let told = c.flags_from_ten.ensures in
+    all_digits bs _ eight is told.0 told.1 (told.2.none (omega (arith, c.if-flags_from_ten-ne0.false)))
 
 pub returns-clause-says : goal.returns-clause-says
 returns-clause-says c =
     let bs = c.args.bytes.now in
     let eight : IsEightBytes bs = (c.told-bytes, bytes_of bs c.fits-bytes) in
     let is = c.from_le_bytes-lanes.ensures ∙ word_of_eight bs c.told-bytes in
-    let all = all_digits bs _ eight is _ c.flags_from_ten.ensures (omega (arith, c.if-flags_from_ten-ne0.false)) in
+    let told = c.flags_from_ten.ensures in
+    let all = all_digits bs _ eight is told.0 told.1 (told.2.none (omega (arith, c.if-flags_from_ten-ne0.false))) in
     let word = bit_xor c.from_le_bytes-lanes.result 0x3030_3030_3030_3030 in
     let small : word < 2 ^ 64 = xor_lt 64 c.from_le_bytes-lanes.result 0x3030_3030_3030_3030 (search rules) (omega arith) in
     let s = shifted_is bs 8 word eight (omega (arith, all)) (omega arith) (omega (arith, small, lanes_are bs _ eight is)) in
@@ -30,5 +32,6 @@ returns-then-flags_from_ten-ne0-clause-none c =
     let bs = c.args.bytes.now in
     let eight : IsEightBytes bs = (c.told-bytes, bytes_of bs c.fits-bytes) in
     let is = c.from_le_bytes-lanes.ensures ∙ word_of_eight bs c.told-bytes in
-    let first = first_other bs _ eight is _ c.flags_from_ten.ensures (omega (arith, c.if-flags_from_ten-ne0.true)) in
+    let told = c.flags_from_ten.ensures in
+    let first = first_other bs _ eight is told.0 told.1 (told.2.some (omega (arith, c.if-flags_from_ten-ne0.true))) in
     omega (arith, first.0, first.1)
