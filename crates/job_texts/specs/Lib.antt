@@ -8,3 +8,4 @@ pub mod Tells
 pub mod ShowText
 pub mod Readers
 pub mod Ends
+pub mod Front

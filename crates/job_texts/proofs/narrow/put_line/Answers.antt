@@ -14,30 +14,33 @@ use Rattle.job_texts.proofs.narrow.put_line.Goals as goal
 back : (z : ℤ) → FitsSigned w64 z → to_z w64 (of_z w64 z) ≡ z
 back z h = to_z-of_z w64 z h
 
-five : (a b k v n : List ℕ) → a ++ (b ++ (k ++ (v ++ n))) ≡ (((a ++ b) ++ k) ++ v) ++ n
-five a b k v n = sym (append_assoc ((a ++ b) ++ k) v n ∙ append_assoc (a ++ b) k (v ++ n) ∙ append_assoc a b (k ++ (v ++ n)))
+line_feed : (line : List ℕ) → length line ≡ 256 → drop 255 (set line 255 10) ≡ 10 ∷ []
+line_feed line all = drop-set line 255 10 (omega arith) ∙ ap (λ l. 10 ∷ l) (drop_all 256 line (omega arith))
+
+four : (a k v n : List ℕ) → a ++ (k ++ (v ++ n)) ≡ ((a ++ k) ++ v) ++ n
+four a k v n = sym (append_assoc (a ++ k) v n ∙ append_assoc a k (v ++ n))
 
 pub returns-clause-written : goal.returns-clause-written
 returns-clause-written c =
     let row = c.args.row.now in
+    let turned = c.turn_to.ensures in
     let all : length c.args.line.now ≡ 256 = search rules in
-    let last : drop 255 (set c.args.line.now 255 10) ≡ 10 ∷ [] = drop-set c.args.line.now 255 10 (omega arith) ∙ ap (λ l. 10 ∷ l) (drop_all 256 c.args.line.now (omega arith)) in
-    let values = c.put_numbers-start.ensures.written ∙ ap (λ l. flat_map spaced c.args.numbers.now ++ l) last ∙ ap (λ zs. flat_map spaced zs ++ 10 ∷ []) c.requires.same in
+    let values = c.put_numbers-start.ensures.written ∙ (λ i. flat_map spaced (c.requires.same i) ++ line_feed c.args.line.now all i) in
     let key = c.put_number-start.ensures.written ∙ (λ i. spaced (back row.key (search rules) i) ++ values i) in
-    let end = c.put_number-start-2.ensures.written ∙ (λ i. spaced (back row.end (search rules) i) ++ key i) in
-    let start = c.put_number.ensures.written ∙ (λ i. spaced (back row.start (search rules) i) ++ end i) in
-    sym (drop-drop 1 c.put_number.result c.put_number.new.line) ∙ ap (drop 1) start
-    ∙ five (signed_decimal row.start) (spaced row.end) (spaced row.key) (flat_map spaced row.values) (10 ∷ [])
+    let front = c.put.ensures.written ∙ (λ i. (spaced (turned.start i) ++ spaced (turned.end i)) ++ key i) in
+    sym (drop-drop 1 c.put.result c.put.new.line) ∙ ap (drop 1) front
+    ∙ four (signed_decimal row.start ++ spaced row.end) (spaced row.key) (flat_map spaced row.values) (10 ∷ [])
 
 pub returns-clause-ascii : goal.returns-clause-ascii
 returns-clause-ascii c =
     let row = c.args.row.now in
-    let start : IsAscii (spaced row.start) = subst (λ z. IsAscii (spaced z)) (back row.start (search rules)) c.put_number.ensures.ascii in
-    let end : IsAscii (spaced row.end) = subst (λ z. IsAscii (spaced z)) (back row.end (search rules)) c.put_number-start-2.ensures.ascii in
+    let turned = c.turn_to.ensures in
+    let front : IsAscii (spaced row.start ++ spaced row.end) =
+    subst (λ z. IsAscii (spaced row.start ++ spaced z)) turned.end
+    (subst (λ z. IsAscii (spaced z ++ spaced c.turn_to.new.self.end)) turned.start turned.front.ascii) in
     let key : IsAscii (spaced row.key) = subst (λ z. IsAscii (spaced z)) (back row.key (search rules)) c.put_number-start.ensures.ascii in
     let values : IsAscii (flat_map spaced row.values) = subst (λ zs. IsAscii (flat_map spaced zs)) c.requires.same c.put_numbers-start.ensures.ascii in
     IsAscii-append _ (10 ∷ [])
     (IsAscii-append _ (flat_map spaced row.values)
-    (IsAscii-append _ (spaced row.key)
-    (IsAscii-append (signed_decimal row.start) (spaced row.end) (IsAscii-drop (spaced row.start) 1 start) end) key) values)
+    (IsAscii-append (signed_decimal row.start ++ spaced row.end) (spaced row.key) (IsAscii-drop (spaced row.start ++ spaced row.end) 1 front) key) values)
     (IsAscii-cons 10 [] (omega arith) IsAscii-nil)
