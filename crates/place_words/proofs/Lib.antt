@@ -1,1 +1,3 @@
 pub mod Numbers
+mod Placed
+mod Columns

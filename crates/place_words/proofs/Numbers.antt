@@ -19,7 +19,7 @@ AgreeBelow x ws vs = (k : ℕ) → k < x → word vs k ≡ word ws k
 abbrev pub IsSameFrom : ℕ → List ℤ → ℕ → List ℤ → ℕ → Type 0
 IsSameFrom n ws x vs y = (k : ℕ) → k < n → word vs (y + k) ≡ word ws (x + k)
 
-number-same : (count : ℕ) (k : Kind) (ws vs : List ℤ) (x y : ℕ) → IsSameFrom (width_of k) ws x vs y → number_at count k vs y ≡ number_at count k ws x
+pub number-same : (count : ℕ) (k : Kind) (ws vs : List ℤ) (x y : ℕ) → IsSameFrom (width_of k) ws x vs y → number_at count k vs y ≡ number_at count k ws x
 number-same count Count ws vs x y h = refl
 number-same count Sum ws vs x y h =
     let first : word vs y ≡ word ws x = (λ i. word vs (plain y i)) ∙ h 0 (omega arith) ∙ (λ i. word ws (sym (plain x) i)) in

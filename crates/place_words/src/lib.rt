@@ -4,5 +4,6 @@
 mod words;
 
 pub use words::{
-    add_record, copy_narrow, copy_numbers, row_numbers_at, stride_of, write_entry, write_first,
+    PlacedRow, add_record, add_rows, copy_narrow, copy_numbers, row_numbers_at, stride_of,
+    write_entry, write_first,
 };

@@ -1,16 +1,18 @@
 //! The words of a place: its count, and then those of the number of each aggregate. A sum has two, and a
 //! `count` none, since it is the place's.
 
-ghost use Rattle.std.specs.Prelude.{◌≡◌, true, ℕ, ◌+ℤ◌, ◌+◌, ◌-◌, ◌*◌, ◌^◌, ◌<◌, ◌≤◌, [], map, length, slice_index_or, unsigned_abs, IfOk};
+ghost use Rattle.std.specs.Prelude.{◌≡◌, true, ℕ, pos, if◌then◌else◌, ◌+ℤ◌, ◌+◌, ◌-◌, ◌*◌, ◌^◌, ◌<◌, ◌≤◌, [], map, length, slice_index_or, unsigned_abs, IfOk};
 ghost use Rattle.std.specs.List.{All, list_all};
 ghost use Rattle.byte_fields.specs.Fields as fields;
 ghost use Rattle.plan_model.specs.PlanData.{has_column};
 ghost use Rattle.plan_model.specs.Aggregates.{number_of};
 ghost use Rattle.plan_model.specs.declared.limits.TheConstants.{MOST_AGGREGATES};
+ghost use Rattle.aggregates.specs.declared.kind.Kind.TheVariants.{Sum, Least, Greatest};
 ghost use Rattle.aggregates.specs.Kinds.{is_number, are_numbers, kind_of, merge_by, merge_all, IsAcc};
 ghost use Rattle.savepoint_codec.specs.Numbers.{numbers_of};
 ghost use Rattle.place_words.specs.Words as words_of;
 ghost use Rattle.place_words.specs.Words.{acc_in, count_of, sum_of, width, word, IsWritten};
+ghost use Rattle.place_words.specs.PlacedRows.{rows_to, records_to, with_records, merged_to, AreFew, AreApart, IsInPlaces, IsPlaceOf};
 
 use aggregates::number_of_one;
 use columns::Batch;
@@ -299,5 +301,133 @@ pub fn add_record(words: &mut [i64], at: usize, aggregates: &[Aggregate], batch:
     let mut at = at + 1;
     for aggregate in aggregates {
         at += add_number(words, at, *aggregate, batch, row);
+    }
+}
+
+/// A row of a batch, and where the words of the place begin that it goes to.
+#[derive(Clone, Copy, Debug)]
+pub struct PlacedRow {
+    pub row: usize,
+    pub at: usize,
+}
+
+/// Counts the rows that go to each place.
+fn count_rows(words: &mut [i64], rows: &[PlacedRow])
+    requires room { All (λ r. r.at < length words.old) rows.now }
+    requires few { All (λ r. AreFew words.old rows.now r.at) rows.now }
+    ensures counted { (x : ℕ) → word words.new x ≡ word words.old x +ℤ pos (rows_to x rows.now) }
+    ensures len { length words.new ≡ length words.old }
+{
+    for placed in rows {
+        words[placed.at] += 1;
+    }
+}
+
+/// Brings the numbers of rows in, of one aggregate, whose words begin so far behind those of their places.
+fn add_column(
+    words: &mut [i64],
+    rows: &[PlacedRow],
+    offset: usize,
+    aggregate: Aggregate,
+    batch: &Batch,
+)
+    requires rows_in { All (λ r. r.row < length batch.now.rows) rows.now }
+    requires column_in { has_column batch.now.width aggregate }
+    requires room { All (λ r. r.at + offset + words_of.width_of (kind_of aggregate) ≤ length words.old) rows.now }
+    requires apart { All (λ r. All (λ s. AreApart (words_of.width_of (kind_of aggregate)) r.at s.at) rows.now) rows.now }
+    requires few { All (λ r. (n : ℕ) × (n + rows_to r.at rows.now ≤ 2 ^ 41) ×
+        (is_number n (kind_of aggregate) (words_of.number_at n (kind_of aggregate) words.old (r.at + offset)) ≡ true)) rows.now }
+    ensures len { length words.new ≡ length words.old }
+    ensures others { (y : ℕ) → All (λ r. r.at + offset ≤ y → r.at + offset + words_of.width_of (kind_of aggregate) ≤ y) rows.now
+        → word words.new y ≡ word words.old y }
+    ensures fit { All (λ r. fields.is_i64 (number_of aggregate (slice_index_or batch.now.rows r.row []) []) ≡ true) rows.now }
+    ensures added { (n x : ℕ) → All (λ r. AreApart (words_of.width_of (kind_of aggregate)) x r.at) rows.now
+        → words_of.number_at (n + rows_to x rows.now) (kind_of aggregate) words.new (x + offset)
+        ≡ merged_to (kind_of aggregate) (λ r. number_of aggregate (slice_index_or batch.now.rows r.row []) []) x rows.now
+        (words_of.number_at n (kind_of aggregate) words.old (x + offset)) }
+{
+    match aggregate {
+        Aggregate::Count => (),
+        Aggregate::Sum(c) => add_sums(words, rows, offset, batch.column(c as usize)),
+        Aggregate::Least(c) => put_least(words, rows, offset, batch.column(c as usize)),
+        Aggregate::Greatest(c) => put_greatest(words, rows, offset, batch.column(c as usize)),
+    }
+}
+
+/// Adds numbers of rows to sums.
+fn add_sums(words: &mut [i64], rows: &[PlacedRow], offset: usize, numbers: &[i64])
+    requires rows_in { All (λ r. r.row < length numbers.now) rows.now }
+    requires room { All (λ r. r.at + offset + 2 ≤ length words.old) rows.now }
+    requires apart { All (λ r. All (λ s. AreApart 2 r.at s.at) rows.now) rows.now }
+    requires small { All (λ r. unsigned_abs
+        (sum_of (word words.old (r.at + offset)) (word words.old (r.at + offset + 1))) + rows_to r.at rows.now * 2 ^ 63 ≤ 2 ^ 104) rows.now }
+    ensures len { length words.new ≡ length words.old }
+    ensures others { (y : ℕ) → All (λ r. r.at + offset ≤ y → r.at + offset + 2 ≤ y) rows.now → word words.new y ≡ word words.old y }
+    ensures fit { All (λ r. fields.is_i64 (slice_index_or numbers.now r.row (pos 0)) ≡ true) rows.now }
+    ensures added { (x : ℕ) → All (λ r. AreApart 2 x r.at) rows.now
+        → sum_of (word words.new (x + offset)) (word words.new (x + offset + 1))
+        ≡ merged_to Sum (λ r. slice_index_or numbers.now r.row (pos 0)) x rows.now
+        (sum_of (word words.old (x + offset)) (word words.old (x + offset + 1))) }
+{
+    for placed in rows {
+        add_to_sum(words, placed.at + offset, numbers[placed.row]);
+    }
+}
+
+/// Makes words the least of themselves and numbers of rows.
+fn put_least(words: &mut [i64], rows: &[PlacedRow], offset: usize, numbers: &[i64])
+    requires rows_in { All (λ r. r.row < length numbers.now) rows.now }
+    requires room { All (λ r. r.at + offset < length words.old) rows.now }
+    ensures len { length words.new ≡ length words.old }
+    ensures others { (y : ℕ) → All (λ r. r.at + offset ≤ y → r.at + offset + 1 ≤ y) rows.now → word words.new y ≡ word words.old y }
+    ensures fit { All (λ r. fields.is_i64 (slice_index_or numbers.now r.row (pos 0)) ≡ true) rows.now }
+    ensures put { (x : ℕ) → word words.new (x + offset)
+        ≡ merged_to Least (λ r. slice_index_or numbers.now r.row (pos 0)) x rows.now (word words.old (x + offset)) }
+{
+    for placed in rows {
+        let at = placed.at + offset;
+        words[at] = words[at].min(numbers[placed.row]);
+    }
+}
+
+/// Makes words the greatest of themselves and numbers of rows.
+fn put_greatest(words: &mut [i64], rows: &[PlacedRow], offset: usize, numbers: &[i64])
+    requires rows_in { All (λ r. r.row < length numbers.now) rows.now }
+    requires room { All (λ r. r.at + offset < length words.old) rows.now }
+    ensures len { length words.new ≡ length words.old }
+    ensures others { (y : ℕ) → All (λ r. r.at + offset ≤ y → r.at + offset + 1 ≤ y) rows.now → word words.new y ≡ word words.old y }
+    ensures fit { All (λ r. fields.is_i64 (slice_index_or numbers.now r.row (pos 0)) ≡ true) rows.now }
+    ensures put { (x : ℕ) → word words.new (x + offset)
+        ≡ merged_to Greatest (λ r. slice_index_or numbers.now r.row (pos 0)) x rows.now (word words.old (x + offset)) }
+{
+    for placed in rows {
+        let at = placed.at + offset;
+        words[at] = words[at].max(numbers[placed.row]);
+    }
+}
+
+/// Brings rows of a batch in, each in its place, aggregate by aggregate. It comes to the same as row by row.
+pub fn add_rows(words: &mut [i64], rows: &[PlacedRow], aggregates: &[Aggregate], batch: &Batch)
+    requires rows_in { All (λ r. r.row < length batch.now.rows) rows.now }
+    requires few_aggregates { length aggregates.now ≤ MOST_AGGREGATES }
+    requires columns_in { All (has_column batch.now.width) aggregates.now }
+    requires places { All (λ r. IsPlaceOf (map kind_of aggregates.now) words.old r.at) rows.now }
+    requires few { All (λ r. AreFew words.old rows.now r.at) rows.now }
+    ensures len { length words.new ≡ length words.old }
+    ensures sound { (x : ℕ) → IsPlaceOf (map kind_of aggregates.now) words.old x → AreFew words.old rows.now x
+        → IsAcc (acc_in (map kind_of aggregates.now) words.new x) }
+    ensures added { (x : ℕ) → IsInPlaces (map kind_of aggregates.now) words.old x
+        → acc_in (map kind_of aggregates.now) words.new x
+        ≡ record {
+          kinds = map kind_of aggregates.now;
+          total =
+              with_records aggregates.now (acc_in (map kind_of aggregates.now) words.old x).total (records_to x batch.now.rows rows.now);
+        } }
+{
+    count_rows(words, rows);
+    let mut offset = 1;
+    for aggregate in aggregates {
+        add_column(words, rows, offset, *aggregate, batch);
+        offset += width_of(*aggregate);
     }
 }
