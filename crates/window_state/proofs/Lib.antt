@@ -17,3 +17,7 @@ mod InOrder
 mod Joined
 mod Pushing
 mod Rising
+mod RecordsMore
+mod RecordsPlaced
+mod Nowhere
+mod Listed

@@ -51,7 +51,7 @@ pub record KeepsSlices (s t : Inside) : Type 0 where
   pub from : t.from ≡ s.from
   pub slices : t.spans.entries ≡ s.spans.entries
 
-same_sliced : (s t : Inside) → KeepsSlices s t → (q : Pane) → in_spans t.places.window t.spans.entries q ≡ in_spans s.places.window s.spans.entries q
+pub same_sliced : (s t : Inside) → KeepsSlices s t → (q : Pane) → in_spans t.places.window t.spans.entries q ≡ in_spans s.places.window s.spans.entries q
 same_sliced s t k q = λ i. in_spans (k.window i) (k.slices i) q
 
 pub whole_kept : (v w : WindowSpec) (f g : ℤ) → w ≡ v → g ≡ f → AreWhole v f → AreWhole w g
@@ -110,6 +110,17 @@ same_standing s t k places q = λ i. cond (int_lt q.start (k.from i)) (total_at 
 pub opened_more : (s t : Inside) → IsWindowsInside s → KeepsSlices s t → t.places.entries ≡ s.places.entries → ((q : Pane) → has_open s.opened.entries q ≡ true → has_open t.opened.entries q ≡ true) → IsWindowsInside t
 opened_more s t is k places still =
     inside_kept s t is k (λ q some. still q (is.opened q (ap is_some (sym (same_standing s t k places q)) ∙ some))) (λ q some. ap (int_lt q.start) k.from ∙ is.below q (ap (λ es. is_some (acc_at es q)) (sym places) ∙ some))
+
+-- more in the places, and more panes open
+pub inside_grown : (s t : Inside) → IsWindowsInside s → KeepsSlices s t → AreOpen t.opened.entries (total_at t.places.entries)
+    → ((q : Pane) → has_open s.opened.entries q ≡ true → has_open t.opened.entries q ≡ true)
+    → ((q : Pane) → is_some (acc_at t.places.entries q) ≡ true → int_lt q.start t.from ≡ true) → IsWindowsInside t
+inside_grown s t is k opened still below = inside_kept s t is k (λ q some. side q (int_lt q.start s.from) refl some) below
+  where
+    side : (q : Pane) (b : Bool) → int_lt q.start s.from ≡ b → is_some (standing t q) ≡ true → has_open t.opened.entries q ≡ true
+    side q true before some = opened q (ap is_some (sym (standing_before t q (ap (int_lt q.start) k.from ∙ before))) ∙ some)
+    side q false later some =
+        still q (is.opened q (ap is_some (standing_later s q later ∙ sym (same_sliced s t k q) ∙ sym (standing_later t q (ap (int_lt q.start) k.from ∙ later))) ∙ some))
 
 -- views that have the same in each pane
 pub same_view : (s t : Inside) → IsWindowsInside s → IsWindowsInside t → KeepsSlices s t → ((q : Pane) → standing t q ≡ standing s q) → windows_view t ≡ windows_view s

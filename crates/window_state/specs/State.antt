@@ -21,8 +21,11 @@ pub record StateData : Type 0 where
   pub has_failed : Bool
 
 -- each window that some of the records reach can take those that reach it
+abbrev pub HasRoom : WindowSpec → List Record → (Pane → Option Aggregated) → Type 0
+HasRoom w records f = (q : Pane) (a b : Aggregated) → f q ≡ Some a → aggregate_at w records q ≡ Some b → a.count + b.count ≤ 2 ^ 41
+
 abbrev pub HasRoomFor : WindowSpec → List Record → FinMap pane_cmp Aggregated → Type 0
-HasRoomFor w records m = (q : Pane) (a b : Aggregated) → get m q ≡ Some a → aggregate_at w records q ≡ Some b → a.count + b.count ≤ 2 ^ 41
+HasRoomFor w records m = HasRoom w records (get m)
 
 -- the same of the windows that begin before a number
 abbrev pub HasRoomBefore : WindowSpec → ℤ → List Record → FinMap pane_cmp Aggregated → Type 0

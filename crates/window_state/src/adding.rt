@@ -12,7 +12,8 @@ ghost use Rattle.plan_model.specs.Rows.{aggregate_at};
 ghost use Rattle.window_state.specs.State.{HasRoomBefore, HasRoomFor, TakesIn, TakesInLater};
 ghost use Rattle.window_state.specs.Windows.{CanAggregate, IsStart, is_pane};
 
-use crate::windows::Windows;
+use crate::together::add_together;
+use crate::windows::{NOWHERE, Windows};
 use columns::Batch;
 use plan_model::Pane;
 use std::alloc::AllocError;
@@ -103,8 +104,8 @@ fn add_record(
 {
     let w = windows.window();
     let time = batch.value(row, w.time as usize);
-    // Where windows may be made of slices the slide divides the size, so that the oldest window begins so far before
-    // the last.
+    // Where windows may be made of slices the slide divides the size, so that the oldest window of a time begins a
+    // size less a slide before its last; else all begin before `from`.
     let oldest = time - first as i64 - (w.size - w.slide);
     add_later(windows, batch, row, first)?;
     if (oldest as i128) < windows.from {
@@ -112,6 +113,9 @@ fn add_record(
     }
     Ok(())
 }
+
+/// The fewest rows of a batch that are brought in together: to list the places of fewer costs more.
+const FEWEST_ROWS: usize = 4;
 
 /// Brings each record of a batch in at each window of its time.
 pub(crate) fn add_batch(windows: &mut Windows, batch: &Batch) -> Result<(), AllocError>
@@ -121,6 +125,15 @@ pub(crate) fn add_batch(windows: &mut Windows, batch: &Batch) -> Result<(), Allo
     ensures window_stays { windows.new.window ≡ windows.old.window }
     ensures added { OnOk result (TakesIn batch.now.rows windows.old windows.new) }
 {
+    let w = windows.window();
+    if FEWEST_ROWS <= batch.len() && w.slide == w.size && windows.from == NOWHERE {
+        return add_together(
+            windows.alloc,
+            &mut windows.places,
+            &mut windows.opened,
+            batch,
+        );
+    }
     let mut start = None;
     for row in 0..batch.len() {
         let w = windows.window();

@@ -75,7 +75,7 @@ pub(crate) fn remove_due(windows: &mut Windows, watermark: i64)
     windows.from = from.max(first_undue(windows.places.window(), watermark));
     drop_spans(&mut windows.spans, windows.places.window(), windows.from);
     // Clearing takes time for each pane that the map has memory for.
-    let is_filled = windows.places.capacity() / 4 <= windows.places.len();
+    let is_filled = windows.places.is_filled();
     if is_filled && are_all_due(&windows.opened, windows.places.window(), watermark) {
         windows.opened.clear();
         windows.places.clear();

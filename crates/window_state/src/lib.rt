@@ -9,6 +9,7 @@ mod opened;
 pub mod parts;
 mod places;
 mod state;
+mod together;
 mod windows;
 
 pub use fault::StateFault;

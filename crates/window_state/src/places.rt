@@ -1,27 +1,29 @@
 //! The places of panes.
 
-ghost use Rattle.std.specs.Prelude.{◌≡◌, true, false, pos, ◌++◌, ◌∷◌, [], ◌^◌, ◌<◌, ◌≤◌, ◌*◌, ◌&&◌, length, map, replicate, slice_index_or, IfOk, IfSome, IfNone, not, OnOk, OnErr, Some, None, is_some, if◌then◌else◌};
+ghost use Rattle.std.specs.Prelude.{◌≡◌, ℕ, true, false, pos, ◌+◌, ◌++◌, ◌∷◌, [], ◌^◌, ◌<◌, ◌≤◌, ◌*◌, ◌&&◌, length, map, replicate, slice_index_or, IfOk, IfSome, IfNone, not, OnOk, OnErr, Some, None, is_some, if◌then◌else◌};
 ghost use Rattle.std.specs.List.{All, IsDistinct, list_any};
 ghost use Rattle.std.specs.List.Sorted.{IsStrictlySortedBy};
 ghost use Rattle.std.specs.Option.{option_map, option_or};
 ghost use Rattle.std.specs.Ordering.{int_eq};
 ghost use Rattle.plan_model.specs.declared.spec.Pane.{Pane as PaneValue};
 ghost use Rattle.plan_model.specs.Aggregates.{aggregate_of, merge};
-ghost use Rattle.plan_model.specs.Rows.{pane_cmp};
+ghost use Rattle.plan_model.specs.Rows.{aggregate_at, pane_cmp};
 ghost use Rattle.aggregates.specs.Kinds.{AccData, IsAcc, kind_of};
 ghost use Rattle.savepoint_codec.specs.EntriesView.{entry_data};
 ghost use Rattle.packed_parts.specs.Packing.{part_of};
 ghost use Rattle.window_state.specs.Windows.{acc_at, has_pane, is_pane, total_at, CanAggregate, IsOperator, IsStart};
 ghost use Rattle.window_state.specs.Open.{has_key};
 ghost use Rattle.window_state.specs.Parts.{IsPartOf};
-ghost use Rattle.window_state.specs.Placing.{panes_placed, IsPlaceIn};
+ghost use Rattle.window_state.specs.Placing.{last_pane, panes_placed, records_placed, HasWordsAt, IsPlaceIn};
+ghost use Rattle.window_state.specs.State.{HasRoom};
 
 use columns::Batch;
 use indexmap::IndexSet;
 use packed_parts::Packing;
 use pane_hashes::HashKeys;
 use place_words::{
-    add_record, copy_narrow, copy_numbers, row_numbers_at, stride_of, write_entry, write_first,
+    PlacedRow, add_record, add_rows, copy_narrow, copy_numbers, row_numbers_at, stride_of,
+    write_entry, write_first,
 };
 use plan_model::{MOST_AGGREGATES, Numbers, Pane, WindowSpec};
 use savepoint_codec::{Entry, Numbers as EntryNumbers};
@@ -100,14 +102,9 @@ impl Places {
         &self.window
     }
 
-    /// How many places there are.
-    pub fn len(&self) -> usize {
-        self.panes.len()
-    }
-
-    /// For how many places there is memory.
-    pub fn capacity(&self) -> usize {
-        self.panes.capacity()
+    /// Whether a quarter of the places that there is memory for are taken.
+    pub fn is_filled(&self) -> bool {
+        self.panes.capacity() / 4 <= self.panes.len()
     }
 
     /// The number of each aggregate in a pane, if it has a place.
@@ -210,6 +207,33 @@ impl Places {
         true
     }
 
+    /// Where the words of a pane's place begin, if it has one.
+    pub fn words_at(&self, pane: &Pane) -> Option<usize>
+        ensures there { is_some result ≡ is_some (acc_at self.now.entries pane.now) }
+        ensures at { IfSome result (HasWordsAt self.now pane.now) }
+    {
+        let Some(place) = self.panes.get_index_of(pane) else {
+            return None;
+        };
+        Some(place * self.stride)
+    }
+
+    /// Brings rows of a batch in, each in the one window of its time, where windows are as long as their slide. A row
+    /// names where the words of its pane's place begin.
+    pub fn add_rows(&mut self, rows: &[PlacedRow], batch: &Batch)
+        requires rows_in { All (λ r. r.row < length batch.now.rows) rows.now }
+        requires window { CanAggregate batch.now.width self.old.window }
+        requires one { self.old.window.slide ≡ self.old.window.size }
+        requires places { All (λ r. HasWordsAt self.old (last_pane self.old.window (slice_index_or batch.now.rows r.row [])) r.at) rows.now }
+        requires room { HasRoom self.old.window (records_placed batch.now.rows rows.now) (total_at self.old.entries) }
+        ensures window_stays { self.new.window ≡ self.old.window }
+        ensures added { (q : PaneValue) → total_at self.new.entries q ≡ merge self.old.window.aggregates (total_at self.old.entries q) (aggregate_at self.old.window (records_placed batch.now.rows rows.now) q) }
+        ensures panes { (q : PaneValue) → is_some (acc_at self.new.entries q) ≡ is_some (acc_at self.old.entries q) }
+    {
+        let aggregates = self.window.aggregates.as_slice();
+        add_rows(self.words.as_mut_slice(), rows, aggregates, batch);
+    }
+
     /// Gives a pane a place, and brings a record in.
     pub fn push_first(&mut self, pane: Pane, batch: &Batch, row: usize) -> Result<(), AllocError>
         requires row_in { row < length batch.now.rows }
@@ -220,6 +244,7 @@ impl Places {
         ensures added { OnOk result ((q : PaneValue) → total_at self.new.entries q
             ≡ (if is_pane pane q then aggregate_of self.old.window.aggregates (slice_index_or batch.now.rows row [] ∷ []) else total_at self.old.entries q)) }
         ensures panes { OnOk result ((q : PaneValue) → is_some (acc_at self.new.entries q) ≡ (if is_pane pane q then true else is_some (acc_at self.old.entries q))) }
+        ensures words { OnOk result ((q : PaneValue) (x : ℕ) → HasWordsAt self.old q x → HasWordsAt self.new q x) }
         ensures err { OnErr result (self.new ≡ self.old) }
     {
         let at = push_place(&mut self.panes, &mut self.words, self.stride, pane)?;

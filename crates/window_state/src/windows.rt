@@ -32,12 +32,13 @@ use window_slices::{Spans, add_in_span, add_to_slice, pane_total, slices_in, spa
 const FEWEST_WINDOWS: i64 = 4;
 
 /// Behind every start of a window.
-const NOWHERE: i128 = 1 << 64;
+pub(crate) const NOWHERE: i128 = 1 << 64;
 
 /// The open windows of a window operator, and the panes by their starts. What stands in the panes of windows that begin
-/// before `from` is in `places`, and of those that begin later it is what their slices come to.
+/// before `from` is in `places`, and of those that begin later it is what their slices come to. `keys` are the secret
+/// numbers by which the keys of a new span's slices are hashed.
 pub(crate) struct Windows {
-    alloc: Global,
+    pub alloc: Global,
     keys: HashKeys,
     pub from: i128,
     pub places: Places,

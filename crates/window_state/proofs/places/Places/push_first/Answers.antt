@@ -1,6 +1,8 @@
-use Rattle.std.proofs.Common.{◌≡◌, ◌∙◌, ◌+◌, ◌++◌, ℤ, List, [], ◌∷◌, map, Some, true, cond, get_or, length, replicate, pos, sym, ap, subst, if◌then◌else◌}
+use Rattle.std.proofs.Common.{◌≡◌, ◌∙◌, ◌+◌, ◌++◌, ℤ, List, [], ◌∷◌, map, Some, true, cond, get_or, length, replicate, pos, sym, ap, subst, refl, if◌then◌else◌}
 use Rattle.std.specs.List.{All}
 use Rattle.std.specs.Option.{is_some, option_map}
+use Rattle.std.specs.Prelude.{slice_get}
+use Rattle.std.specs.Vec.{with_items}
 use Rattle.std.proofs.lemmas.List.{with_items_is}
 use Rattle.byte_fields.specs.Fields.{is_i64}
 use Rattle.plain_data.specs.Record.{Record}
@@ -9,10 +11,12 @@ use Rattle.plan_model.specs.Aggregates.{number_of, aggregate_of}
 use Rattle.aggregates.specs.Kinds.{AccData, IsAcc, kind_of}
 use Rattle.window_state.specs.Windows.{acc_at, total_at, is_pane}
 use Rattle.place_words.specs.Words.{stride, acc_in, entries_in, IsWritten}
+use Rattle.window_state.specs.declared.places.Places.TheInside.{Inside}
 use Rattle.window_state.specs.Places.{PlacesData, ArePlaces}
 use Rattle.window_state.proofs.Entries.{total_cond}
 use Rattle.window_state.proofs.Spread.{found-any, pushes_place}
 use Rattle.window_state.proofs.Placed.{kinds_of, few_words, one_sound, kept_pushed, on_err, some_cond}
+use Rattle.window_state.proofs.RecordsPlaced.{still_there, words_stay}
 use Rattle.window_state.proofs.places.Places.push_first.Goals as goal
 
 pub push_place-requires-clause-absent : goal.push_place-requires-clause-absent
@@ -115,3 +119,15 @@ returns-clause-panes c = λ q.
     ∙ ap is_some (writes.at q)
     ∙ some_cond (is_pane p q) (acc_in ks new (length ws)) (acc_at m q)
     ∙ ap (λ (v : PlacesData). if is_pane p q then true else is_some (acc_at v.entries q)) c.self.view_is
+
+pub returns-clause-words : goal.returns-clause-words
+returns-clause-words c = λ q x h.
+    let s = c.self.inside in
+    let t : Inside = record {
+      window = s.window;
+      stride = s.stride;
+      panes = c.push_place.new.panes;
+      words = with_items c.push_place.new.words c.write_first.new.words;
+    } in
+    words_stay s t c.args.self.now q x c.self.view_is refl
+    (λ i e. ap (λ l. slice_get l i) c.in_ok-at.ensures.panes ∙ still_there s.panes.keys (c.args.pane ∷ []) i q e) h
